@@ -1,0 +1,50 @@
+// The points of the line: the first 256 A points, the quarter turn, and the point with a label and a number.
+//
+// All coordinates are odd, and twice those of the paper. Label l has the A points turned clockwise l times: A 0, C 1, B 2,
+// D 3. A caller makes the table once by `table::a_points` and lends it to `point_of`, the only way to a point.
+pub mod table;
+
+ghost use mathlib.Core.Path.{_≡_};
+ghost use Prim.Native.Nat.{_<_};
+ghost use Rattle.points.specs.Points.{coordinates, aPoint};
+ghost use Rattle.points.specs.Turn.{turned, pointOf, Small};
+
+pub struct Point {
+    pub x: i32,
+    pub y: i32,
+}
+
+// The A point number w.
+pub fn a_point(t: &[i8; 512], w: usize) -> Point
+    requires { ⌜ (now t ≡ coordinates) × (w < 256) ⌝ }
+    ensures { λ r. ⌜ r ≡ aPoint w ⌝ }
+{
+    let x = t[w * 2];
+    let y = t[w * 2 + 1];
+    Point {
+        x: x as i32,
+        y: y as i32,
+    }
+}
+
+// A quarter turn clockwise: (x, y) goes to (y, -x).
+pub fn quarter_turn(p: Point) -> Point
+    requires { ⌜ Small p ⌝ }
+    ensures { λ r. ⌜ r ≡ turned p ⌝ }
+{
+    Point { x: p.y, y: -p.x }
+}
+
+// The point with label l and number w: A point w, turned clockwise l times.
+pub fn point_of(t: &[i8; 512], l: u32, w: usize) -> Point
+    requires { ⌜ (now t ≡ coordinates) × (w < 256) ⌝ }
+    ensures { λ r. ⌜ r ≡ pointOf l w ⌝ }
+{
+    let mut p = a_point(t, w);
+    let mut k = 0;
+    while k < l {
+        p = quarter_turn(p);
+        k += 1;
+    }
+    p
+}

@@ -1,0 +1,86 @@
+-- The outcomes of the two doors, one law each over plain values, in the order of the tests.
+use mathlib.Core.Path.{_≡_, refl, sym, ap, ap₂, subst, _∙_}
+use mathlib.Core.Bool.{Bool, true, false, cond}
+use mathlib.Core.List.{List, [], _∷_, _++_}
+use Prim.Native.Nat.{ℕ, _+_, _*_, _/_, _%_, _≤_, _<_}
+use native.Mathlib.Omega.{arith}
+use borrow.Author.Tests.{le-leb, lt-leb}
+use lib.Dec.{leb}
+use lib.IntN.{ℤ}
+use lib.ListN.{length, drop, set}
+use Rattle.points.specs.declared.Point.{Point}
+use Rattle.points.specs.Pair.{firstPoint, secondPoint}
+use Rattle.wei.specs.Word.{isWord, unpacked}
+use Rattle.wei.specs.Label.{turnOn}
+use Rattle.wei.specs.Symbol.{firstLabel}
+use Rattle.sender.specs.declared.Sender.{Sender}
+use Rattle.sender.specs.declared.Sent.{Sent}
+use Rattle.sender.specs.declared.Why.{Why}
+use Rattle.sender.specs.declared.Why.the-variants.{Done, BadWidth, BadWord, NoRoom, Closed}
+use Rattle.sender.specs.Send.{numberOf, sound, symbolFor, after, four, Given, fresh, shut, opening, sending, End, opened, called}
+use Rattle.sender.specs.Promise.{Opens, Sends}
+
+-- the turn is the first label
+pub turn-is : (s : Sender) (n : ℕ) → turnOn (s .turn) (unpacked (s .u) n .i2) (unpacked (s .u) n .i3) ≡ firstLabel (symbolFor s n)
+unfolding symbolFor
+turn-is s n = omega arith
+
+-- four stores are the first four places
+stored : (l : List ℤ) (a b c d : ℤ) → 4 ≤ length l → set (set (set (set l 0 a) 1 b) 2 c) 3 d ≡ a ∷ b ∷ c ∷ d ∷ drop 4 l
+stored [] a b c d h = absurd (omega arith)
+stored (w ∷ []) a b c d h = absurd (omega arith)
+stored (w ∷ x ∷ []) a b c d h = absurd (omega arith)
+stored (w ∷ x ∷ y ∷ []) a b c d h = absurd (omega arith)
+stored (w ∷ x ∷ y ∷ z ∷ l) a b c d h = refl
+
+-- ---- the opening
+
+opens : (u : ℕ) (r : Sent) (g : Given) → opening u ≡ g → numberOf (r .why) ≡ g .number → r .sender ≡ g .sender → Opens u r
+opens u r g e n s =
+    let t : r .sender ≡ opening u .sender = s ∙ ap (λ (x : Given). x .sender) (sym e) in
+    record { number = n ∙ ap (λ (x : Given). x .number) (sym e); sender = t; end = subst End (sym t) (opened u) }
+
+pub opens-done : (u : ℕ) → u ≤ 8 → Opens u (record { sender = fresh u; why = Done })
+unfolding opening
+opens-done u h = opens u _ (record { number = 0; sender = fresh u; output = [] }) (rw (le-leb u 8 h)) refl refl
+
+pub opens-wide : (u : ℕ) (s : Sender) → 8 < u → s ≡ shut → Opens u (record { sender = s; why = BadWidth })
+unfolding opening
+opens-wide u s h e = opens u _ (record { number = 1; sender = shut; output = [] }) (rw (lt-leb u 8 h)) refl e
+
+-- ---- sending a word
+
+module _ (s : Sender) (n : ℕ) (out : List ℤ) where
+  sends : (r : Sent) (o : List ℤ) (g : Given) → sending s n out ≡ g → numberOf (r .why) ≡ g .number → r .sender ≡ g .sender → o ≡ g .output → Sends s n out r o
+  sends r o g e a b c =
+      let t : r .sender ≡ sending s n out .sender = b ∙ ap (λ (x : Given). x .sender) (sym e) in
+      record {
+        number = a ∙ ap (λ (x : Given). x .number) (sym e);
+        sender = t;
+        output = c ∙ ap (λ (x : Given). x .output) (sym e);
+        again = λ z. subst End (sym t) (called z n out);
+      }
+
+  -- refused with number k: all as before
+  refused : (w : Why) (k : ℕ) (r : Sent) → numberOf w ≡ k → sending s n out ≡ record { number = k; sender = s; output = out } → r ≡ record { sender = s; why = w } → Sends s n out r out
+  refused w k r a e t = subst (λ (r : Sent). Sends s n out r out) (sym t) (sends (record { sender = s; why = w }) out (record { number = k; sender = s; output = out }) e a refl refl)
+
+  pub sends-closed : (r : Sent) → sound s ≡ false → r ≡ record { sender = s; why = Closed } → Sends s n out r out
+  unfolding sending
+  sends-closed r e t = refused Closed 9 r refl (rw e) t
+
+  pub sends-bad : (r : Sent) → sound s ≡ true → isWord (s .u) n ≡ false → r ≡ record { sender = s; why = BadWord } → Sends s n out r out
+  unfolding sending
+  sends-bad r e f t = refused BadWord 4 r refl (rw (e, f)) t
+
+  pub sends-short : (r : Sent) → sound s ≡ true → isWord (s .u) n ≡ true → length out < 4 → r ≡ record { sender = s; why = NoRoom } → Sends s n out r out
+  unfolding sending
+  sends-short r e f h t = refused NoRoom 8 r refl (rw (e, f, lt-leb 4 (length out) h)) t
+
+  pub sends-done : (p q : Point) (t : Sender) (o : List ℤ) → sound s ≡ true → isWord (s .u) n ≡ true → 4 ≤ length out → t ≡ after s n → p ≡ firstPoint (symbolFor s n) → q ≡ secondPoint (symbolFor s n) →
+      o ≡ set (set (set (set out 0 (p .x)) 1 (p .y)) 2 (q .x)) 3 (q .y) → Sends s n out (record { sender = t; why = Done }) o
+  unfolding sending four
+  sends-done p q t o e f h a b c d =
+      sends (record { sender = t; why = Done }) o (record { number = 0; sender = after s n; output = four (symbolFor s n) ++ drop 4 out })
+      (rw (e, f, le-leb 4 (length out) h)) refl a
+      (d ∙ stored out (p .x) (p .y) (q .x) (q .y) h ∙ ap₂ (λ (v w : Point). v .x ∷ v .y ∷ w .x ∷ w .y ∷ drop 4 out) b c)

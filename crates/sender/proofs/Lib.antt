@@ -1,0 +1,6 @@
+pub mod Sound
+pub mod Cases
+pub mod Exactly
+pub mod Settled
+pub mod Run
+pub mod Rows

@@ -1,0 +1,79 @@
+-- What the sender does, from 01, "Sender rules" and "Numbers given back".
+--   numberOf why        01's number of a reason
+--   sound s             s is open, with a width, a turn and a state in range; anything else is answered like a closed sender
+--   symbolFor s n       the symbol that the word n makes
+--   after s n           the sender after it
+--   four c              the coordinates of a symbol's two points
+--   Given               what a call gives: the number, the sender after it, the output after it
+--   opening u           what the opening gives (it is lent no output)
+--   sending s n out     what sending n into the output `out` gives
+--   End s               s is a state that the opening, or a call after it, gave
+use Prim.Native.Nat.{ℕ, _/_, _%_}
+use mathlib.Core.Bool.{Bool, true, false, cond, _&&_}
+use mathlib.Core.List.{List, [], _∷_, _++_}
+use lib.Dec.{leb, ltb}
+use lib.IntN.{ℤ}
+use lib.ListN.{length, drop}
+use Rattle.points.specs.Pair.{firstPoint, secondPoint}
+use Rattle.wei.specs.Word.{isWord, unpacked}
+use Rattle.wei.specs.State.{bitW4, nextState}
+use Rattle.wei.specs.Label.{turnOn}
+use Rattle.wei.specs.Symbol.{Symbol, firstLabel}
+use Rattle.sender.specs.declared.Sender.{Sender}
+use Rattle.sender.specs.declared.Why.{Why}
+use Rattle.sender.specs.declared.Why.the-variants.{Done, BadWidth, BadWord, NoRoom, Closed}
+
+abbrev pub numberOf : Why → ℕ
+numberOf Done = 0
+numberOf BadWidth = 1
+numberOf BadWord = 4
+numberOf NoRoom = 8
+numberOf Closed = 9
+
+abbrev pub sound : Sender → Bool
+sound s = s .live && (leb (s .u) 8 && (ltb (s .turn) 4 && ltb (s .state) 16))
+
+-- "The new q is the old q plus 2·I3 + I2, modulo 4"; "Turn q = 2·I3' + I2'"; "Parity Y0 is W4"
+unfoldable pub symbolFor : Sender → ℕ → Symbol
+symbolFor s n =
+    let p = unpacked (s .u) n in
+    let q = turnOn (s .turn) (p .i2) (p .i3) in
+    record { y0 = bitW4 (s .state); i1 = p .i1; i2 = q % 2; i3 = q / 2; w1 = p .w1; w2 = p .w2 }
+
+unfoldable pub after : Sender → ℕ → Sender
+after s n =
+    let c = symbolFor s n in
+    record { live = true; u = s .u; turn = firstLabel c; state = nextState (s .state) (c .i1) (c .i2) }
+
+unfoldable pub four : Symbol → List ℤ
+four c = firstPoint c .x ∷ firstPoint c .y ∷ secondPoint c .x ∷ secondPoint c .y ∷ []
+
+pub record Given : Type 0 where
+  pub number : ℕ
+  pub sender : Sender
+  pub output : List ℤ
+
+abbrev given : ℕ → Sender → List ℤ → Given
+given n s out = record { number = n; sender = s; output = out }
+
+abbrev pub fresh : ℕ → Sender
+fresh u = record { live = true; u = u; turn = 0; state = 0 }
+
+abbrev pub shut : Sender
+shut = record { live = false; u = 0; turn = 0; state = 0 }
+
+-- "u above 8 at an opening": 1, a closed end. "q starts at 0"; "The sender starts in state 0"
+unfoldable pub opening : ℕ → Given
+opening u = cond (leb u 8) (given 0 (fresh u) []) (given 1 shut [])
+
+-- "Sending one word: 9, 4, 8; success writes the first four places of the output"
+unfoldable pub sending : Sender → ℕ → List ℤ → Given
+sending s n out =
+    cond (sound s)
+    (cond (isWord (s .u) n) (cond (leb 4 (length out)) (given 0 (after s n) (four (symbolFor s n) ++ drop 4 out)) (given 8 s out)) (given 4 s out))
+    (given 9 s out)
+
+-- "An end is a state that an opening, or a call after it, gave"
+pub data End : Sender → Type 0 where
+  opened : (u : ℕ) → End (opening u .sender)
+  called : {s : Sender} → End s → (n : ℕ) (out : List ℤ) → End (sending s n out .sender)

@@ -1,0 +1,7 @@
+pub mod Finite
+pub mod Words
+pub mod States
+pub mod Labels
+pub mod Symbols
+pub mod Printed
+pub mod Rows

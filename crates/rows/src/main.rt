@@ -1,5 +1,6 @@
 // Runs the published rows and tables and prints each with what it should be and what it is. What should be is typed from 01 and
 // from the print of 000 with the one repair that 01 names.
+mod floats;
 mod labels;
 mod say;
 mod states;
@@ -10,4 +11,5 @@ fn main() {
     states::table_iv5();
     states::table_iv6();
     words::all();
+    floats::all();
 }

@@ -1,0 +1,10 @@
+pub mod Nearest
+pub mod Rounding
+pub mod Scaling
+pub mod Shifting
+pub mod Value
+pub mod Outcome
+pub mod Range
+pub mod Laws
+pub mod Settled
+pub mod Rows

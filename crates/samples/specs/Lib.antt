@@ -1,0 +1,4 @@
+pub mod Nearest
+pub mod Given
+pub mod Heard
+pub mod Rows

@@ -12,7 +12,7 @@ use Rattle.points.specs.declared.Point.{Point}
 use Rattle.points.specs.Pair.{firstPoint, secondPoint}
 use Rattle.wei.specs.Word.{isWord, unpacked}
 use Rattle.wei.specs.Label.{turnOn}
-use Rattle.wei.specs.Symbol.{firstLabel}
+use Rattle.wei.specs.Symbol.{firstLabel, symbolOf}
 use Rattle.sender.specs.declared.Sender.{Sender}
 use Rattle.sender.specs.declared.Sent.{Sent}
 use Rattle.sender.specs.declared.Why.{Why}
@@ -22,7 +22,7 @@ use Rattle.sender.specs.Promise.{Opens, Sends}
 
 -- the turn is the first label
 pub turn-is : (s : Sender) (n : ℕ) → turnOn (s .turn) (unpacked (s .u) n .i2) (unpacked (s .u) n .i3) ≡ firstLabel (symbolFor s n)
-unfolding symbolFor
+unfolding symbolOf
 turn-is s n = omega arith
 
 -- four stores are the first four places

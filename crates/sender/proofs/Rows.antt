@@ -11,7 +11,7 @@ use Rattle.points.specs.Pair.{firstPoint, secondPoint}
 use Rattle.wei.specs.Word.{unpacked}
 use Rattle.wei.specs.State.{nextState}
 use Rattle.wei.specs.Label.{secondLabel}
-use Rattle.wei.specs.Symbol.{lastLabel}
+use Rattle.wei.specs.Symbol.{lastLabel, symbolOf}
 use Rattle.sender.specs.declared.Sender.{Sender}
 use Rattle.sender.specs.Send.{symbolFor, after, four, fresh, sending}
 
@@ -48,5 +48,5 @@ wanted =
     ∷ []
 
 pub rows : given ≡ wanted
-unfolding given wanted sending symbolFor after four firstPoint secondPoint lastLabel pointOf aPoint coordinates unpacked nextState secondLabel
+unfolding given wanted sending symbolOf after four firstPoint secondPoint lastLabel pointOf aPoint coordinates unpacked nextState secondLabel
 rows = refl

@@ -11,9 +11,9 @@ use lib.ListN.{length, take, drop}
 use borrow.Author.Tests.{leb-true}
 use Rattle.wei.specs.Word.{unpacked}
 use Rattle.wei.specs.State.{bitW4, nextState}
-use Rattle.wei.specs.Symbol.{Symbol, firstLabel, Valid, Carries, AllowedFrom, ending}
+use Rattle.wei.specs.Symbol.{Symbol, firstLabel, Carries, AllowedFrom, ending, symbolOf, symbolsFrom}
 use Rattle.wei.proofs.Words.{parts-range}
-use Rattle.wei.proofs.Symbols.{ending-snoc, allowed-snoc}
+use Rattle.wei.proofs.Symbols.{ending-snoc, allowed-snoc, turnsTo, turns-snoc, symbols-snoc}
 use Rattle.sender.specs.declared.Sender.{Sender}
 use Rattle.sender.specs.declared.Sent.{Sent}
 use Rattle.sender.specs.Send.{numberOf, sound, symbolFor, after, four, fresh, opening, sending}
@@ -25,16 +25,7 @@ use Rattle.sender.proofs.Exactly.{Taken, done, refused-keeps, opened-wi
 
 -- ---- one symbol more
 
--- the turn after symbols
-abbrev turnAfter : ℕ → List Symbol → ℕ
-turnAfter q [] = q
-turnAfter q (c ∷ cs) = turnAfter (firstLabel c) cs
-
-turn-snoc : (q : ℕ) (cs : List Symbol) (c : Symbol) → turnAfter q (cs ++ (c ∷ [])) ≡ firstLabel c
-turn-snoc q [] c = refl
-turn-snoc q (d ∷ cs) c = turn-snoc (firstLabel d) cs c
-
-made-snoc : (u q : ℕ) (ns : List ℕ) (cs : List Symbol) (n : ℕ) (c : Symbol) → AllMade u q ns cs → Made u (turnAfter q cs) n c → AllMade u q (ns ++ (n ∷ [])) (cs ++ (c ∷ []))
+made-snoc : (u q : ℕ) (ns : List ℕ) (cs : List Symbol) (n : ℕ) (c : Symbol) → AllMade u q ns cs → Made u (turnsTo q cs) n c → AllMade u q (ns ++ (n ∷ [])) (cs ++ (c ∷ []))
 made-snoc u q [] [] n c a m = (m, tt)
 made-snoc u q [] (d ∷ cs) n c a m = absurd a
 made-snoc u q (k ∷ ns) [] n c a m = absurd a
@@ -45,11 +36,11 @@ coordinates-snoc [] c = append-nil (four c)
 coordinates-snoc (d ∷ cs) c = ap (λ (l : List ℤ). four d ++ l) (coordinates-snoc cs c) ∙ sym (append-assoc (four d) (coordinatesOf cs) (four c))
 
 symbol-made : (s : Sender) (n : ℕ) → Made (s .u) (s .turn) n (symbolFor s n)
-unfolding symbolFor
+unfolding symbolOf
 symbol-made s n = record { i1 = refl; turn = sym (turn-is s n); w1 = refl; w2 = refl }
 
 symbol-carries : (s : Sender) (n : ℕ) → Ranges s → Carries (s .u) (s .state) (nextState (s .state) (symbolFor s n .i1) (symbolFor s n .i2)) (symbolFor s n)
-unfolding symbolFor
+unfolding symbolOf
 symbol-carries s n r =
     let p = parts-range (s .u) n in
     record {
@@ -66,11 +57,12 @@ take-four c l = refl
 
 record Follows (u : ℕ) (ws : List ℕ) (ps : List ℤ) (s : Sender) : Type 0 where
   cs : List Symbol
+  are : cs ≡ symbolsFrom u 0 0 ws
   made : AllMade u 0 ws cs
   allowed : AllowedFrom u 0 cs
   written : ps ≡ coordinatesOf cs
   width : s .u ≡ u
-  turn : s .turn ≡ turnAfter 0 cs
+  turn : s .turn ≡ turnsTo 0 cs
   state : s .state ≡ ending 0 cs
 
 -- a sender that accepts a word follows the run with that word's symbol
@@ -79,7 +71,7 @@ unfolding after
 step u ws ps s n out f t =
     let c = symbolFor s n in
     let cs = f .cs in
-    let m : Made u (turnAfter 0 cs) n c = subst (λ (v : ℕ). Made v (turnAfter 0 cs) n c) (f .width) (subst (λ (q : ℕ). Made (s .u) q n c) (f .turn) (symbol-made s n)) in
+    let m : Made u (turnsTo 0 cs) n c = subst (λ (v : ℕ). Made v (turnsTo 0 cs) n c) (f .width) (subst (λ (q : ℕ). Made (s .u) q n c) (f .turn) (symbol-made s n)) in
     let k : Carries u (ending 0 cs) (nextState (ending 0 cs) (c .i1) (c .i2)) c =
     subst (λ (v : ℕ). Carries v (ending 0 cs) (nextState (ending 0 cs) (c .i1) (c .i2)) c) (f .width)
     (subst (λ (q : ℕ). Carries (s .u) q (nextState q (c .i1) (c .i2)) c) (f .state) (symbol-carries s n (ranges s (t .is-open)))) in
@@ -87,18 +79,22 @@ step u ws ps s n out f t =
     let w : take 4 (sending s n out .output) ≡ four c = ap (take 4) (t .output) ∙ take-four c (drop 4 out) in
     record {
       cs = cs ++ (c ∷ []);
+      are =
+          (λ i. f .are i ++ (symbolOf (f .width i) (f .state i) (f .turn i) n ∷ []))
+          ∙ ap (λ (l : List Symbol). symbolsFrom u 0 0 ws ++ (symbolOf u (ending 0 l) (turnsTo 0 l) n ∷ [])) (f .are) ∙ sym (symbols-snoc u 0 0 ws n);
       made = made-snoc u 0 ws cs n c (f .made) m;
       allowed = allowed-snoc u 0 cs c (f .allowed) k;
       written = ap₂ (λ (a b : List ℤ). a ++ b) (f .written) w ∙ sym (coordinates-snoc cs c);
       width = ap (λ (r : Sender). r .u) e ∙ f .width;
-      turn = ap (λ (r : Sender). r .turn) e ∙ sym (turn-snoc 0 cs c);
+      turn = ap (λ (r : Sender). r .turn) e ∙ sym (turns-snoc 0 cs c);
       state = ap (λ (r : Sender). r .state) e ∙ ap (λ (q : ℕ). nextState q (c .i1) (c .i2)) (f .state) ∙ sym (ending-snoc 0 cs c);
     }
 
 follows : (u : ℕ) (ws : List ℕ) (ps : List ℤ) (s : Sender) → Talk u ws ps s → Follows u ws ps s
+unfolding symbolsFrom
 follows u ws ps s (opens r p z) =
     subst (Follows u [] []) (sym (p .sender ∙ opened-with u (sym (p .number) ∙ z)))
-    (record { cs = []; made = tt; allowed = tt; written = refl; width = refl; turn = refl; state = refl })
+    (record { cs = []; are = refl; made = tt; allowed = tt; written = refl; width = refl; turn = refl; state = refl })
 follows u ws ps s (takes {ws = vs} {ps = qs} {s = t} k n out o r p z) =
     subst (λ (x : List ℤ). Follows u (vs ++ (n ∷ [])) (qs ++ take 4 x) (r .sender)) (sym (p .output))
     (subst (Follows u (vs ++ (n ∷ [])) (qs ++ take 4 (sending t n out .output))) (sym (p .sender))
@@ -107,4 +103,4 @@ follows u ws ps s (refuses {ws = vs} {ps = qs} {s = t} k n out o r p z) =
     subst (Follows u vs qs) (sym (p .sender ∙ refused-keeps t n out (λ e. z (p .number ∙ e)) .0)) (follows u vs qs t k)
 
 pub ran : (u : ℕ) (ws : List ℕ) (ps : List ℤ) (s : Sender) → Talk u ws ps s → Ran u ws ps
-ran u ws ps s t = let f = follows u ws ps s t in record { symbols = f .cs; made = f .made; allowed = f .allowed; written = f .written }
+ran u ws ps s t = let f = follows u ws ps s t in record { symbols = f .cs; are = f .are; made = f .made; allowed = f .allowed; written = f .written }

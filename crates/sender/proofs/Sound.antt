@@ -18,6 +18,7 @@ use Rattle.wei.specs.State.{nextState}
 use Rattle.wei.proofs.Finite.{and-left, and-right}
 use Rattle.wei.proofs.Words.{parts-range}
 use Rattle.wei.proofs.States.{next-below}
+use Rattle.wei.specs.Symbol.{symbolOf}
 use Rattle.sender.specs.declared.Sender.{Sender}
 use Rattle.sender.specs.Send.{sound, symbolFor, after, Given, fresh, opening, sending, End, opened, called}
 
@@ -55,7 +56,7 @@ sized u n p h e =
 -- ---- ends
 
 after-sound : (s : Sender) (n : ℕ) → Ranges s → sound (after s n) ≡ true
-unfolding after symbolFor
+unfolding after symbolOf
 after-sound s n r =
     ranged (after s n) refl
     (record { width = r .width; turn = omega arith; state = next-below (s .state) _ _ })

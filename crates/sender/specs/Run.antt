@@ -12,7 +12,7 @@ use lib.IntN.{ℤ}
 use lib.ListN.{take}
 use Rattle.wei.specs.Word.{unpacked}
 use Rattle.wei.specs.Label.{turnOn}
-use Rattle.wei.specs.Symbol.{Symbol, firstLabel, AllowedFrom}
+use Rattle.wei.specs.Symbol.{Symbol, firstLabel, AllowedFrom, symbolsFrom}
 use Rattle.sender.specs.declared.Sender.{Sender}
 use Rattle.sender.specs.declared.Sent.{Sent}
 use Rattle.sender.specs.Send.{numberOf, four}
@@ -43,6 +43,7 @@ pub data Talk (u : ℕ) : List ℕ → List ℤ → Sender → Type 0 where
 
 pub record Ran (u : ℕ) (ws : List ℕ) (ps : List ℤ) : Type 0 where
   pub symbols : List Symbol
+  pub are : symbols ≡ symbolsFrom u 0 0 ws
   pub made : AllMade u 0 ws symbols
   pub allowed : AllowedFrom u 0 symbols
   pub written : ps ≡ coordinatesOf symbols

@@ -8,17 +8,16 @@
 --   opening u           what the opening gives (it is lent no output)
 --   sending s n out     what sending n into the output `out` gives
 --   End s               s is a state that the opening, or a call after it, gave
-use Prim.Native.Nat.{ℕ, _/_, _%_}
+use Prim.Native.Nat.{ℕ}
 use mathlib.Core.Bool.{Bool, true, false, cond, _&&_}
 use mathlib.Core.List.{List, [], _∷_, _++_}
 use lib.Dec.{leb, ltb}
 use lib.IntN.{ℤ}
 use lib.ListN.{length, drop}
 use Rattle.points.specs.Pair.{firstPoint, secondPoint}
-use Rattle.wei.specs.Word.{isWord, unpacked}
-use Rattle.wei.specs.State.{bitW4, nextState}
-use Rattle.wei.specs.Label.{turnOn}
-use Rattle.wei.specs.Symbol.{Symbol, firstLabel}
+use Rattle.wei.specs.Word.{isWord}
+use Rattle.wei.specs.State.{nextState}
+use Rattle.wei.specs.Symbol.{Symbol, firstLabel, symbolOf}
 use Rattle.sender.specs.declared.Sender.{Sender}
 use Rattle.sender.specs.declared.Why.{Why}
 use Rattle.sender.specs.declared.Why.the-variants.{Done, BadWidth, BadWord, NoRoom, Closed}
@@ -33,12 +32,8 @@ numberOf Closed = 9
 abbrev pub sound : Sender → Bool
 sound s = s .live && (leb (s .u) 8 && (ltb (s .turn) 4 && ltb (s .state) 16))
 
--- "The new q is the old q plus 2·I3 + I2, modulo 4"; "Turn q = 2·I3' + I2'"; "Parity Y0 is W4"
-unfoldable pub symbolFor : Sender → ℕ → Symbol
-symbolFor s n =
-    let p = unpacked (s .u) n in
-    let q = turnOn (s .turn) (p .i2) (p .i3) in
-    record { y0 = bitW4 (s .state); i1 = p .i1; i2 = q % 2; i3 = q / 2; w1 = p .w1; w2 = p .w2 }
+abbrev pub symbolFor : Sender → ℕ → Symbol
+symbolFor s n = symbolOf (s .u) (s .state) (s .turn) n
 
 unfoldable pub after : Sender → ℕ → Sender
 after s n =

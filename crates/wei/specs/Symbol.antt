@@ -7,11 +7,14 @@
 --   Carries u s t c  c is valid and carries the state s to t
 --   AllowedFrom      symbols, the oldest first, that are allowed from a first state
 --   ending           the state after them
-use Prim.Native.Nat.{ℕ, _^_, _<_}
+--   symbolOf u s q n      the symbol that a sender makes of the word n in the state s after the turn q
+--   symbolsFrom u s q ns  the symbols that it makes of the words ns, the oldest first
+use Prim.Native.Nat.{ℕ, _/_, _%_, _^_, _<_}
 use mathlib.Core.Path.{_≡_}
 use mathlib.Core.List.{List, [], _∷_}
 use Rattle.wei.specs.State.{bitW4, nextState}
-use Rattle.wei.specs.Label.{turnOf, secondLabel}
+use Rattle.wei.specs.Word.{unpacked}
+use Rattle.wei.specs.Label.{turnOf, turnOn, secondLabel}
 
 pub record Symbol : Type 0 where
   pub y0 : ℕ
@@ -49,3 +52,16 @@ AllowedFrom u s (c ∷ cs) = Carries u s (nextState s (c .i1) (c .i2)) c × Allo
 abbrev pub ending : ℕ → List Symbol → ℕ
 ending s [] = s
 ending s (c ∷ cs) = ending (nextState s (c .i1) (c .i2)) cs
+
+-- "The new q is the old q plus 2·I3 + I2, modulo 4"; "Turn q = 2·I3' + I2'"; "Parity Y0 is W4"
+unfoldable pub symbolOf : ℕ → ℕ → ℕ → ℕ → Symbol
+symbolOf u s q n =
+    let p = unpacked u n in
+    let r = turnOn q (p .i2) (p .i3) in
+    record { y0 = bitW4 s; i1 = p .i1; i2 = r % 2; i3 = r / 2; w1 = p .w1; w2 = p .w2 }
+
+unfoldable pub symbolsFrom : ℕ → ℕ → ℕ → List ℕ → List Symbol
+symbolsFrom u s q [] = []
+symbolsFrom u s q (n ∷ ns) =
+    let c = symbolOf u s q n in
+    c ∷ symbolsFrom u (nextState s (c .i1) (c .i2)) (firstLabel c) ns

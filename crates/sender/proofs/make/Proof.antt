@@ -9,7 +9,7 @@ use Rattle.points.specs.Pair.{firstPoint, secondPoint}
 use Rattle.wei.specs.declared.word.Parts.{Parts}
 use Rattle.wei.specs.State.{nextState}
 use Rattle.wei.specs.Label.{turnOn, secondLabel}
-use Rattle.wei.specs.Symbol.{firstLabel, lastLabel}
+use Rattle.wei.specs.Symbol.{firstLabel, lastLabel, symbolOf}
 use Rattle.sender.specs.Send.{symbolFor, after}
 use Rattle.sender.proofs.Sound.{Ranges, ranges, Sized, sized}
 use Rattle.sender.proofs.Cases.{turn-is}
@@ -54,7 +54,7 @@ next-requires : tie.Need-next-requires
 next-requires c κs = let b = c .before .before .before .before .before .before .before .before .before in (range (b .before .before) .state, parts b .parts .i1-below, mask-lt (c .before .before .before .before .before .before .before .before .turn-on .result) 1)
 
 returns : tie.Need-returns
-unfolding after symbolFor firstPoint secondPoint lastLabel
+unfolding after symbolOf firstPoint secondPoint lastLabel
 returns c =
     let l = c .before .before .before .before .before .before .before in
     let t = l .before .before in

@@ -1,0 +1,82 @@
+-- 01's rows that concern the receiver's answer, and some where ties decide, as one table: what is heard, which words are final then,
+-- and the words of the answer. That each row holds is computed in proofs/Examples.
+--   gap h l w      the squared distance of the received point h from the point with label l and number w
+--   heard a b c d  a received symbol by its four coordinates
+--   Row            width, start, what is heard (the oldest first), the words spoken, the words of the answer
+--   Holds r        the row holds
+--   table          the rows
+--   HasLabels l m c   the two points of c have the labels l and m
+use mathlib.Core.Path.{_≡_}
+use mathlib.Core.List.{List, [], _∷_, reverse}
+use Prim.Native.Nat.{ℕ, _+_, _*_}
+use lib.IntN.{ℤ, pos, negℤ, natAbs, _-ℤ_, _*ℤ_}
+use lib.ListN.{replicate}
+use Rattle.trellis.specs.Measure.{Start, free, named, Two, pairs}
+use Rattle.trellis.specs.Pick.{bestOf}
+use Rattle.trellis.specs.Said.{spokenWords, answerWords}
+use Rattle.wei.specs.Symbol.{Symbol, firstLabel, lastLabel}
+use Rattle.points.specs.declared.Point.{Point}
+use Rattle.points.specs.Turn.{pointOf}
+
+-- "Point coordinate c stands at 128·c"
+unfoldable pub square : ℤ → ℤ → ℕ
+square r c = natAbs (r -ℤ (pos 128 *ℤ c)) * natAbs (r -ℤ (pos 128 *ℤ c))
+
+unfoldable pub gap : Point → ℕ → ℕ → ℕ
+unfolding square
+gap h l w = let p = pointOf l w in square (h .x) (p .x) + square (h .y) (p .y)
+
+abbrev pub heard : ℤ → ℤ → ℤ → ℤ → Two Point
+heard a b c d = record { first = record { x = a; y = b }; second = record { x = c; y = d } }
+
+pub record Row : Type 0 where
+  pub width : ℕ
+  pub start : Start
+  pub received : List (Two Point)
+  pub spoken : List ℕ
+  pub answer : List ℕ
+
+abbrev pub Holds : Row → Type 0
+Holds r =
+    (spokenWords (r .width) (pairs Point gap) (bestOf (r .width) gap) (r .start) (reverse (r .received)) ≡ r .spoken)
+    × (answerWords (r .width) (pairs Point gap) (bestOf (r .width) gap) (r .start) (reverse (r .received)) ≡ r .answer)
+
+-- all zeros; on the points (A, A) of number 0; at the corner of what can be heard
+abbrev pub zeros : Two Point
+zeros = heard (pos 0) (pos 0) (pos 0) (pos 0)
+
+abbrev pub onAA : Two Point
+onAA = heard (pos 128) (pos 128) (pos 128) (pos 128)
+
+abbrev pub corner : Two Point
+corner = heard (pos 8192) (pos 8192) (pos 8192) (pos 8192)
+
+-- on the point B of number 0, then on the point C of number 0
+abbrev pub halfway : Two Point
+halfway = heard (negℤ (pos 128)) (negℤ (pos 128)) (pos 128) (negℤ (pos 128))
+
+unfoldable pub table : List Row
+table =
+    -- "Received all zeros once, u 0, free start, finish: word 0"
+    (record { width = 0; start = free; received = zeros ∷ []; spoken = []; answer = 0 ∷ [] })
+    -- "(128,128,128,128) twice: .. none released, finish writes 0, 0"
+    ∷ (record { width = 0; start = free; received = onAA ∷ onAA ∷ []; spoken = []; answer = 0 ∷ 0 ∷ [] })
+    -- ties everywhere: the smaller states decide; the first is final after the third, free or named
+    ∷ (record { width = 0; start = free; received = zeros ∷ zeros ∷ []; spoken = []; answer = 0 ∷ 0 ∷ [] })
+    ∷ (record { width = 0; start = free; received = zeros ∷ zeros ∷ zeros ∷ []; spoken = 0 ∷ []; answer = 0 ∷ 0 ∷ 0 ∷ [] })
+    ∷ (record { width = 0; start = named 0; received = zeros ∷ zeros ∷ zeros ∷ []; spoken = 0 ∷ []; answer = 0 ∷ 0 ∷ 0 ∷ [] })
+    -- symbols agree before states meet
+    ∷ (record { width = 0; start = free; received = corner ∷ zeros ∷ []; spoken = 0 ∷ []; answer = 0 ∷ 0 ∷ [] })
+    -- a named start that cannot send what is heard: the nearer type has I3' = 1
+    ∷ (record { width = 0; start = named 5; received = onAA ∷ onAA ∷ []; spoken = []; answer = 6 ∷ 2 ∷ [] })
+    -- halfway between the two points B of width 1, which start 0 must take: the smaller number
+    ∷ (record { width = 1; start = named 0; received = halfway ∷ []; spoken = []; answer = 4 ∷ [] })
+    -- clean (A, A), free start: what is final after seven, eight and nine
+    ∷ (record { width = 0; start = free; received = replicate 7 onAA; spoken = replicate 1 0; answer = replicate 7 0 })
+    ∷ (record { width = 0; start = free; received = replicate 8 onAA; spoken = replicate 3 0; answer = replicate 8 0 })
+    ∷ (record { width = 0; start = free; received = replicate 9 onAA; spoken = replicate 5 0; answer = replicate 9 0 })
+    ∷ []
+
+-- (A, A) are the labels 0 and 0, (A, C) the labels 0 and 1
+abbrev pub HasLabels : ℕ → ℕ → Symbol → Type 0
+HasLabels l m c = (firstLabel c ≡ l) × (lastLabel c ≡ m)

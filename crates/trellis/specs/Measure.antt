@@ -1,0 +1,80 @@
+-- Wei's code as a `Code`, for any way to measure received symbols. What is heard, how far a symbol is from it and how ties fall
+-- are one record; the trellis is the rule of `wei` and stands here once.
+--   Start            a free start, or a named one
+--   mayStart b s     s may stand first
+--   GoodStart b      the start is free or names a state
+--   Measure          what is heard, the distance, and the order of ties
+--   First u M y c    c is the first of its subset for what was heard: by distance, then by the order of ties
+--   Near u M Good    what is good lies less than 2^30 from every symbol that can be sent
+--   weiCode u M b    the code of width u
+--   Two P            a received symbol: two received points
+--   Sooner c d       of symbols of a subset, c is before d or is d
+--   farOf P d y c    the sum of the distances of the two points
+--   pairs P d        01's measure, from the distance d of a received point from the point with a label and a number
+use mathlib.Core.Path.{_≡_}
+use Prim.Native.Nat.{ℕ, _+_, _^_, _≤_, _<_}
+use mathlib.Core.Bool.{Bool, true}
+use mathlib.Core.List.{[], _∷_}
+use lib.Dec.{eqb}
+use Rattle.trellis.specs.Lists.{LexLe}
+use Rattle.trellis.specs.Code.{Code}
+use Rattle.wei.specs.Symbol.{Symbol, firstLabel, lastLabel, Valid, Carries}
+
+pub data Start : Type 0 where
+  free : Start
+  named : ℕ → Start
+
+-- "With a free start any first state may stand; with a named start only that one"
+abbrev pub mayStart : Start → ℕ → Bool
+mayStart free s = true
+mayStart (named n) s = eqb s n
+
+-- 01 refuses a "named start above 15"
+abbrev pub GoodStart : Start → Type 0
+GoodStart free = Unit {0}
+GoodStart (named n) = n < 16
+
+pub record Measure : Type 1 where
+  pub Heard : Type 0
+  -- how far a symbol is from what was heard
+  pub far : Heard → Symbol → ℕ
+  -- ties y c d: of symbols equally far from y, c is before d or is d
+  pub ties : Heard → Symbol → Symbol → Type 0
+
+-- of all symbols of its subset, of both types, none is nearer, and of those as near it is the first
+pub record First (u : ℕ) (M : Measure) (y : M .Heard) (c : Symbol) : Type 0 where
+  pub valid : Valid u c
+  pub nearest : (d : Symbol) → Valid u d → d .y0 ≡ c .y0 → d .i1 ≡ c .i1 → d .i2 ≡ c .i2 → M .far y c ≤ M .far y d
+  pub soonest : (d : Symbol) → Valid u d → d .y0 ≡ c .y0 → d .i1 ≡ c .i1 → d .i2 ≡ c .i2 → M .far y c ≡ M .far y d → M .ties y c d
+
+-- "The squared distance of a 4D point from a received symbol stays below 2^30"
+abbrev pub Near : (u : ℕ) (M : Measure) → (M .Heard → Type 0) → Type 0
+Near u M Good = (y : M .Heard) (c : Symbol) → Good y → Valid u c → M .far y c < 2 ^ 30
+
+abbrev pub weiCode : ℕ → Measure → Start → Code
+weiCode u M b =
+    record {
+      Y = M .Heard;
+      C = Symbol;
+      N = 16;
+      start = mayStart b;
+      Branch = Carries u;
+      dist = M .far;
+      Cle = M .ties;
+    }
+
+-- "A received symbol is four coordinates: x, y of the first point, x, y of the second"
+pub record Two (P : Type 0) : Type 0 where
+  pub first : P
+  pub second : P
+
+-- "then, in each symbol, the smaller I3', then the smaller w1, then the smaller w2"
+abbrev pub Sooner : Symbol → Symbol → Type 0
+Sooner c d = LexLe (c .i3 ∷ c .w1 ∷ c .w2 ∷ []) (d .i3 ∷ d .w1 ∷ d .w2 ∷ [])
+
+module _ (P : Type 0) (d : P → ℕ → ℕ → ℕ) where
+  unfoldable pub farOf : Two P → Symbol → ℕ
+  farOf y c = d (y .first) (firstLabel c) (c .w1) + d (y .second) (lastLabel c) (c .w2)
+
+  abbrev pub pairs : Measure
+  pairs = record { Heard = Two P; far = farOf; ties = λ y c d. Sooner c d }

@@ -1,0 +1,8 @@
+-- for callers
+pub mod Laws
+-- for the functions of this crate
+pub mod Ints
+pub mod Distances
+pub mod Rows
+pub mod Keys
+pub mod Weighing

@@ -1,0 +1,51 @@
+-- What is found for a received point and for a received symbol, as rows by label and by subset. Which number is nearest and which
+-- symbol is best is said by the theory alone (`near`, `gapOf`, `typeSum`, `bestI3`): here it is only laid out.
+--   four f            f at the labels 0 to 3
+--   eight f           f at Y0, I1 and I2', in the order of the subset's number 4·Y0 + 2·I1 + I2'
+--   heardAs g h       the received symbol of two received points
+--   nearestOf u h     for each label the nearest number below 2^u, and its distance
+--   costOf u y        the distance of the best symbol of a subset
+--   weighedOf u y     for each subset that distance and the chosen I3'; for each label the nearest numbers
+--   symbolFrom        the symbol of a subset, read off the rows of I3' and of the numbers
+use Prim.Native.Nat.{ℕ}
+use mathlib.Core.List.{List, [], _∷_}
+use lib.ListN.{getD}
+use Rattle.wei.specs.Label.{turnOf, secondLabel}
+use Rattle.wei.specs.State.{subsetOf}
+use Rattle.wei.specs.Symbol.{Symbol}
+use Rattle.trellis.specs.Measure.{Two}
+use Rattle.trellis.specs.Pick.{near, gapOf, typeSum, bestI3}
+use Rattle.nearest.specs.declared.Received.{Received}
+use Rattle.nearest.specs.declared.Nearest.{Nearest}
+use Rattle.nearest.specs.declared.Weighed.{Weighed}
+use Rattle.nearest.specs.Line.{lineDistance}
+
+abbrev pub four : (ℕ → ℕ) → List ℕ
+four f = f 0 ∷ f 1 ∷ f 2 ∷ f 3 ∷ []
+
+abbrev pub eight : (ℕ → ℕ → ℕ → ℕ) → List ℕ
+eight f = f 0 0 0 ∷ f 0 0 1 ∷ f 0 1 0 ∷ f 0 1 1 ∷ f 1 0 0 ∷ f 1 0 1 ∷ f 1 1 0 ∷ f 1 1 1 ∷ []
+
+abbrev pub heardAs : Received → Received → Two Received
+heardAs g h = record { first = g; second = h }
+
+unfoldable pub nearestOf : ℕ → Received → Nearest
+nearestOf u h = record { w = four (near u lineDistance h); d = four (gapOf u lineDistance h) }
+
+unfoldable pub costOf : ℕ → Two Received → ℕ → ℕ → ℕ → ℕ
+costOf u y y0 i1 i2 = typeSum u lineDistance y y0 i1 i2 (bestI3 u lineDistance y y0 i1 i2)
+
+unfoldable pub weighedOf : ℕ → Two Received → Weighed
+weighedOf u y =
+    record {
+      costs = eight (costOf u y);
+      i3 = eight (bestI3 u lineDistance y);
+      w1 = four (near u lineDistance (y .first));
+      w2 = four (near u lineDistance (y .second));
+    }
+
+-- of i3, w1 and w2 of `Weighed`, and of Y0, I1 and I2'
+unfoldable pub symbolFrom : List ℕ → List ℕ → List ℕ → ℕ → ℕ → ℕ → Symbol
+symbolFrom i3s w1s w2s y0 i1 i2 =
+    let i3 = getD i3s (subsetOf y0 i1 i2) 0 in
+    record { y0 = y0; i1 = i1; i2 = i2; i3 = i3; w1 = getD w1s (turnOf i2 i3) 0; w2 = getD w2s (secondLabel (turnOf i2 i3) y0 i1) 0 }

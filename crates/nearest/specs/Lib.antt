@@ -1,0 +1,6 @@
+-- what must be believed
+pub mod Line
+pub mod Found
+-- how it is found
+pub mod Key
+pub mod Types

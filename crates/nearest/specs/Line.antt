@@ -1,0 +1,46 @@
+-- What is received, and how far it is from a point, from 01, "What the receiver hears".
+--   isCoordinate z       z is a received coordinate
+--   InRange h            both coordinates of the received point h are
+--   BothInRange y        both points of the received symbol y are in range
+--   difference r c       the signed difference of r from the point coordinate c
+--   square z             the square of a signed number
+--   distance h p         the squared distance of h from the point p
+--   lineDistance h l w   its squared distance from the point with label l and number w
+--   lineMeasure          01's measure: what is heard is two received points
+use Prim.Native.Nat.{ℕ, _+_, _*_, _≤_}
+use mathlib.Core.Bool.{Bool}
+use lib.Dec.{leb}
+use lib.IntN.{ℤ, pos, natAbs, _-ℤ_, _*ℤ_}
+use Rattle.points.specs.declared.Point.{Point}
+use Rattle.points.specs.Turn.{pointOf}
+use Rattle.trellis.specs.Measure.{Measure, Two, pairs}
+use Rattle.nearest.specs.declared.Received.{Received}
+
+-- "A received coordinate is a whole number from -8192 to 8192, both included"
+abbrev pub isCoordinate : ℤ → Bool
+isCoordinate z = leb (natAbs z) 8192
+
+pub record InRange (h : Received) : Type 0 where
+  pub x-in : natAbs (h .x) ≤ 8192
+  pub y-in : natAbs (h .y) ≤ 8192
+
+pub record BothInRange (y : Two Received) : Type 0 where
+  pub first-in : InRange (y .first)
+  pub second-in : InRange (y .second)
+
+-- "Point coordinate c stands at 128·c"
+abbrev pub difference : ℤ → ℤ → ℤ
+difference r c = r -ℤ pos 128 *ℤ c
+
+abbrev pub square : ℤ → ℕ
+square z = natAbs z * natAbs z
+
+unfoldable pub distance : Received → Point → ℕ
+distance h p = square (difference (h .x) (p .x)) + square (difference (h .y) (p .y))
+
+unfoldable pub lineDistance : Received → ℕ → ℕ → ℕ
+lineDistance h l w = distance h (pointOf l w)
+
+-- "A received symbol is four coordinates: x, y of the first point, x, y of the second"
+abbrev pub lineMeasure : Measure
+lineMeasure = pairs Received lineDistance

@@ -9,6 +9,11 @@ use lib.Seq.{getD-set-same, getD-set-other}
 use Rattle.trellis.specs.Ring.{Held, Sound, seen, view, push}
 
 module _ {X : Type 0} (d : X) where
+  pub seen-length : (ring : List X) (a k : ℕ) → length (seen d ring a k) ≡ k
+  unfolding seen
+  seen-length ring a zero = refl
+  seen-length ring a (suc k) = ap suc (seen-length ring ((a + 63) % 64) k)
+
   -- b is j slots before a
   seen-set : (ring : List X) (x : X) (a b j k : ℕ) → a < 64 → b ≡ (a + 64 - j) % 64 → j + k < 64 → seen d (set ring a x) b k ≡ seen d ring b k
   unfolding seen

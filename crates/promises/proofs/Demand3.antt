@@ -1,0 +1,48 @@
+-- DEMAND 3. "Spoken means final. However the list is cut into calls and whichever calls refuse, the words released so far begin the
+-- answer for the symbols taken, and for those symbols followed by any good ones whatever; after each symbol they reach exactly as far
+-- as the best sequences into every reachable state agree; joined with a finish that succeeds they are that answer whole."
+--
+-- `Talk u w b took ws rx` (specs/Talk) is any run of calls from an opening: symbols taken, words written. What the words are is said
+-- by `Longest` and `Answer` (trellis/specs/Best): the longest common beginning of the best sequences into every reachable state, and
+-- the allowed sequence with the least sum, ties by 01's order. Lists are in the order of time.
+--   exact     the words written reach exactly as far as the best sequences agree
+--   final     they begin the answer for the symbols taken followed by any others, and so the answer for those taken
+--   whole     with a finish that succeeds they are the answer whole
+use mathlib.Core.Path.{_≡_, subst, _∙_}
+use mathlib.Core.List.{List, _++_, reverse, IsPrefix}
+use Prim.Native.Nat.{ℕ}
+use Rattle.trellis.specs.Code.{Path, symbols}
+use Rattle.trellis.specs.Best.{Answer, Longest}
+use Rattle.trellis.specs.Measure.{Two, weiCode}
+use Rattle.trellis.specs.Pick.{bestOf}
+use Rattle.trellis.specs.Words.{words}
+use Rattle.trellis.specs.Said.{spokenWords}
+use Rattle.trellis.proofs.Pairs.{pairs-chooses}
+use Rattle.trellis.proofs.Spoken as spoken
+use Rattle.wei.specs.Symbol.{Symbol}
+use Rattle.nearest.specs.declared.Received.{Received}
+use Rattle.nearest.specs.Line.{lineDistance, lineMeasure}
+use Rattle.walk.specs.declared.Receiver.{Receiver}
+use Rattle.receiver.specs.declared.Start.{Start}
+use Rattle.receiver.specs.Given.{startOf}
+use Rattle.promises.specs.Talk.{Talk, Ended}
+use Rattle.promises.proofs.Follows.{Follows, follows, answers, start-of}
+
+module _ (u w : ℕ) (b : Start) (took : List (Two Received)) (ws : List ℕ) where
+  pub exact : (rx : Receiver) → Talk u w b took ws rx → (l : List Symbol) → Longest (weiCode u lineMeasure (startOf b)) (reverse took) l → ws ≡ words u l
+  exact rx k l h =
+      let f = follows u w b took ws rx k in
+      f .said ∙ spoken.spoken-longest u lineMeasure (bestOf u lineDistance) (pairs-chooses u lineDistance) (startOf b) (f .fine .good-start) took l h
+
+  pub final : (rx : Receiver) → Talk u w b took ws rx → (zs : List (Two Received)) (p : Path Symbol) → Answer (weiCode u lineMeasure (startOf b)) (reverse (took ++ zs)) p → IsPrefix ws (words u (symbols p))
+  final rx k zs p a =
+      let f = follows u w b took ws rx k in
+      let g = f .fine .good-start in
+      rw (f .said)
+      (subst (IsPrefix (spokenWords u lineMeasure (bestOf u lineDistance) (startOf b) (reverse took))) (spoken.answer-words u lineMeasure (bestOf u lineDistance) (pairs-chooses u lineDistance) (startOf b) g (took ++ zs) p a)
+      (spoken.spoken-answer u lineMeasure (bestOf u lineDistance) (pairs-chooses u lineDistance) (startOf b) g took zs))
+
+  pub whole : Ended u w b took ws → (p : Path Symbol) → Answer (weiCode u lineMeasure (startOf b)) (reverse took) p → ws ≡ words u (symbols p)
+  whole k p a =
+      answers u w b took ws k
+      ∙ spoken.answer-words u lineMeasure (bestOf u lineDistance) (pairs-chooses u lineDistance) (startOf b) (start-of u w b took ws k) took p a

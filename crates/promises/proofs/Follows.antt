@@ -1,0 +1,127 @@
+-- A run of calls follows what the receiver has been told: the words written are what is spoken of the symbols taken, and after a
+-- finish that succeeds the whole answer.
+--   Follows    the invariant of a run
+--   follows    every run keeps it
+--   answers    and a finish that succeeds completes the answer
+use mathlib.Core.Path.{_≡_, refl, sym, ap, ap₂, subst, _∙_}
+use mathlib.Core.Bool.{Bool, true, false, cond}
+use mathlib.Core.List.{List, [], _∷_, _++_, append-nil, reverse, reverse-append, reverse-reverse}
+use Prim.Native.Nat.{ℕ, _%_, _<_}
+use native.Mathlib.Omega.{arith}
+use lib.Dec.{eqb, ltb}
+use lib.IntN.{ℤ}
+use lib.ListN.{length, take, drop}
+use lib.Seq.{take-at}
+use Rattle.calls.specs.Calls.{Speaks, Ended as WalkEnded, walk, rest}
+use Rattle.calls.proofs.Steps.{walk-heard, walk-said}
+use Rattle.calls.proofs.Prefixes.{joined}
+use Rattle.trellis.specs.Measure.{Two, GoodStart}
+use Rattle.trellis.specs.Pick.{bestOf}
+use Rattle.trellis.proofs.Pairs.{pairs-chooses}
+use Rattle.trellis.proofs.Line.{wei-speaks}
+use Rattle.nearest.specs.declared.Received.{Received}
+use Rattle.nearest.specs.Line.{lineDistance, lineMeasure}
+use Rattle.walk.specs.declared.Receiver.{Receiver}
+use Rattle.walk.specs.Machine.{shut}
+use Rattle.walk.specs.Told.{Told, Reason, speakerOf, judgeOf, Fine, machineOf, givenOf, withHeard}
+use Rattle.receiver.specs.declared.Start.{Start}
+use Rattle.receiver.specs.declared.Answer.{Answer}
+use Rattle.receiver.specs.Given.{startOf}
+use Rattle.receiver.specs.Doors.{symbolsOf}
+use Rattle.receiver.specs.Meaning.{Owed, endedOf, pieceOwed, FinishOwed, finishOwed}
+use Rattle.receiver.specs.Promise.{Opens, Owes, Hears, EndOwes, Finishes}
+use Rattle.promises.specs.Talk.{Talk, opens, hears, refuses, Ended, ends}
+
+-- what the receiver has been told after the symbols `took`
+abbrev pub toldOf : ℕ → ℕ → Start → List (Two Received) → Told
+toldOf u w b took = record { u = u; window = w; start = startOf b; heard = reverse took }
+
+pub speaks : (t : Told) → Fine t → Speaks (speakerOf t)
+speaks t f = wei-speaks (t .u) lineMeasure (bestOf (t .u) lineDistance) (pairs-chooses (t .u) lineDistance) (t .start) (f .good-start)
+
+-- the words of a call are those at the front of the output
+front : (ws out o : List ℕ) (n : ℕ) → n ≡ length ws → o ≡ ws ++ drop (length ws) out → take n o ≡ ws
+front ws out o n e f = ap (take n) f ∙ take-at ws (drop (length ws) out) n (sym e)
+
+pub record Follows (u w : ℕ) (b : Start) (took : List (Two Received)) (ws : List ℕ) (rx : Receiver) : Type 0 where
+  pub fine : Fine (toldOf u w b took)
+  pub machine : rx ≡ machineOf (toldOf u w b took)
+  pub said : ws ≡ speakerOf (toldOf u w b took) .spoken (reverse took)
+
+-- nothing taken and nothing written
+idle : (u w : ℕ) (b : Start) (took : List (Two Received)) (ws : List ℕ) (rx s : Receiver) (zs : List (Two Received)) (o : List ℕ) (m n : ℕ) → Follows u w b took ws rx → m ≡ 0 → n ≡ 0 → s ≡ rx →
+    Follows u w b (took ++ take m zs) (ws ++ take n o) s
+idle u w b took ws rx s zs o m n f p q e =
+    let a : took ++ take m zs ≡ took = ap (λ (k : ℕ). took ++ take k zs) p ∙ append-nil took in
+    let d : ws ++ take n o ≡ ws = ap (λ (k : ℕ). ws ++ take k o) q ∙ append-nil ws in
+    rw (a, d, e) f
+
+module _ (u w : ℕ) (b : Start) (took : List (Two Received)) (ws : List ℕ) (rx : Receiver) (f : Follows u w b took ws rx) (out o : List ℕ) (r : Answer) where
+  abbrev t : Told
+  t = toldOf u w b took
+
+  -- a piece that goes symbol by symbol
+  walks : (zs : List (Two Received)) (e : WalkEnded (speakerOf t) (judgeOf t)) → walk (speakerOf t) (judgeOf t) (reverse took) zs (length out) ≡ e →
+      Owes (record { reason = e .why; taken = e .taken; words = e .said; told = withHeard t (e .heard) }) out r o → Follows u w b (took ++ take (r .taken) zs) (ws ++ take (r .written) o) (r .receiver)
+  walks zs e z k =
+      let h : reverse (e .heard) ≡ took ++ take (e .taken) zs =
+      ap (λ (x : WalkEnded (speakerOf t) (judgeOf t)). reverse (x .heard)) (sym z) ∙ walk-heard (speakerOf t) (judgeOf t) (reverse took) zs (length out)
+      ∙ ap₂ (λ (l : List (Two Received)) (x : WalkEnded (speakerOf t) (judgeOf t)). l ++ take (x .taken) zs) (reverse-reverse took) z in
+      let g : e .heard ≡ reverse (took ++ take (r .taken) zs) =
+      sym (reverse-reverse (e .heard)) ∙ ap reverse (h ∙ ap (λ (n : ℕ). took ++ take n zs) (sym (k .taken))) in
+      let s : speakerOf t .spoken (reverse took) ++ e .said ≡ speakerOf t .spoken (e .heard) =
+      ap (λ (x : WalkEnded (speakerOf t) (judgeOf t)). speakerOf t .spoken (reverse took) ++ x .said) (sym z) ∙ walk-said (speakerOf t) (speaks t (f .fine)) (judgeOf t) (reverse took) zs (length out)
+      ∙ ap (λ (x : WalkEnded (speakerOf t) (judgeOf t)). speakerOf t .spoken (x .heard)) z in
+      record {
+        fine = subst (λ (l : List (Two Received)). Fine (withHeard t l)) g (k .fine);
+        machine = k .receiver ∙ ap (λ (l : List (Two Received)). machineOf (withHeard t l)) g;
+        said = ap₂ (λ (x y : List ℕ). x ++ y) (f .said) (front (e .said) out o (r .written) (k .written) (k .output)) ∙ s ∙ ap (λ (l : List (Two Received)). speakerOf t .spoken l) g;
+      }
+
+  pub piece-follows : (xs : List ℤ) → Hears rx xs out r o → Follows u w b (took ++ take (r .taken) (symbolsOf xs)) (ws ++ take (r .written) o) (r .receiver)
+  unfolding pieceOwed
+  piece-follows xs h = go (eqb (length xs % 4) 0) (h .owed t (f .fine) (f .machine))
+    where
+      go : (c : Bool) → Owes (let e = endedOf t xs (length out) in cond c (record { reason = e .why; taken = e .taken; words = e .said; told = withHeard t (e .heard) }) (record { reason = record { number = 10; place = 0 }; taken = 0; words = []; told = t })) out r o →
+          Follows u w b (took ++ take (r .taken) (symbolsOf xs)) (ws ++ take (r .written) o) (r .receiver)
+      go true k = walks (symbolsOf xs) (endedOf t xs (length out)) refl k
+      go false k = idle u w b took ws rx (r .receiver) (symbolsOf xs) o (r .taken) (r .written) f (k .taken) (k .written) (k .receiver ∙ sym (f .machine))
+
+  -- a finish: refused, all as before; done, the answer whole
+  abbrev left : List ℕ
+  left = rest (speakerOf t) (reverse took)
+
+  pub finish-refused : Finishes rx out r o → (givenOf (r .why) .number ≡ 0 → ⊥) → Follows u w b took (ws ++ take (r .written) o) (r .receiver)
+  unfolding finishOwed
+  finish-refused h z = go (ltb (length out) (length left)) (h .owed t (f .fine) (f .machine))
+    where
+      go : (c : Bool) → EndOwes (cond c (record { reason = record { number = 8; place = 0 }; words = []; closes = false }) (record { reason = record { number = 0; place = 0 }; words = left; closes = true })) rx out r o →
+          Follows u w b took (ws ++ take (r .written) o) (r .receiver)
+      go true k = subst (λ (l : List (Two Received)). Follows u w b l (ws ++ take (r .written) o) (r .receiver)) (append-nil took) (idle u w b took ws rx (r .receiver) [] o 0 (r .written) f refl (k .written) (k .receiver))
+      go false k = absurd (z (ap (λ (x : Reason). x .number) (k .given)))
+
+  pub finish-answers : Finishes rx out r o → givenOf (r .why) .number ≡ 0 → ws ++ take (r .written) o ≡ speakerOf t .answered (reverse took)
+  unfolding finishOwed
+  finish-answers h z = go (ltb (length out) (length left)) (h .owed t (f .fine) (f .machine))
+    where
+      go : (c : Bool) → EndOwes (cond c (record { reason = record { number = 8; place = 0 }; words = []; closes = false }) (record { reason = record { number = 0; place = 0 }; words = left; closes = true })) rx out r o →
+          ws ++ take (r .written) o ≡ speakerOf t .answered (reverse took)
+      go true k = absurd (let n = ap (λ (x : Reason). x .number) (k .given) in omega arith)
+      go false k =
+          ap₂ (λ (x y : List ℕ). x ++ y) (f .said) (front left out o (r .written) (k .written) (k .output))
+          ∙ joined (speakerOf t .spoken (reverse took)) (speakerOf t .answered (reverse took)) (speaks t (f .fine) .within (reverse took))
+
+-- ---- whole runs
+
+pub follows : (u w : ℕ) (b : Start) (took : List (Two Received)) (ws : List ℕ) (rx : Receiver) → Talk u w b took ws rx → Follows u w b took ws rx
+follows u w b took ws rx (opens r p z) =
+    let k = p .fresh z in
+    record { fine = k .0; machine = k .1; said = sym (speaks (toldOf u w b []) (k .0) .starts) }
+follows u w b took ws rx (hears {took = l} {ws = vs} {rx = q} k xs out o r h) = piece-follows u w b l vs q (follows u w b l vs q k) out o r xs h
+follows u w b took ws rx (refuses {took = l} {ws = vs} {rx = q} k out o r h z) = finish-refused u w b l vs q (follows u w b l vs q k) out o r h z
+
+pub answers : (u w : ℕ) (b : Start) (took : List (Two Received)) (ws : List ℕ) → Ended u w b took ws → ws ≡ speakerOf (toldOf u w b took) .answered (reverse took)
+answers u w b took ws (ends {ws = vs} {rx = q} k out o r h z) = finish-answers u w b took vs q (follows u w b took vs q k) out o r h z
+
+pub start-of : (u w : ℕ) (b : Start) (took : List (Two Received)) (ws : List ℕ) → Ended u w b took ws → GoodStart (startOf b)
+start-of u w b took ws (ends {ws = vs} {rx = q} k out o r h z) = follows u w b took vs q k .fine .good-start

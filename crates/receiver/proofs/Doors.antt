@@ -1,0 +1,141 @@
+-- What the doors owe: from what the machine does to a record, what the promises say for whatever the receiver has been told.
+--   hears      a result that is the machine's keeps the promise of `hear`
+--   finishes   and that of `finish`
+use mathlib.Core.Path.{_≡_, refl, sym, ap, ap₂, subst, _∙_}
+use mathlib.Core.Bool.{Bool, true, false, cond}
+use mathlib.Core.List.{List, [], _++_}
+use Prim.Native.Nat.{ℕ, _+_, _%_, _<_, _≤_}
+use borrow.Author.Tests.{lt-ltb, le-ltb, eq-eqb, ne-eqb}
+use native.Mathlib.Nat.{sub-zero}
+use native.Mathlib.Omega.{arith}
+use lib.Dec.{eqb, ltb}
+use lib.IntN.{ℤ}
+use lib.ListN.{length, take, drop}
+use Rattle.calls.specs.Calls.{rest}
+use Rattle.trellis.specs.Words.{wordsFrom}
+use Rattle.walk.specs.declared.Receiver.{Receiver}
+use Rattle.walk.specs.declared.Why.the-variants.{Done, NoRoom, Closed, Uneven}
+use Rattle.walk.specs.Machine.{shut, endOf, lastWords, sound}
+use Rattle.walk.specs.Taken.{wayFrom}
+use Rattle.walk.specs.Told.{Told, Reason, reason, speakerOf, Fine, machineOf, givenOf, withHeard}
+use Rattle.walk.proofs.Owed.{machine-same, sound-told, last-told, rest-many}
+use Rattle.walk.proofs.Finish.{last-many, last-from}
+use Rattle.receiver.specs.declared.Answer.{Answer}
+use Rattle.receiver.specs.Doors.{symbolsOf, Ran, stopped, running, hearing, finishing, End, heard, finished}
+use Rattle.receiver.specs.Meaning.{Owed, endedOf, pieceOwed, FinishOwed, finishOwed}
+use Rattle.receiver.specs.Promise.{Is, Owes, Hears, EndOwes, Finishes}
+use Rattle.receiver.proofs.Pieces.{walked, RunsAs, runs}
+
+-- ---- a piece
+
+pub record OwedBy (h : Ran) (d : Owed) : Type 0 where
+  pub given : givenOf (h .why) ≡ d .reason
+  pub taken : h .taken ≡ d .taken
+  pub words : h .words ≡ d .words
+  pub fine : Fine (d .told)
+  pub receiver : h .receiver ≡ machineOf (d .told)
+
+pub hearing-owes : (t : Told) → Fine t → (xs : List ℤ) (room : ℕ) → OwedBy (hearing (machineOf t) xs room) (pieceOwed t xs room)
+unfolding hearing pieceOwed
+hearing-owes t f xs room = rw (sound-told t f) (go (eqb (length xs % 4) 0))
+  where
+    e : RunsAs t (endedOf t xs room) 0 [] (running (symbolsOf xs) (machineOf t) 0 [] room)
+    e =
+        subst (λ (m : ℕ). RunsAs t (walked t (t .heard) (symbolsOf xs) m) 0 [] (running (symbolsOf xs) (machineOf t) 0 [] room)) (sub-zero room)
+        (runs t (symbolsOf xs) (t .heard) f 0 [] room)
+
+    go : (b : Bool) → OwedBy (cond b (running (symbolsOf xs) (machineOf t) 0 [] room) (stopped (machineOf t) Uneven))
+        (let r = endedOf t xs room in cond b (record { reason = r .why; taken = r .taken; words = r .said; told = withHeard t (r .heard) }) (record { reason = reason 10; taken = 0; words = []; told = t }))
+    go true = record { given = e .given; taken = omega (arith, e .taken); words = e .words; fine = e .fine; receiver = e .receiver ∙ sym (machine-same t (endedOf t xs room .heard) (endedOf t xs room .heard)) }
+    go false = record { given = refl; taken = refl; words = refl; fine = f; receiver = refl }
+
+pub hears : (rx : Receiver) (xs : List ℤ) (out : List ℕ) (r : Answer) (o : List ℕ) → Is (hearing rx xs (length out)) out r o → Hears rx xs out r o
+hears rx xs out r o k =
+    record {
+      always = k;
+      owed = λ t f e.
+          let h = subst (λ (q : Receiver). Is (hearing q xs (length out)) out r o) e k in
+          let d = hearing-owes t f xs (length out) in
+          record {
+            given = h .given ∙ d .given;
+            taken = h .taken ∙ d .taken;
+            written = h .written ∙ ap length (d .words);
+            output = h .output ∙ ap (λ (ws : List ℕ). ws ++ drop (length ws) out) (d .words);
+            fine = d .fine;
+            receiver = h .receiver ∙ d .receiver;
+          };
+      again = λ e. subst End (sym (k .receiver)) (heard e xs (length out));
+    }
+
+-- ---- a finish
+
+pub record EndedBy (h : Ran) (rx : Receiver) (d : FinishOwed) : Type 0 where
+  pub given : givenOf (h .why) ≡ d .reason
+  pub taken : h .taken ≡ 0
+  pub words : h .words ≡ d .words
+  pub receiver : h .receiver ≡ cond (d .closes) shut rx
+
+finishing-by : (rx : Receiver) (room n : ℕ) (ws : List ℕ) → sound rx ≡ true → rx .core .pending ≡ n → lastWords rx ≡ ws →
+    finishing rx room ≡ cond (ltb room n) (stopped rx NoRoom) (record { receiver = shut; taken = 0; words = ws; why = Done })
+unfolding finishing
+finishing-by rx room n ws a b c = cc
+
+finishing-owes : (t : Told) → Fine t → (room : ℕ) → EndedBy (finishing (machineOf t) room) (machineOf t) (finishOwed t room)
+unfolding finishOwed
+finishing-owes t f room = subst (λ (h : Ran). EndedBy h (machineOf t) (finishOwed t room)) (sym (finishing-by (machineOf t) room (length ws) ws (sound-told t f) (sym (rest-many t f)) (last-told t f))) (go (ltb room (length ws)))
+  where
+    ws : List ℕ
+    ws = rest (speakerOf t) (t .heard)
+
+    go : (b : Bool) → EndedBy (cond b (stopped (machineOf t) NoRoom) (record { receiver = shut; taken = 0; words = ws; why = Done })) (machineOf t)
+        (cond b (record { reason = reason 8; words = []; closes = false }) (record { reason = reason 0; words = ws; closes = true }))
+    go true = record { given = refl; taken = refl; words = refl; receiver = refl }
+    go false = record { given = refl; taken = refl; words = refl; receiver = refl }
+
+pub finishes : (rx : Receiver) (out : List ℕ) (r : Answer) (o : List ℕ) → Is (finishing rx (length out)) out r o → Finishes rx out r o
+finishes rx out r o k =
+    record {
+      always = k;
+      owed = λ t f e.
+          let h = subst (λ (q : Receiver). Is (finishing q (length out)) out r o) e k in
+          let d = finishing-owes t f (length out) in
+          record {
+            given = h .given ∙ d .given;
+            taken = h .taken ∙ d .taken;
+            written = h .written ∙ ap length (d .words);
+            output = h .output ∙ ap (λ (ws : List ℕ). ws ++ drop (length ws) out) (d .words);
+            receiver = h .receiver ∙ d .receiver ∙ ap (cond (finishOwed t (length out) .closes) shut) (sym e);
+          };
+      again = λ e. subst End (sym (k .receiver)) (finished e (length out));
+    }
+
+-- ---- the machine's answers, as the code gives them
+
+module _ (rx : Receiver) (out : List ℕ) where
+  pub finish-closed : sound rx ≡ false → Is (finishing rx (length out)) out (record { receiver = rx; taken = 0; written = 0; why = Closed }) out
+  unfolding finishing
+  finish-closed e = rw e (record { receiver = refl; taken = refl; written = refl; given = refl; output = refl })
+
+  pub finish-full : sound rx ≡ true → length out < rx .core .pending → Is (finishing rx (length out)) out (record { receiver = rx; taken = 0; written = 0; why = NoRoom }) out
+  unfolding finishing
+  finish-full e h = rw (e, lt-ltb (length out) (rx .core .pending) h) (record { receiver = refl; taken = refl; written = refl; given = refl; output = refl })
+
+  pub finish-done : sound rx ≡ true → rx .core .pending ≤ length out → (s : ℕ) → s ≡ endOf (rx .sums) → (o : List ℕ) →
+      o ≡ wordsFrom (rx .core .u) (rx .core .turn) (take (rx .core .pending) (wayFrom (rx .core) (rx .steps) (rx .picks) s)) ++ drop (rx .core .pending) out →
+      Is (finishing rx (length out)) out (record { receiver = shut; taken = 0; written = rx .core .pending; why = Done }) o
+  unfolding finishing
+  finish-done e h s k o w =
+      let z : o ≡ lastWords rx ++ drop (length (lastWords rx)) out = w ∙ ap₂ (λ (ws : List ℕ) (n : ℕ). ws ++ drop n out) (last-from rx s k) (sym (last-many rx)) in
+      rw (e, le-ltb (length out) (rx .core .pending) h) (record { receiver = refl; taken = refl; written = sym (last-many rx); given = refl; output = z })
+
+  pub hear-closed : (xs : List ℤ) → sound rx ≡ false → Is (hearing rx xs (length out)) out (record { receiver = rx; taken = 0; written = 0; why = Closed }) out
+  unfolding hearing
+  hear-closed xs e = rw e (record { receiver = refl; taken = refl; written = refl; given = refl; output = refl })
+
+  pub hear-uneven : (xs : List ℤ) → sound rx ≡ true → (length xs % 4 ≡ 0 → ⊥) → Is (hearing rx xs (length out)) out (record { receiver = rx; taken = 0; written = 0; why = Uneven }) out
+  unfolding hearing
+  hear-uneven xs e n = rw (e, ne-eqb (length xs % 4) 0 n) (record { receiver = refl; taken = refl; written = refl; given = refl; output = refl })
+
+  pub hear-is : (xs : List ℤ) → sound rx ≡ true → length xs % 4 ≡ 0 → (r : Answer) (o : List ℕ) → Is (running (symbolsOf xs) rx 0 [] (length out)) out r o → Is (hearing rx xs (length out)) out r o
+  unfolding hearing
+  hear-is xs e z r o is = rw (e, eq-eqb (length xs % 4) 0 z) is

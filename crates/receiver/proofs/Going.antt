@@ -1,0 +1,150 @@
+-- A piece under way: where the loop stands after some symbols, one turn of it, and its two ends.
+--   Going     what was taken and written so far leads to the same end as the whole piece
+--   start, go-on, stop, end, of-whole
+use mathlib.Core.Path.{_≡_, refl, sym, ap, subst, _∙_}
+use mathlib.Core.Bool.{Bool, true, false, cond}
+use mathlib.Core.List.{List, [], _∷_, _++_, append-nil}
+use Prim.Native.Nat.{ℕ, suc, _+_, _-_, _%_, _<_, _≤_}
+use native.Mathlib.Nat.{add-zero}
+use native.Mathlib.Numerals.{add-one, add-two, add-three, add-four}
+use native.Mathlib.Omega.{arith}
+use lib.IntN.{ℤ, pos}
+use lib.ListN.{getD, length, take, drop, length-drop, take-append-drop, drop-of-length-le}
+use lib.Seq.{length-take-le, drop-cons}
+use Rattle.trellis.specs.Measure.{Two}
+use Rattle.nearest.specs.declared.Received.{Received}
+use Rattle.walk.specs.declared.Core.{Core}
+use Rattle.walk.specs.declared.Receiver.{Receiver}
+use Rattle.walk.specs.declared.Took.{Took}
+use Rattle.walk.specs.declared.Why.{Why}
+use Rattle.walk.specs.declared.Why.the-variants.{Done}
+use Rattle.walk.specs.Machine.{Outcome, sound}
+use Rattle.walk.specs.Told.{reason, givenOf}
+use Rattle.receiver.specs.declared.Answer.{Answer}
+use Rattle.receiver.specs.Doors.{symbolFrom, symbolsOf, symbolAt, Ran, isDone, running}
+use Rattle.receiver.specs.Promise.{Is}
+use Rattle.walk.specs.Taken.{whole, TookIs}
+use Rattle.receiver.proofs.Kept.{symbol-refused, symbol-sound, open-whole, done-given}
+use Rattle.receiver.proofs.Lent.{part, back-is, front, lent-fits, back-take, back-drop, back-length}
+
+pub record Going (xs : List ℤ) (out₀ : List ℕ) (rx₀ : Receiver) (out : List ℕ) (rx : Receiver) (taken written : ℕ) (why : Why) (i : ℕ) : Type 0 where
+  pub even : length xs % 4 ≡ 0
+  pub aligned : i % 4 ≡ 0
+  pub within : i ≤ length xs
+  pub count : taken ≤ i
+  pub room : written ≤ length out₀
+  pub long : length out ≡ length out₀
+  pub fit : sound rx ≡ true
+  pub going : givenOf why ≡ reason 0
+  pub rest : drop written out ≡ drop written out₀
+  pub same : running (symbolsOf xs) rx₀ 0 [] (length out₀) ≡ running (symbolsOf (drop i xs)) rx taken (take written out) (length out₀)
+
+-- four coordinates from the place i on
+four : (xs : List ℤ) (i : ℕ) → i + 4 ≤ length xs →
+    drop i xs ≡ getD xs i (pos 0) ∷ getD xs (i + 1) (pos 0) ∷ getD xs (i + 2) (pos 0) ∷ getD xs (i + 3) (pos 0) ∷ drop (i + 4) xs
+four xs i h =
+    drop-cons xs i (pos 0) (omega arith)
+    ∙ rw (drop-cons xs (suc i) (pos 0) (omega arith), drop-cons xs (suc (suc i)) (pos 0) (omega arith), drop-cons xs (suc (suc (suc i))) (pos 0) (omega arith), add-one, add-two, add-three, add-four)
+
+-- one symbol of a run
+module _ (y : Two Received) (zs : List (Two Received)) (rx : Receiver) (n : ℕ) (ws : List ℕ) (room : ℕ) (o : Outcome) (e : symbolAt rx y (room - length ws) ≡ o) where
+  abbrev onward : Outcome → Ran
+  onward o = cond (isDone (o .why)) (running zs (o .receiver) (n + 1) (ws ++ o .words) room) (record { receiver = rx; taken = n; words = ws; why = o .why })
+
+  once : running (y ∷ zs) rx n ws room ≡ onward o
+  unfolding running
+  once = ap onward e
+
+  run-on : isDone (o .why) ≡ true → running (y ∷ zs) rx n ws room ≡ running zs (o .receiver) (n + 1) (ws ++ o .words) room
+  run-on d = once ∙ rw d
+
+  run-stop : isDone (o .why) ≡ false → running (y ∷ zs) rx n ws room ≡ record { receiver = rx; taken = n; words = ws; why = o .why }
+  run-stop d = once ∙ rw d
+
+-- ---- a turn of the loop
+
+module _ (xs : List ℤ) (out₀ : List ℕ) (rx₀ : Receiver) (out : List ℕ) (rx : Receiver) (taken w : ℕ) (why : Why) (i : ℕ) (g : Going xs out₀ rx₀ out rx taken w why i) (more : i < length xs)
+    (x0 x1 x2 x3 : ℤ) (e0 : x0 ≡ getD xs i (pos 0)) (e1 : x1 ≡ getD xs (i + 1) (pos 0)) (e2 : x2 ≡ getD xs (i + 2) (pos 0)) (e3 : x3 ≡ getD xs (i + 3) (pos 0))
+    (r : Took) (sums steps picks ys : List ℕ)
+    (is : TookIs (symbolAt rx (symbolFrom x0 x1 x2 x3) (length (take (length out - w) (drop w out)))) r sums steps picks (take (length out - w) (drop w out)) ys)
+    (kept : length ys ≡ length (take (length out - w) (drop w out))) where
+  abbrev y : Two Received
+  y = symbolFrom x0 x1 x2 x3
+
+  abbrev left : ℕ
+  left = length (take (length out - w) (drop w out))
+
+  abbrev o : Outcome
+  o = symbolAt rx y left
+
+  here : symbolAt rx y (length out₀ - length (take w out)) ≡ o
+  here =
+      let a : length (take w out) ≡ w = length-take-le w out (omega arith) in
+      let b : left ≡ length out₀ - length (take w out) = rw (part out out₀ (o .words) ys w (g .long) (g .room) (g .rest) (is .out) kept, length-drop, a) in
+      ap (symbolAt rx y) (sym b)
+
+  symbols-are : symbolsOf (drop i xs) ≡ y ∷ symbolsOf (drop (i + 4) xs)
+  symbols-are = ap symbolsOf (four xs i (omega arith)) ∙ rw (← e0, ← e1, ← e2, ← e3)
+
+  pub more-fits : w + r .written ≤ length out₀
+  more-fits = rw (is .written) (lent-fits out out₀ (o .words) ys w (g .long) (g .room) (g .rest) (is .out) kept)
+
+  pub more-length : length (take w out ++ (ys ++ drop (length out - w) (drop w out))) ≡ length out₀
+  more-length = back-length out out₀ (o .words) ys w (g .long) (g .room) (g .rest) (is .out) kept
+
+  pub go-on : isDone (r .why) ≡ true → Going xs out₀ rx₀ (take w out ++ (ys ++ drop (length out - w) (drop w out))) (whole (r .core) sums steps picks) (taken + 1) (w + r .written) (r .why) (i + 4)
+  go-on done =
+      record {
+        even = g .even;
+        aligned = omega (arith, g .aligned);
+        within = omega (arith, g .even, g .aligned, g .within);
+        count = omega (arith, g .count);
+        room = more-fits;
+        long = more-length;
+        going = done-given (r .why) done;
+        fit = ap sound (is .receiver) ∙ symbol-sound rx (g .fit) y left;
+        rest = rw (is .written) (back-drop out out₀ (o .words) ys w (g .long) (g .room) (g .rest) (is .out) kept);
+        same =
+            g .same ∙ ap (λ (zs : List (Two Received)). running zs rx taken (take w out) (length out₀)) symbols-are
+            ∙ run-on y (symbolsOf (drop (i + 4) xs)) rx taken (take w out) (length out₀) o here (ap isDone (sym (is .why)) ∙ done)
+            ∙ rw (is .written, back-take out out₀ (o .words) ys w (g .long) (g .room) (g .rest) (is .out) kept, is .receiver);
+      }
+
+  pub stop : isDone (r .why) ≡ false → Is (running (symbolsOf xs) rx₀ 0 [] (length out₀)) out₀ (record { receiver = whole (r .core) sums steps picks; taken = taken; written = w + r .written; why = r .why })
+      (take w out ++ (ys ++ drop (length out - w) (drop w out)))
+  stop no-more =
+      let d : isDone (o .why) ≡ false = ap isDone (sym (is .why)) ∙ no-more in
+      let k = symbol-refused rx y left d in
+      let l : length (take w out) ≡ w = length-take-le w out (omega (arith, g .room, g .long)) in
+      let n : r .written ≡ 0 = is .written ∙ ap length (k .0) in
+      let ran : running (symbolsOf xs) rx₀ 0 [] (length out₀) ≡ record { receiver = rx; taken = taken; words = take w out; why = o .why } =
+      g .same ∙ ap (λ (zs : List (Two Received)). running zs rx taken (take w out) (length out₀)) symbols-are
+      ∙ run-stop y (symbolsOf (drop (i + 4) xs)) rx taken (take w out) (length out₀) o here d in
+      rw ran
+      (record {
+        receiver = is .receiver ∙ k .1;
+        taken = refl;
+        written = omega (arith, l, n);
+        given = ap givenOf (is .why);
+        output = back-is out out₀ (o .words) ys w (g .long) (g .room) (g .rest) (is .out) kept ∙ rw (k .0, append-nil, l, add-zero);
+      })
+
+-- ---- before the first symbol, and after the last
+
+module _ (xs : List ℤ) (out : List ℕ) (rx : Receiver) where
+  pub start : length xs % 4 ≡ 0 → sound rx ≡ true → Going xs out rx out rx 0 0 Done 0
+  start even fit = record { even = even; aligned = refl; within = omega arith; count = omega arith; room = omega arith; long = refl; fit = fit; going = refl; rest = refl; same = refl }
+
+  pub end : (out′ : List ℕ) (rx′ : Receiver) (taken w : ℕ) (why : Why) (i : ℕ) → Going xs out rx out′ rx′ taken w why i → length xs ≤ i →
+      Is (running (symbolsOf xs) rx 0 [] (length out)) out (record { receiver = rx′; taken = taken; written = w; why = why }) out′
+  unfolding running
+  end out′ rx′ taken w why i g past =
+      let l : length (take w out′) ≡ w = length-take-le w out′ (omega (arith, g .room, g .long)) in
+      let ran : running (symbolsOf xs) rx 0 [] (length out) ≡ record { receiver = rx′; taken = taken; words = take w out′; why = Done } =
+      g .same ∙ ap (λ (zs : List ℤ). running (symbolsOf zs) rx′ taken (take w out′) (length out)) (drop-of-length-le xs {i = i} past) in
+      rw ran (record { receiver = refl; taken = refl; written = sym l; given = g .going; output = rw (l, ← g .rest) (sym (take-append-drop w out′)) })
+
+-- the receiver put together again
+pub of-whole : (rx : Receiver) → sound rx ≡ true → (xs : List ℤ) (out : List ℕ) (r : Answer) (o : List ℕ) →
+    Is (running (symbolsOf xs) (whole (rx .core) (rx .sums) (rx .steps) (rx .picks)) 0 [] (length out)) out r o → Is (running (symbolsOf xs) rx 0 [] (length out)) out r o
+of-whole rx f xs out r o is = subst (λ (q : Receiver). Is (running (symbolsOf xs) q 0 [] (length out)) out r o) (open-whole rx f) is

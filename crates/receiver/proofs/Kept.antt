@@ -1,0 +1,99 @@
+-- What one symbol leaves: refused, nothing written and the receiver as it was; taken, a receiver that is sound again.
+--   symbol-refused   a refused symbol leaves all as it was
+--   symbol-sound     a receiver stays sound
+--   open-whole       an open receiver is what its parts make
+--   done-given       only one reason has the number 0
+use mathlib.Core.Path.{_≡_, refl, sym, ap, subst, _∙_}
+use mathlib.Core.Bool.{Bool, true, false, cond}
+use mathlib.Core.List.{List, []}
+use Prim.Native.Nat.{ℕ, _<_, _≤_}
+use native.Mathlib.Omega.{arith}
+use borrow.Author.Tests.{eqb-true, ltb-false, lt-ltb, le-ltb}
+use lib.Dec.{T, eqb, ltb}
+use lib.ListN.{length}
+use Rattle.trellis.specs.Measure.{Two}
+use Rattle.nearest.specs.declared.Received.{Received}
+use Rattle.nearest.specs.Line.{BothInRange}
+use Rattle.walk.specs.declared.Core.{Core}
+use Rattle.walk.specs.declared.Receiver.{Receiver}
+use Rattle.walk.specs.declared.Took.{Took}
+use Rattle.walk.specs.declared.Why.{Why}
+use Rattle.walk.specs.declared.Why.the-variants.{Done, BadWidth, BadWindow, BadStart, BadSample, Full, TooMany, NoRoom, Closed, Uneven}
+use Rattle.walk.specs.Machine.{Outcome, taking, agreedOf, keptOf, sound}
+use Rattle.walk.specs.Taken.{whole, TookIs}
+use Rattle.walk.specs.Told.{reason, givenOf, faultOf}
+use Rattle.walk.proofs.Sound.{sound-live, grown-sound}
+use Rattle.receiver.specs.Doors.{symbolAt, isDone}
+use Rattle.receiver.proofs.Symbols.{no-fault}
+
+-- either of two outcomes
+either : (P : Outcome → Type 0) (b : Bool) (x y : Outcome) → (b ≡ true → P x) → (b ≡ false → P y) → P (cond b x y)
+either P true x y f g = f refl
+either P false x y f g = g refl
+
+module _ (rx : Receiver) (y : Two Received) (room : ℕ) where
+  abbrev Left : Outcome → Type 0
+  Left o = isDone (o .why) ≡ false → (o .words ≡ []) × (o .receiver ≡ rx)
+
+  pub symbol-refused : Left (symbolAt rx y room)
+  unfolding symbolAt taking
+  symbol-refused =
+      either Left (ltb (faultOf y) 4) _ _ (λ _ d. (refl, refl))
+      (λ _. either Left (eqb (rx .core .taken) 4294967295) _ _ (λ _ d. (refl, refl))
+      (λ _. either Left (ltb (rx .core .window) (keptOf rx y)) _ _ (λ _ d. (refl, refl))
+      (λ _. either Left (ltb room (agreedOf rx y)) _ _ (λ _ d. (refl, refl)) (λ _ d. absurd (subst T d tt)))))
+
+module _ (rx : Receiver) (f : sound rx ≡ true) (y : Two Received) (room : ℕ) where
+  abbrev Fit : Outcome → Type 0
+  Fit o = sound (o .receiver) ≡ true
+
+  pub symbol-sound : Fit (symbolAt rx y room)
+  unfolding symbolAt taking
+  symbol-sound =
+      either Fit (ltb (faultOf y) 4) _ _ (λ _. f)
+      (λ a. either Fit (eqb (rx .core .taken) 4294967295) _ _ (λ _. f)
+      (λ _. either Fit (ltb (rx .core .window) (keptOf rx y)) _ _ (λ _. f)
+      (λ c. either Fit (ltb room (agreedOf rx y)) _ _ (λ _. f) (λ _. grown-sound rx y f (no-fault y a) (ltb-false (rx .core .window) (keptOf rx y) c)))))
+
+-- an open receiver is what its parts make
+pub open-whole : (rx : Receiver) → sound rx ≡ true → whole (rx .core) (rx .sums) (rx .steps) (rx .picks) ≡ rx
+open-whole rx f = ap (λ (b : Bool). record { live = b; core = rx .core; sums = rx .sums; steps = rx .steps; picks = rx .picks }) (sym (sound-live rx f))
+
+-- a call that stops at a refusal takes nothing else for done
+pub done-given : (w : Why) → isDone w ≡ true → givenOf w ≡ reason 0
+done-given w e = go w (eqb-true (givenOf w .number) 0 e)
+  where
+    go : (w : Why) → givenOf w .number ≡ 0 → givenOf w ≡ reason 0
+    go Done z = refl
+    go BadWidth z = absurd (omega arith)
+    go BadWindow z = absurd (omega arith)
+    go BadStart z = absurd (omega arith)
+    go (BadSample p) z = absurd (omega arith)
+    go Full z = absurd (omega arith)
+    go TooMany z = absurd (omega arith)
+    go NoRoom z = absurd (omega arith)
+    go Closed z = absurd (omega arith)
+    go Uneven z = absurd (omega arith)
+
+-- ---- one symbol, as the code has it
+
+module _ (core : Core) (sums steps picks before : List ℕ) (y : Two Received) (place : ℕ) (e : place ≡ faultOf y) where
+  abbrev here : Outcome
+  here = symbolAt (whole core sums steps picks) y (length before)
+
+  pub faulty-took : place < 4 → TookIs here (record { core = core; written = 0; why = BadSample place }) sums steps picks before before
+  unfolding symbolAt
+  faulty-took h =
+      rw (lt-ltb (faultOf y) 4 (omega arith))
+      (record { receiver = refl; why = ap BadSample e; written = refl; out = refl })
+
+  pub good-taking : 4 ≤ place → (here ≡ taking (whole core sums steps picks) y (length before)) × BothInRange y
+  unfolding symbolAt
+  good-taking h =
+      let l : ltb (faultOf y) 4 ≡ false = le-ltb (faultOf y) 4 (omega arith) in
+      (rw l, no-fault y l)
+
+  pub good-took : (z : Two Received) → z ≡ y → 4 ≤ place → (r : Took) (sums₁ steps₁ picks₁ after : List ℕ) →
+      TookIs (taking (whole core sums steps picks) z (length before)) r sums₁ steps₁ picks₁ before after → TookIs here r sums₁ steps₁ picks₁ before after
+  good-took z k h r sums₁ steps₁ picks₁ after is =
+      subst (λ (o : Outcome). TookIs o r sums₁ steps₁ picks₁ before after) (ap (λ (x : Two Received). taking (whole core sums steps picks) x (length before)) k ∙ sym (good-taking h .0)) is

@@ -1,0 +1,19 @@
+-- `closed_receiver`: zeros throughout.
+use mathlib.Core.Path.{ap}
+use mathlib.Core.Bool.{false}
+use lib.ListN.{replicate}
+use Rattle.walk.specs.declared.Core.{Core}
+use Rattle.walk.specs.Machine.{shut}
+use borrow.Author.Needs.{needs}
+use Rattle.receiver.proofs.closed_receiver.Statement.{statement}
+use Rattle.receiver.proofs.closed_receiver.Tie as tie
+
+fresh-core-requires : tie.Need-fresh-core-requires
+fresh-core-requires c κs = search needs
+
+returns : tie.Need-returns
+unfolding shut
+returns c = ap (λ (k : Core). record { live = false; core = k; sums = replicate 16 0; steps = replicate 1024 0; picks = replicate 1024 0 }) (c .fresh-core .ensures)
+
+pub closed-receiver-spec : {M : Type 1} → statement M
+closed-receiver-spec = tie.close (tie.spec fresh-core-requires returns)

@@ -1,0 +1,17 @@
+-- The start of an opening, as the theory has it.
+--   startOf b      the start that an opening names
+--   startFits b    it is free, or names one of the sixteen states
+use Prim.Native.Nat.{ℕ}
+use mathlib.Core.Bool.{Bool, true}
+use lib.Dec.{leb}
+use Rattle.trellis.specs.Measure as measure
+use Rattle.receiver.specs.declared.Start.{Start}
+use Rattle.receiver.specs.declared.Start.the-variants.{Free, At}
+
+abbrev pub startOf : Start → measure.Start
+startOf Free = measure.free
+startOf (At n) = measure.named n
+
+abbrev pub startFits : Start → Bool
+startFits Free = true
+startFits (At n) = leb n 15

@@ -1,0 +1,4 @@
+pub mod Given
+pub mod Doors
+pub mod Meaning
+pub mod Promise

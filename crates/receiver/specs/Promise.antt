@@ -1,0 +1,71 @@
+-- The promises of the receiver's doors. `always` fixes result and output for every record, so any two results are equal (proofs/Settled);
+-- `owed` says, for whatever the receiver has been told, what that is in the words of 01; `again` hands ends on.
+--   Written words out o      o is the output `out` with the words in its first places, and all else unchanged
+--   Opens u w b r            the promise of `open_receiver`
+--   Hears rx xs out r o      the promise of `hear`, where the output holds `out` before the call and `o` after it
+--   Finishes rx out r o      the promise of `finish`
+use Prim.Native.Nat.{ℕ}
+use mathlib.Core.Path.{_≡_}
+use mathlib.Core.Bool.{cond}
+use mathlib.Core.List.{List, _++_}
+use lib.IntN.{ℤ}
+use lib.ListN.{length, drop}
+use Rattle.walk.specs.declared.Receiver.{Receiver}
+use Rattle.walk.specs.declared.Why.{Why}
+use Rattle.walk.specs.Machine.{shut}
+use Rattle.walk.specs.Told.{Told, Fine, machineOf, givenOf}
+use Rattle.receiver.specs.declared.Start.{Start}
+use Rattle.receiver.specs.declared.Opened.{Opened}
+use Rattle.receiver.specs.declared.Answer.{Answer}
+use Rattle.receiver.specs.Given.{startOf}
+use Rattle.receiver.specs.Doors.{Opening, opening, Ran, hearing, finishing, End}
+use Rattle.receiver.specs.Meaning.{Owed, pieceOwed, FinishOwed, finishOwed, openingOwed}
+
+-- "Released words go straight after those already written by that call. All other places of the output stay unchanged"
+abbrev pub Written : List ℕ → List ℕ → List ℕ → Type 0
+Written words out o = o ≡ words ++ drop (length words) out
+
+-- ---- openings
+
+pub record Opens (u w : ℕ) (b : Start) (r : Opened) : Type 0 where
+  pub always-given : givenOf (r .why) ≡ givenOf (opening u w b .why)
+  pub always-receiver : r .receiver ≡ opening u w b .receiver
+  pub owed : givenOf (r .why) .number ≡ openingOwed u w b
+  pub fresh : givenOf (r .why) .number ≡ 0 → let t : Told = record { u = u; window = w; start = startOf b; heard = mathlib.Core.List.[] } in Fine t × (r .receiver ≡ machineOf t)
+  pub again : End (r .receiver)
+
+-- ---- a piece and a finish
+
+-- the answer is that of the machine
+pub record Is (ran : Ran) (out : List ℕ) (r : Answer) (o : List ℕ) : Type 0 where
+  pub receiver : r .receiver ≡ ran .receiver
+  pub taken : r .taken ≡ ran .taken
+  pub written : r .written ≡ length (ran .words)
+  pub given : givenOf (r .why) ≡ givenOf (ran .why)
+  pub output : Written (ran .words) out o
+
+-- the answer is what is owed for what the receiver has been told
+pub record Owes (d : Owed) (out : List ℕ) (r : Answer) (o : List ℕ) : Type 0 where
+  pub given : givenOf (r .why) ≡ d .reason
+  pub taken : r .taken ≡ d .taken
+  pub written : r .written ≡ length (d .words)
+  pub output : Written (d .words) out o
+  pub fine : Fine (d .told)
+  pub receiver : r .receiver ≡ machineOf (d .told)
+
+pub record Hears (rx : Receiver) (xs : List ℤ) (out : List ℕ) (r : Answer) (o : List ℕ) : Type 0 where
+  pub always : Is (hearing rx xs (length out)) out r o
+  pub owed : (t : Told) → Fine t → rx ≡ machineOf t → Owes (pieceOwed t xs (length out)) out r o
+  pub again : End rx → End (r .receiver)
+
+pub record EndOwes (d : FinishOwed) (rx : Receiver) (out : List ℕ) (r : Answer) (o : List ℕ) : Type 0 where
+  pub given : givenOf (r .why) ≡ d .reason
+  pub taken : r .taken ≡ 0
+  pub written : r .written ≡ length (d .words)
+  pub output : Written (d .words) out o
+  pub receiver : r .receiver ≡ cond (d .closes) shut rx
+
+pub record Finishes (rx : Receiver) (out : List ℕ) (r : Answer) (o : List ℕ) : Type 0 where
+  pub always : Is (finishing rx (length out)) out r o
+  pub owed : (t : Told) → Fine t → rx ≡ machineOf t → EndOwes (finishOwed t (length out)) rx out r o
+  pub again : End rx → End (r .receiver)

@@ -1,0 +1,384 @@
+// The receiver: turns received pairs of points into words, and says a word only when it is final.
+//
+// `open_receiver` names the width, the window and the start; `open_plain` only the width. `hear` takes a piece of coordinates, four
+// to a symbol, writes the words that become final straight after one another into the lent output, and gives the receiver back with
+// how many symbols it took, how many words it wrote and why it stopped. `finish` writes the pending words of the answer and closes
+// the receiver. A refused symbol leaves the receiver as it was. A record that no opening and no call gave is answered like a closed
+// receiver.
+use nearest::Received;
+use walk::Core;
+use walk::Receiver;
+use walk::Took;
+use walk::Why;
+ghost use mathlib.Core.Path.{_≡_};
+ghost use mathlib.Core.Bool.{true, cond};
+ghost use mathlib.Core.List.{[]};
+ghost use Prim.Native.Nat.{_%_};
+ghost use lib.ListN.{length};
+ghost use Rattle.points.specs.Points.{coordinates};
+ghost use Rattle.nearest.specs.Found.{heardAs};
+ghost use Rattle.walk.specs.Machine.{core, freshSums, shut, allUpTo, topSum, soundCore, sound};
+ghost use Rattle.walk.specs.Taken.{whole, TookIs};
+ghost use Rattle.walk.specs.Told.{faultOf, givenOf};
+ghost use Rattle.receiver.specs.Given.{startOf, startFits};
+ghost use Rattle.receiver.specs.Doors.{symbolsOf, symbolFrom, symbolAt, running};
+ghost use Rattle.receiver.specs.Promise.{Opens, Is, Hears, Finishes};
+
+// Any first state, or the named one.
+pub enum Start {
+    Free,
+    At(u32),
+}
+
+pub struct Opened {
+    pub receiver: Receiver,
+    pub why: Why,
+}
+
+pub struct Answer {
+    pub receiver: Receiver,
+    pub taken: usize,
+    pub written: usize,
+    pub why: Why,
+}
+
+// The number of a reason.
+pub fn number(why: Why) -> u32
+    ensures { λ r. ⌜ r ≡ givenOf why .number ⌝ }
+{
+    match why {
+        Why::Done => 0,
+        Why::BadWidth => 1,
+        Why::BadWindow => 2,
+        Why::BadStart => 3,
+        Why::BadSample(_) => 5,
+        Why::Full => 6,
+        Why::TooMany => 7,
+        Why::NoRoom => 8,
+        Why::Closed => 9,
+        Why::Uneven => 10,
+    }
+}
+
+// The place of the coordinate at fault; 0 for every other reason.
+pub fn place(why: Why) -> u32
+    ensures { λ r. ⌜ r ≡ givenOf why .place ⌝ }
+{
+    match why {
+        Why::BadSample(p) => p,
+        Why::Done => 0,
+        Why::BadWidth => 0,
+        Why::BadWindow => 0,
+        Why::BadStart => 0,
+        Why::Full => 0,
+        Why::TooMany => 0,
+        Why::NoRoom => 0,
+        Why::Closed => 0,
+        Why::Uneven => 0,
+    }
+}
+
+// A closed receiver.
+pub fn closed_receiver() -> Receiver
+    ensures { λ r. ⌜ r ≡ shut ⌝ }
+{
+    Receiver {
+        live: false,
+        core: fresh_core(0, 0),
+        sums: [0u64; 16],
+        steps: [0u8; 1024],
+        picks: [0u8; 1024],
+    }
+}
+
+fn fresh_core(u: u32, window: usize) -> Core
+    ensures { λ r. ⌜ r ≡ core u window ⌝ }
+{
+    Core {
+        u: u,
+        window: window,
+        taken: 0,
+        turn: 0,
+        slot: 0,
+        pending: 0,
+    }
+}
+
+// The sums before any symbol: 0 for a state that may stand first, and for every other one more than any sum can be.
+fn fresh_sums(start: Start) -> [u64; 16]
+    requires { ⌜ startFits start ≡ true ⌝ }
+    ensures { λ r. ⌜ r ≡ freshSums (startOf start) ⌝ }
+{
+    match start {
+        Start::Free => [0u64; 16],
+        Start::At(s) => {
+            let mut sums = [4611686018427387904u64; 16];
+            sums[s as usize] = 0;
+            sums
+        }
+    }
+}
+
+// Whether a start is free or names one of the sixteen states.
+fn start_fits(start: Start) -> bool
+    ensures { λ r. ⌜ r ≡ startFits start ⌝ }
+{
+    match start {
+        Start::Free => true,
+        Start::At(s) => s <= 15,
+    }
+}
+
+fn not_opened(why: Why) -> Opened
+    ensures { λ r. ⌜ r ≡ record { receiver = shut; why = why } ⌝ }
+{
+    Opened {
+        receiver: closed_receiver(),
+        why: why,
+    }
+}
+
+// Refused, in this order: a width above 8, a window not 1 to 64, a named start above 15.
+pub fn open_receiver(u: u32, window: u32, start: Start) -> Opened
+    ensures { λ r. ⌜ Opens u window start r ⌝ }
+{
+    if u > 8 {
+        return not_opened(Why::BadWidth);
+    }
+    if window < 1 {
+        return not_opened(Why::BadWindow);
+    }
+    if window > 64 {
+        return not_opened(Why::BadWindow);
+    }
+    if !start_fits(start) {
+        return not_opened(Why::BadStart);
+    }
+    Opened {
+        receiver: Receiver {
+            live: true,
+            core: fresh_core(u, window as usize),
+            sums: fresh_sums(start),
+            steps: [0u8; 1024],
+            picks: [0u8; 1024],
+        },
+        why: Why::Done,
+    }
+}
+
+// The plain opening: window 64 and a free start.
+pub fn open_plain(u: u32) -> Opened
+    ensures { λ r. ⌜ Opens u 64 Start.Free r ⌝ }
+{
+    open_receiver(u, 64, Start::Free)
+}
+
+// Whether the numbers beside the sums are in range.
+fn core_fits(c: Core) -> bool
+    ensures { λ r. ⌜ r ≡ soundCore c ⌝ }
+{
+    if c.u > 8 {
+        return false;
+    }
+    if c.window < 1 {
+        return false;
+    }
+    if c.window > 64 {
+        return false;
+    }
+    if c.turn > 3 {
+        return false;
+    }
+    if c.slot > 63 {
+        return false;
+    }
+    c.pending <= c.window
+}
+
+// Whether no sum is above what so many symbols can make.
+fn sums_fit(sums: [u64; 16], taken: u32) -> bool
+    ensures { λ r. ⌜ r ≡ allUpTo (topSum taken) sums ⌝ }
+{
+    let top = 4611686018427387904 + (taken as u64) * 1073741824;
+    let mut i: usize = 0;
+    while i < 16 {
+        if sums[i] > top {
+            return false;
+        }
+        i += 1;
+    }
+    true
+}
+
+// Whether the receiver is open and in range.
+pub fn is_open(rx: Receiver) -> bool
+    ensures { λ r. ⌜ r ≡ sound rx ⌝ }
+{
+    if !rx.live {
+        return false;
+    }
+    let c = rx.core;
+    if !core_fits(c) {
+        return false;
+    }
+    let sums = rx.sums;
+    sums_fit(sums, c.taken)
+}
+
+// How many symbols are taken and not released; 0 of a closed receiver.
+pub fn pending(rx: Receiver) -> usize
+    ensures { λ r. ⌜ r ≡ cond (sound rx) (rx .core .pending) 0 ⌝ }
+{
+    if is_open(rx) {
+        let c = rx.core;
+        return c.pending;
+    }
+    0
+}
+
+// The place of the first coordinate out of range, or 4.
+fn fault(x0: i32, x1: i32, x2: i32, x3: i32) -> u32
+    ensures { λ r. ⌜ r ≡ faultOf (heardAs (record { x = x0; y = x1 }) (record { x = x2; y = x3 })) ⌝ }
+{
+    if !nearest::is_coordinate(x0) {
+        return 0;
+    }
+    if !nearest::is_coordinate(x1) {
+        return 1;
+    }
+    if !nearest::is_coordinate(x2) {
+        return 2;
+    }
+    if !nearest::is_coordinate(x3) {
+        return 3;
+    }
+    4
+}
+
+// One symbol of a piece. A coordinate out of range is refused before anything is searched.
+fn symbol(
+    t: &[i8; 512],
+    core: Core,
+    x0: i32,
+    x1: i32,
+    x2: i32,
+    x3: i32,
+    sums: &mut [u64; 16],
+    steps: &mut [u8; 1024],
+    picks: &mut [u8; 1024],
+    out: &mut [u32],
+) -> Took
+    requires { ⌜ (now t ≡ coordinates) × (sound (whole core (now sums) (now steps) (now picks)) ≡ true) ⌝ }
+    ensures { λ r. ⌜ TookIs (symbolAt (whole core (now (sums .entry)) (now (steps .entry)) (now (picks .entry))) (symbolFrom x0 x1 x2 x3) (length (now (out .entry)))) r (now (sums .exit)) (now (steps .exit)) (now (picks .exit)) (now (out .entry)) (now (out .exit)) ⌝ }
+{
+    let place = fault(x0, x1, x2, x3);
+    if place < 4 {
+        return Took {
+            core: core,
+            written: 0,
+            why: Why::BadSample(place),
+        };
+    }
+    let first = Received { x: x0, y: x1 };
+    let second = Received { x: x2, y: x3 };
+    walk::take_symbol(t, core, sums, steps, picks, first, second, out)
+}
+
+fn stopped(rx: Receiver, why: Why) -> Answer
+    ensures { λ r. ⌜ r ≡ record { receiver = rx; taken = 0; written = 0; why = why } ⌝ }
+{
+    Answer {
+        receiver: rx,
+        taken: 0,
+        written: 0,
+        why: why,
+    }
+}
+
+// The symbols of a piece, one after another, up to the first that is refused. The receiver is taken apart once, its arrays are
+// lent to each symbol, and it is put together again at the end.
+fn hear_symbols(rx: Receiver, samples: &[i32], out: &mut [u32]) -> Answer
+    requires { ⌜ (sound rx ≡ true) × (length (now samples) % 4 ≡ 0) ⌝ }
+    ensures { λ r. ⌜ Is (running (symbolsOf (now (samples .entry))) rx 0 [] (length (now (out .entry)))) (now (out .entry)) r (now (out .exit)) ⌝ }
+{
+    let table = points::table::a_points();
+    let mut core = rx.core;
+    let mut sums = rx.sums;
+    let mut steps = rx.steps;
+    let mut picks = rx.picks;
+    let mut taken: usize = 0;
+    let mut written: usize = 0;
+    let mut why = Why::Done;
+    let mut i: usize = 0;
+    while i < samples.len() {
+        let t = symbol(
+            &table,
+            core,
+            samples[i],
+            samples[i + 1],
+            samples[i + 2],
+            samples[i + 3],
+            &mut sums,
+            &mut steps,
+            &mut picks,
+            &mut out[written..],
+        );
+        core = t.core;
+        written = written + t.written;
+        why = t.why;
+        if number(why) != 0 {
+            break;
+        }
+        taken += 1;
+        i += 4;
+    }
+    Answer {
+        receiver: Receiver {
+            live: true,
+            core: core,
+            sums: sums,
+            steps: steps,
+            picks: picks,
+        },
+        taken: taken,
+        written: written,
+        why: why,
+    }
+}
+
+// A piece of four coordinates to a symbol. Refused as a whole where the receiver is closed or the length is no multiple of 4.
+pub fn hear(rx: Receiver, samples: &[i32], out: &mut [u32]) -> Answer
+    ensures { λ r. ⌜ Hears rx (now (samples .entry)) (now (out .entry)) r (now (out .exit)) ⌝ }
+{
+    if !is_open(rx) {
+        return stopped(rx, Why::Closed);
+    }
+    if samples.len() % 4 != 0 {
+        return stopped(rx, Why::Uneven);
+    }
+    hear_symbols(rx, samples, out)
+}
+
+// The pending words of the answer, and a closed receiver. Refused where there is no room for all of them.
+pub fn finish(rx: Receiver, out: &mut [u32]) -> Answer
+    ensures { λ r. ⌜ Finishes rx (now (out .entry)) r (now (out .exit)) ⌝ }
+{
+    if !is_open(rx) {
+        return stopped(rx, Why::Closed);
+    }
+    let core = rx.core;
+    if out.len() < core.pending {
+        return stopped(rx, Why::NoRoom);
+    }
+    let sums = rx.sums;
+    let steps = rx.steps;
+    let picks = rx.picks;
+    let s = walk::end_state(&sums);
+    walk::write_words(core, &steps, &picks, s, core.pending, out);
+    Answer {
+        receiver: closed_receiver(),
+        taken: 0,
+        written: core.pending,
+        why: Why::Done,
+    }
+}

@@ -1,0 +1,83 @@
+-- Lists, and tests over the states, that know nothing of a receiver.
+--   range-length, range-at     f at the n numbers from a on: how many, and what stands at a place
+--   sixteen-at, sixteen-most   f at the states; a bound that also holds past them
+--   every-drop                 what holds of all holds of all but the first
+--   any-in, any-out, both      a number at which a test holds, into `any` and out of it
+--   map-in, map-out            what stands in a list, and in the list of its images
+use mathlib.Core.Path.{_≡_, refl, sym, ap, subst, _∙_}
+use mathlib.Core.Bool.{Bool, true, false, _&&_, _||_}
+use mathlib.Core.List.{List, [], _∷_, map}
+use mathlib.Core.Logic.{inl, inr, ⊎-elim}
+use Prim.Native.Nat.{ℕ, zero, suc, _+_, _≤_, _<_}
+use native.Mathlib.Omega.{arith}
+use native.Mathlib.Decide.{ℕ-discrete, decLt}
+use lib.Dec.{T}
+use lib.ListN.{length, getD, drop, List·getD-eq-default}
+use Rattle.trellis.specs.Lists.{In, Every}
+use Rattle.trellis.specs.Search.{range}
+use Rattle.trellis.specs.Walk.{any}
+use Rattle.walk.specs.Select.{sixteen}
+
+-- ── laid out by a function ──
+module _ {A : Type 0} (f : ℕ → A) where
+  pub range-length : (a n : ℕ) → length (map f (range a n)) ≡ n
+  unfolding range
+  range-length a zero = refl
+  range-length a (suc n) = ap suc (range-length (suc a) n)
+
+  pub range-at : (a n i : ℕ) (d : A) → i < n → getD (map f (range a n)) i d ≡ f (a + i)
+  unfolding range
+  range-at a zero i d h = absurd (omega arith)
+  range-at a (suc n) zero d h = ap f (let e : a ≡ a + 0 = omega arith in e)
+  range-at a (suc n) (suc i) d h = range-at (suc a) n i d (omega arith) ∙ ap f (let e : suc a + i ≡ a + suc i = omega arith in e)
+
+pub sixteen-at : (f : ℕ → ℕ) (s : ℕ) → s < 16 → getD (sixteen f) s 0 ≡ f s
+unfolding range
+sixteen-at f s h = range-at f 0 16 s 0 h ∙ ap f (let e : 0 + s ≡ s = omega arith in e)
+
+-- 0 past them
+pub sixteen-most : (f : ℕ → ℕ) (m : ℕ) → ((s : ℕ) → f s ≤ m) → (s : ℕ) → getD (sixteen f) s 0 ≤ m
+sixteen-most f m h s = go (decLt s 16)
+  where
+    go : Dec (s < 16) → getD (sixteen f) s 0 ≤ m
+    go (yes g) = omega (arith, sixteen-at f s g, h s)
+    go (no g) = omega (arith, List·getD-eq-default (sixteen f) 0 {n = s} (omega arith))
+
+pub every-drop : {A : Type 0} (P : A → Type 0) (n : ℕ) (l : List A) → Every P l → Every P (drop n l)
+every-drop P zero l h = h
+every-drop P (suc n) [] h = tt
+every-drop P (suc n) (a ∷ l) h = every-drop P n l (h .1)
+
+-- ── some number below n ──
+pub any-in : (n : ℕ) (f : ℕ → Bool) (s : ℕ) → s < n → T (f s) → T (any n f)
+unfolding any
+any-in zero f s h t = absurd (omega arith)
+any-in (suc n) f s h t = go (f n) refl (ℕ-discrete s n) (any-in n f s)
+  where
+    go : (b : Bool) → f n ≡ b → Dec (s ≡ n) → (s < n → T (f s) → T (any n f)) → T (b || any n f)
+    go true e d r = tt
+    go false e (yes z) r = absurd (subst T (ap f z ∙ e) t)
+    go false e (no z) r = r (omega arith) t
+
+pub any-out : (n : ℕ) (f : ℕ → Bool) → T (any n f) → (s : ℕ) × (s < n) × T (f s)
+unfolding any
+any-out zero f t = absurd t
+any-out (suc n) f t = go (f n) refl (any-out n f) t
+  where
+    go : (b : Bool) → f n ≡ b → (T (any n f) → (s : ℕ) × (s < n) × T (f s)) → T (b || any n f) → (s : ℕ) × (s < suc n) × T (f s)
+    go true e r t = (n, omega arith, subst T (sym e) tt)
+    go false e r t = let (s, h, k) = r t in (s, omega arith, k)
+
+pub both : (a b : Bool) → T a → T b → T (a && b)
+both true b h k = k
+both false b h k = absurd h
+
+-- ── members ──
+module _ (f : ℕ → ℕ) where
+  pub map-in : (s : ℕ) (l : List ℕ) → In s l → In (f s) (map f l)
+  map-in s [] m = absurd m
+  map-in s (t ∷ l) m = ⊎-elim (λ (e : s ≡ t). inl (ap f e)) (λ k. inr (map-in s l k)) m
+
+  pub map-out : (t : ℕ) (l : List ℕ) → In t (map f l) → (s : ℕ) × In s l × (f s ≡ t)
+  map-out t [] m = absurd m
+  map-out t (s ∷ l) m = ⊎-elim (λ (e : t ≡ f s). (s, inl refl, sym e)) (λ k. let (r, i, e) = map-out t l k in (r, inr i, e)) m

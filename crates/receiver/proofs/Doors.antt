@@ -80,7 +80,7 @@ finishing-by : (rx : Receiver) (room n : ℕ) (ws : List ℕ) → sound rx ≡ t
 unfolding finishing
 finishing-by rx room n ws a b c = cc
 
-finishing-owes : (t : Told) → Fine t → (room : ℕ) → EndedBy (finishing (machineOf t) room) (machineOf t) (finishOwed t room)
+pub finishing-owes : (t : Told) → Fine t → (room : ℕ) → EndedBy (finishing (machineOf t) room) (machineOf t) (finishOwed t room)
 unfolding finishOwed
 finishing-owes t f room = subst (λ (h : Ran). EndedBy h (machineOf t) (finishOwed t room)) (sym (finishing-by (machineOf t) room (length ws) ws (sound-told t f) (sym (rest-many t f)) (last-told t f))) (go (ltb room (length ws)))
   where

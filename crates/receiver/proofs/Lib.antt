@@ -6,3 +6,4 @@ pub mod Lent
 pub mod Kept
 pub mod Going
 pub mod Doors
+pub mod Settled

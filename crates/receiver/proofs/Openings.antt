@@ -1,9 +1,11 @@
 -- The outcomes of an opening, one law each, in the order of the tests; and what a fresh receiver is.
 --   named-sums      a named start's sums, as the code makes them
 --   opens-wide, opens-window, opens-start, opens-done   the four outcomes
+--   opened-end      what an opening gives is shut, or told nothing
 use mathlib.Core.Path.{_≡_, refl, sym, ap, subst, _∙_}
 use mathlib.Core.Bool.{Bool, true, false, cond, _&&_}
 use mathlib.Core.List.{List, [], _∷_}
+use mathlib.Core.Logic.{_⊎_, inl, inr}
 use Prim.Native.Nat.{ℕ, zero, suc, _≤_, _<_}
 use native.Mathlib.Omega.{arith}
 use borrow.Author.Tests.{le-leb, lt-leb, lt-ltb, le-ltb, leb-true}
@@ -17,7 +19,8 @@ use Rattle.walk.specs.declared.Why.{Why}
 use Rattle.walk.specs.declared.Why.the-variants.{Done, BadWidth, BadWindow, BadStart}
 use Rattle.walk.specs.Select.{limit, sixteen}
 use Rattle.walk.specs.Machine.{freshSums, opened, shut}
-use Rattle.walk.specs.Told.{Told, Reason, Fine, machineAfter, givenOf}
+use Rattle.walk.specs.Told.{Told, Reason, Fine, machineAfter, machineOf, givenOf}
+use Rattle.walk.proofs.Owed.{unheard, fine-opened, opened-told}
 use Rattle.receiver.specs.declared.Start.{Start}
 use Rattle.receiver.specs.declared.Start.the-variants.{Free, At}
 use Rattle.receiver.specs.declared.Opened.{Opened}
@@ -80,3 +83,17 @@ module _ (u w : ℕ) (b : Start) where
       opens r (record { receiver = opened u w (startOf b); why = Done }) (rw (le-leb u 8 h, le-leb 1 w k, le-leb w 64 l, s)) i
       (rw (le-ltb 8 u h, le-leb 1 w k, le-leb w 64 l, s))
       (λ z. (record { width = h; some-window = k; small-window = l; good-start = start-good b s; few = omega arith; each = tt }, refl))
+
+  -- every opening gives a closed receiver, or one that has been told nothing yet
+  pub opened-end : (opening u w b .receiver ≡ shut) ⊎ (t : Told) × Fine t × (opening u w b .receiver ≡ machineOf t)
+  unfolding opening machineAfter
+  opened-end = go (leb u 8) (leb 1 w) (leb w 64) (startFits b) refl refl refl refl
+    where
+      go : (i j k l : Bool) → leb u 8 ≡ i → leb 1 w ≡ j → leb w 64 ≡ k → startFits b ≡ l →
+          let o = cond i (cond (j && k) (cond l (record { receiver = opened u w (startOf b); why = Done }) (notOpened BadStart)) (notOpened BadWindow)) (notOpened BadWidth) in
+          (o .receiver ≡ shut) ⊎ (t : Told) × Fine t × (o .receiver ≡ machineOf t)
+      go false j k l e f g h = inl refl
+      go true false k l e f g h = inl refl
+      go true true false l e f g h = inl refl
+      go true true true false e f g h = inl refl
+      go true true true true e f g h = inr (unheard u w (startOf b), fine-opened u w (startOf b) (leb-true u 8 e) (leb-true 1 w f) (leb-true w 64 g) (start-good b h), sym (opened-told u w (startOf b)))

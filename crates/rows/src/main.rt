@@ -2,6 +2,7 @@
 // from the print of 000 with the one repair that 01 names.
 mod floats;
 mod labels;
+mod received;
 mod say;
 mod states;
 mod words;
@@ -12,4 +13,5 @@ fn main() {
     states::table_iv6();
     words::all();
     floats::all();
+    received::all();
 }

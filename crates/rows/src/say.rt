@@ -34,6 +34,10 @@ pub fn unsigned(n: u32) {
     io::print_decimal(STDOUT_FILENO, n as u64);
 }
 
+pub fn count(n: usize) {
+    io::print_decimal(STDOUT_FILENO, n as u64);
+}
+
 // The absolute value.
 fn size(x: i32) -> u64 {
     let wide = x as i64;

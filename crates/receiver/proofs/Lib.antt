@@ -7,3 +7,4 @@ pub mod Kept
 pub mod Going
 pub mod Doors
 pub mod Settled
+pub mod Laws

@@ -21,7 +21,7 @@ ghost use Rattle.walk.specs.Machine.{core, freshSums, shut, allUpTo, topSum, so
 ghost use Rattle.walk.specs.Taken.{whole, TookIs};
 ghost use Rattle.walk.specs.Told.{faultOf, givenOf};
 ghost use Rattle.receiver.specs.Given.{startOf, startFits};
-ghost use Rattle.receiver.specs.Doors.{symbolsOf, symbolFrom, symbolAt, running};
+ghost use Rattle.receiver.specs.Doors.{symbolsOf, symbolFrom, symbolAt, isDone, running};
 ghost use Rattle.receiver.specs.Promise.{Opens, Is, Hears, Finishes};
 
 // Any first state, or the named one.
@@ -58,6 +58,13 @@ pub fn number(why: Why) -> u32
         Why::Closed => 9,
         Why::Uneven => 10,
     }
+}
+
+// Whether a reason says that nothing was refused.
+pub fn is_done(why: Why) -> bool
+    ensures { λ r. ⌜ r ≡ isDone why ⌝ }
+{
+    number(why) == 0
 }
 
 // The place of the coordinate at fault; 0 for every other reason.
@@ -326,7 +333,7 @@ fn hear_symbols(rx: Receiver, samples: &[i32], out: &mut [u32]) -> Answer
         core = t.core;
         written = written + t.written;
         why = t.why;
-        if number(why) != 0 {
+        if !is_done(why) {
             break;
         }
         taken += 1;

@@ -3,7 +3,7 @@ use mathlib.Core.Path.{_≡_, refl, sym, ap, _∙_}
 use Prim.Native.Nat.{ℕ, _+_, _-_, _≤_}
 use native.Mathlib.Omega.{arith}
 use borrow.Author.Needs.{needs}
-use borrow.Author.Tests.{eq-eqb, ne-eqb}
+use borrow.Author.Tests.{not-true, not-false}
 use lib.ListN.{length}
 use mir.Facts.{toZ-ofZ}
 use Rattle.walk.specs.Machine.{sound}
@@ -91,8 +91,8 @@ fits d =
 add-written : tie.Need-add-written Inv-loop μ-loop
 add-written c = let h = fits (c .before .before .before .before) in omega (arith, c .before .before .before .before .before .before .before .before .before .before .before .before .before .before .before .before .before .before .before .before .before .before .good)
 
-number-requires : tie.Need-number-requires Inv-loop μ-loop
-number-requires c κs = search needs
+is-done-requires : tie.Need-is-done-requires Inv-loop μ-loop
+is-done-requires c κs = search needs
 
 add-taken : tie.Need-add-taken Inv-loop μ-loop
 add-taken c = omega (arith, c .before .before .before .before .before .before .before .before .before .before .before .before .before .before .before .before .before .before .before .before .before .before .before .before .good)
@@ -111,7 +111,7 @@ loop-again c =
     go-on (s .args .samples .now) (s .args .out .now) _ _ _ _ _ _ _ (l .loop .inv) (d .before .before .before .before .before .before .before .before .before .before .loop-test .taken) _ _ _ _
     (toZ-ofZ (record { sfits = d .before .before .before .before .before .before .before .before .symbol-arg .given })) (toZ-ofZ (record { sfits = d .before .before .before .before .before .before .before .symbol-arg2 .given }))
     (toZ-ofZ (record { sfits = d .before .before .before .before .before .before .symbol-arg3 .given })) (toZ-ofZ (record { sfits = d .before .before .before .before .before .symbol-arg4 .given }))
-    (d .symbol .result) _ _ _ _ (d .symbol .ensures) (d .symbol .kept .1 .1 .1 .1 .1 .1 .1 .1 .1 .0) (eq-eqb _ 0 (sym (c .before .number .ensures) ∙ c .if1 .left))
+    (d .symbol .result) _ _ _ _ (d .symbol .ensures) (d .symbol .kept .1 .1 .1 .1 .1 .1 .1 .1 .1 .0) (sym (c .before .is-done .ensures) ∙ not-false _ (c .if1 .left))
 
 same-length : tie.Need-same-length Inv-loop μ-loop
 same-length c = c .before .loop .inv .long
@@ -142,7 +142,7 @@ returns-2 c =
     stop (s .args .samples .now) (s .args .out .now) _ _ _ _ _ _ _ (l .loop .inv) (d .before .before .before .before .before .before .before .before .before .before .loop-test .taken) _ _ _ _
     (toZ-ofZ (record { sfits = d .before .before .before .before .before .before .before .before .symbol-arg .given })) (toZ-ofZ (record { sfits = d .before .before .before .before .before .before .before .symbol-arg2 .given }))
     (toZ-ofZ (record { sfits = d .before .before .before .before .before .before .symbol-arg3 .given })) (toZ-ofZ (record { sfits = d .before .before .before .before .before .symbol-arg4 .given }))
-    (d .symbol .result) _ _ _ _ (d .symbol .ensures) (d .symbol .kept .1 .1 .1 .1 .1 .1 .1 .1 .1 .0) (ne-eqb _ 0 (λ z. c .if1 .taken (c .before .number .ensures ∙ z))))
+    (d .symbol .result) _ _ _ _ (d .symbol .ensures) (d .symbol .kept .1 .1 .1 .1 .1 .1 .1 .1 .1 .0) (sym (c .before .is-done .ensures) ∙ not-true _ (c .if1 .taken)))
 
 pub hear-symbols-spec : {M : Type 1} → statement M
 hear-symbols-spec =
@@ -169,7 +169,7 @@ hear-symbols-spec =
     part-symbol-end
     symbol-requires
     add-written
-    number-requires
+    is-done-requires
     add-taken
     add-i
     loop-less

@@ -1,0 +1,185 @@
+-- What callers of the doors may rely on, beside the promises.
+--   hears-fit, finishes-fit     a call writes no more words than the room it was lent
+--   piece-below, finish-below   every word has 3 + 2u bits
+--   finish-most                 a finish writes at most 64 words; for one symbol see `fresh-most` of walk
+--   never-short                 with room for all pending words and the piece's own, no piece is refused with 8
+use mathlib.Core.Path.{_≡_, refl, sym, ap, subst, _∙_}
+use mathlib.Core.Bool.{Bool, true, false, cond}
+use mathlib.Core.List.{List, [], _∷_, _++_, map}
+use Prim.Native.Nat.{ℕ, suc, _+_, _-_, _*_, _^_, _%_, _≤_, _<_}
+use native.Mathlib.Nat.{sub-zero}
+use native.Mathlib.Omega.{arith}
+use borrow.Author.Tests.{eqb-true, ltb-true, ltb-false, leb-false}
+use lib.Dec.{eqb, leb, ltb}
+use lib.IntN.{ℤ}
+use lib.ListN.{length, take, drop, length-append, length-take}
+use lib.Seq.{drop-at}
+use Rattle.calls.specs.Calls.{Ended, walk, after, fresh, rest}
+use Rattle.calls.proofs.Steps.{walk-said}
+use Rattle.trellis.specs.Columns.{trail}
+use Rattle.trellis.specs.Lists.{Every}
+use Rattle.trellis.specs.Measure.{Two}
+use Rattle.trellis.specs.Pick.{bestOf}
+use Rattle.trellis.specs.Words.{word, wordsFrom, turnAfter}
+use Rattle.trellis.proofs.Pairs.{pairs-chooses}
+use Rattle.trellis.proofs.Speak.{speak-length}
+use Rattle.trellis.proofs.Spoken.{spoken-below}
+use Rattle.nearest.specs.declared.Received.{Received}
+use Rattle.nearest.specs.Line.{BothInRange, lineDistance, lineMeasure}
+use Rattle.walk.specs.declared.Receiver.{Receiver}
+use Rattle.walk.specs.declared.Why.the-variants.{Done, NoRoom, Closed, Uneven}
+use Rattle.walk.specs.Select.{liveOf}
+use Rattle.walk.specs.Column.{prevIn, read}
+use Rattle.walk.specs.Machine.{Outcome, shut, nextSums, nextSteps, pendingOf, headOf, taking, agreedOf, keptOf, releasedOf, lastWords, sound}
+use Rattle.walk.specs.Told.{Told, withHeard, Reason, reason, speakerOf, pendingAfter, faultOf, judgeSymbol, judgeOf, Fine, machineOf}
+use Rattle.walk.proofs.Lists.{every-drop}
+use Rattle.walk.proofs.Finish.{last-many}
+use Rattle.walk.proofs.Owed.{speaks, fresh-kept, rest-below, rest-most}
+use Rattle.receiver.specs.declared.Answer.{Answer}
+use Rattle.receiver.specs.Doors.{symbolsOf, symbolAt, Ran, isDone, stopped, running, hearing, finishing}
+use Rattle.receiver.specs.Meaning.{Owed, endedOf, pieceOwed, FinishOwed, finishOwed}
+use Rattle.receiver.specs.Promise.{Hears, Finishes}
+use Rattle.receiver.proofs.Symbols.{no-fault, symbol-judged}
+
+-- ---- room
+
+module _ (rx : Receiver) (y : Two Received) (room : ℕ) where
+  abbrev Few : Outcome → Type 0
+  Few o = length (o .words) ≤ room
+
+  either : (b : Bool) (p q : Outcome) → Few p → (b ≡ false → Few q) → Few (cond b p q)
+  either true p q f g = f
+  either false p q f g = g refl
+
+  released-few : length (wordsFrom (rx .core .u) (rx .core .turn) (releasedOf rx y)) ≤ agreedOf rx y
+  unfolding releasedOf
+  released-few =
+      let way = trail (map (read (rx .core .u)) (pendingOf rx)) (prevIn (nextSteps rx y) (headOf (liveOf (nextSums rx y)))) in
+      omega (arith, speak-length turnAfter (word (rx .core .u)) (rx .core .turn) (take (agreedOf rx y) way), length-take (agreedOf rx y) way)
+
+  symbol-few : Few (symbolAt rx y room)
+  unfolding symbolAt taking
+  symbol-few =
+      either (ltb (faultOf y) 4) _ _ (omega arith)
+      (λ _. either (eqb (rx .core .taken) 4294967295) _ _ (omega arith)
+      (λ _. either (ltb (rx .core .window) (keptOf rx y)) _ _ (omega arith)
+      (λ _. either (ltb room (agreedOf rx y)) _ _ (omega arith) (λ e. omega (arith, released-few, ltb-false room (agreedOf rx y) e)))))
+
+running-few : (zs : List (Two Received)) (rx : Receiver) (n : ℕ) (ws : List ℕ) (room : ℕ) → length ws ≤ room → length (running zs rx n ws room .words) ≤ room
+unfolding running
+running-few [] rx n ws room h = h
+running-few (y ∷ zs) rx n ws room h =
+    let o = symbolAt rx y (room - length ws) in
+    go (isDone (o .why)) (running-few zs (o .receiver) (n + 1) (ws ++ o .words) room (omega (arith, length-append ws (o .words), symbol-few rx y (room - length ws))))
+  where
+    go : (b : Bool) → length (running zs (symbolAt rx y (room - length ws) .receiver) (n + 1) (ws ++ symbolAt rx y (room - length ws) .words) room .words) ≤ room →
+        length (cond b (running zs (symbolAt rx y (room - length ws) .receiver) (n + 1) (ws ++ symbolAt rx y (room - length ws) .words) room) (record { receiver = rx; taken = n; words = ws; why = symbolAt rx y (room - length ws) .why }) .words) ≤ room
+    go true k = k
+    go false k = h
+
+module _ (rx : Receiver) (room : ℕ) where
+  hearing-few : (xs : List ℤ) → length (hearing rx xs room .words) ≤ room
+  unfolding hearing
+  hearing-few xs = go (sound rx) (eqb (length xs % 4) 0)
+    where
+      go : (a b : Bool) → length (cond a (cond b (running (symbolsOf xs) rx 0 [] room) (stopped rx Uneven)) (stopped rx Closed) .words) ≤ room
+      go true true = running-few (symbolsOf xs) rx 0 [] room (omega arith)
+      go true false = omega arith
+      go false b = omega arith
+
+  finishing-few : length (finishing rx room .words) ≤ room
+  unfolding finishing
+  finishing-few = go (sound rx) (ltb room (rx .core .pending)) refl
+    where
+      go : (a b : Bool) → ltb room (rx .core .pending) ≡ b → length (cond a (cond b (stopped rx NoRoom) (record { receiver = shut; taken = 0; words = lastWords rx; why = Done })) (stopped rx Closed) .words) ≤ room
+      go true true e = omega arith
+      go true false e = omega (arith, last-many rx, ltb-false room (rx .core .pending) e)
+      go false b e = omega arith
+
+pub hears-fit : (rx : Receiver) (xs : List ℤ) (out : List ℕ) (r : Answer) (o : List ℕ) → Hears rx xs out r o → r .written ≤ length out
+hears-fit rx xs out r o h = omega (arith, h .always .written, hearing-few rx (length out) xs)
+
+pub finishes-fit : (rx : Receiver) (out : List ℕ) (r : Answer) (o : List ℕ) → Finishes rx out r o → r .written ≤ length out
+finishes-fit rx out r o h = omega (arith, h .always .written, finishing-few rx (length out))
+
+-- ---- words
+
+module _ (t : Told) (f : Fine t) where
+  abbrev IsWord : ℕ → Type 0
+  IsWord n = n < 2 ^ (3 + 2 * t .u)
+
+  pub piece-below : (xs : List ℤ) (room : ℕ) → Every IsWord (pieceOwed t xs room .words)
+  unfolding pieceOwed
+  piece-below xs room = go (eqb (length xs % 4) 0)
+    where
+      ys : List (Two Received)
+      ys = endedOf t xs room .heard
+
+      said-is : endedOf t xs room .said ≡ drop (length (speakerOf t .spoken (t .heard))) (speakerOf t .spoken ys)
+      said-is =
+          sym (drop-at (speakerOf t .spoken (t .heard)) (endedOf t xs room .said) (length (speakerOf t .spoken (t .heard))) refl)
+          ∙ ap (drop (length (speakerOf t .spoken (t .heard)))) (walk-said (speakerOf t) (speaks t f) (judgeOf t) (t .heard) (symbolsOf xs) room)
+
+      go : (b : Bool) → Every IsWord (cond {A = Owed} b (record { reason = endedOf t xs room .why; taken = endedOf t xs room .taken; words = endedOf t xs room .said; told = withHeard t ys }) (record { reason = reason 10; taken = 0; words = []; told = t }) .words)
+      go false = tt
+      go true =
+          rw said-is
+          (every-drop IsWord (length (speakerOf t .spoken (t .heard))) (speakerOf t .spoken ys)
+          (spoken-below (t .u) lineMeasure (bestOf (t .u) lineDistance) (pairs-chooses (t .u) lineDistance) (t .start) (f .good-start) ys))
+
+  pub finish-below : (room : ℕ) → Every IsWord (finishOwed t room .words)
+  unfolding finishOwed
+  finish-below room = go (ltb room (length (rest (speakerOf t) (t .heard))))
+    where
+      go : (b : Bool) → Every IsWord (cond {A = FinishOwed} b (record { reason = reason 8; words = []; closes = false }) (record { reason = reason 0; words = rest (speakerOf t) (t .heard); closes = true }) .words)
+      go true = tt
+      go false = rest-below t f (t .heard)
+
+  pub finish-most : (room : ℕ) → length (finishOwed t room .words) ≤ 64
+  unfolding finishOwed
+  finish-most room = go (ltb room (length (rest (speakerOf t) (t .heard))))
+    where
+      go : (b : Bool) → length (cond {A = FinishOwed} b (record { reason = reason 8; words = []; closes = false }) (record { reason = reason 0; words = rest (speakerOf t) (t .heard); closes = true }) .words) ≤ 64
+      go true = omega arith
+      go false = rest-most t f
+
+-- ---- room enough
+
+module _ (t : Told) where
+  -- what an 8 means
+  eight : (ys : List (Two Received)) (y : Two Received) (room : ℕ) → judgeSymbol t ys y room .number ≡ 8 → BothInRange y × (length ys < 4294967295) × (room < length (fresh (speakerOf t) ys y))
+  unfolding judgeSymbol
+  eight ys y room =
+      go (ltb (faultOf y) 4) (leb 4294967295 (length ys)) (ltb (t .window) (pendingAfter t (y ∷ ys))) (ltb room (length (fresh (speakerOf t) ys y))) refl refl refl
+    where
+      go : (a b c d : Bool) → ltb (faultOf y) 4 ≡ a → leb 4294967295 (length ys) ≡ b → ltb room (length (fresh (speakerOf t) ys y)) ≡ d →
+          cond a (record { number = 5; place = faultOf y }) (cond b (reason 7) (cond c (reason 6) (cond d (reason 8) (reason 0)))) .number ≡ 8 →
+          BothInRange y × (length ys < 4294967295) × (room < length (fresh (speakerOf t) ys y))
+      go true b c d e g h z = absurd (omega arith)
+      go false true c d e g h z = absurd (omega arith)
+      go false false true d e g h z = absurd (omega arith)
+      go false false false false e g h z = absurd (omega arith)
+      go false false false true e g h z = (no-fault y e, leb-false 4294967295 (length ys) g, ltb-true room (length (fresh (speakerOf t) ys y)) h)
+
+  enough : (zs ys : List (Two Received)) → Fine (withHeard t ys) → (room : ℕ) → length zs + pendingAfter t ys ≤ room → walk (speakerOf t) (judgeOf t) ys zs room .why .number ≡ 8 → ⊥
+  unfolding walk
+  enough [] ys f room h = λ z. omega arith
+  enough (y ∷ zs) ys f room h = go (enough zs (y ∷ ys)) (eqb (judgeSymbol t ys y room .number) 0) refl
+    where
+      left : ℕ
+      left = room - length (fresh (speakerOf t) ys y)
+
+      go : (Fine (withHeard t (y ∷ ys)) → (m : ℕ) → length zs + pendingAfter t (y ∷ ys) ≤ m → walk (speakerOf t) (judgeOf t) (y ∷ ys) zs m .why .number ≡ 8 → ⊥) →
+          (b : Bool) → eqb (judgeSymbol t ys y room .number) 0 ≡ b → after (speakerOf t) (judgeOf t) ys y (judgeSymbol t ys y room) b (walk (speakerOf t) (judgeOf t) (y ∷ ys) zs left) .why .number ≡ 8 → ⊥
+      go ih false e z = let (r, few, short) = eight ys y room z in omega (arith, fresh-kept (withHeard t ys) f y r few)
+      go ih true e z =
+          let g : Fine (withHeard t (y ∷ ys)) = symbol-judged t ys f y room .fine (eqb-true (judgeSymbol t ys y room .number) 0 e) in
+          ih g left (omega (arith, fresh-kept (withHeard t ys) f y (g .each .0) (g .few))) z
+
+  pub never-short : Fine t → (xs : List ℤ) (room : ℕ) → length (symbolsOf xs) + pendingAfter t (t .heard) ≤ room → pieceOwed t xs room .reason .number ≡ 8 → ⊥
+  unfolding pieceOwed
+  never-short f xs room h = go (eqb (length xs % 4) 0)
+    where
+      go : (b : Bool) → cond {A = Owed} b (record { reason = endedOf t xs room .why; taken = endedOf t xs room .taken; words = endedOf t xs room .said; told = withHeard t (endedOf t xs room .heard) }) (record { reason = reason 10; taken = 0; words = []; told = t }) .reason .number ≡ 8 → ⊥
+      go false z = omega arith
+      go true z = enough (symbolsOf xs) (t .heard) f room h z

@@ -1,2 +1,12 @@
-pub mod Follows
+-- the demands, to be read
+pub mod Demand1
+pub mod Demand2
 pub mod Demand3
+-- what they lean on
+pub mod Follows
+pub mod Clean
+pub mod Numbers
+pub mod Reached
+pub mod History
+pub mod Marked
+pub mod RuledOut

@@ -1,1 +1,4 @@
 pub mod Talk
+pub mod Clean
+pub mod Table
+pub mod Marked

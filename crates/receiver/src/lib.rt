@@ -370,9 +370,11 @@ pub fn hear(rx: Receiver, samples: &[i32], out: &mut [u32]) -> Answer
 pub fn finish(rx: Receiver, out: &mut [u32]) -> Answer
     ensures { λ r. ⌜ Finishes rx (now (out .entry)) r (now (out .exit)) ⌝ }
 {
-    if !is_open(rx) {
+    let open = is_open(rx);
+    if !open {
         return stopped(rx, Why::Closed);
     }
+    let closed = closed_receiver();
     let core = rx.core;
     if out.len() < core.pending {
         return stopped(rx, Why::NoRoom);
@@ -383,7 +385,7 @@ pub fn finish(rx: Receiver, out: &mut [u32]) -> Answer
     let s = walk::end_state(&sums);
     walk::write_words(core, &steps, &picks, s, core.pending, out);
     Answer {
-        receiver: closed_receiver(),
+        receiver: closed,
         taken: 0,
         written: core.pending,
         why: Why::Done,

@@ -18,13 +18,16 @@ returns c =
     let s = c .before .before .before .before in
     finishes _ _ _ _ (rw (c .stopped .ensures) (finish-closed (s .args .rx) (s .args .out .now) (sym (c .before .before .is-open .ensures) ∙ not-true _ (c .before .if1 .taken))))
 
+closed-receiver-requires : tie.Need-closed-receiver-requires
+closed-receiver-requires c κs = search needs
+
 stopped-requires-2 : tie.Need-stopped-requires-2
 stopped-requires-2 c κs = search needs
 
 returns-2 : tie.Need-returns-2
 returns-2 c =
-    let s = c .before .before .before .before .before .before .before in
-    let i = c .before .before .before .before in
+    let i = c .before .before .before .before .before in
+    let s = i .before .before .before in
     finishes _ _ _ _ (rw (c .stopped2 .ensures) (finish-full (s .args .rx) (s .args .out .now) (sym (i .before .is-open .ensures) ∙ not-false _ (i .if1 .left)) (c .before .if2 .taken)))
 
 end-state-requires : tie.Need-end-state-requires
@@ -32,24 +35,21 @@ end-state-requires c κs = search needs
 
 write-words-requires : tie.Need-write-words-requires
 write-words-requires c κs =
-    let i = c .before .before .before .before .before .before .before .before .before .before .before in
+    let i = c .before .before .before .before .before .before .before .before .before .before .before .before in
     let s = i .before .before .before in
     let o = sym (i .before .is-open .ensures) ∙ not-false _ (i .if1 .left) in
     (sound-core (s .args .rx) o, c .before .before .before .end-state .ensures .1, search needs, c .before .before .before .before .before .before .before .before .if2 .left)
-
-closed-receiver-requires : tie.Need-closed-receiver-requires
-closed-receiver-requires c κs = search needs
 
 same-length : tie.Need-same-length
 same-length c = search needs
 
 returns-3 : tie.Need-returns-3
 returns-3 c =
-    let w = c .before .before .before in
-    let i = w .before .before .before .before .before .before .before .before .before .before .before .before in
+    let w = c .before .before in
+    let i = w .before .before .before .before .before .before .before .before .before .before .before .before .before in
     let s = i .before .before .before in
     let o = sym (i .before .is-open .ensures) ∙ not-false _ (i .if1 .left) in
-    finishes _ _ _ _ (rw (c .closed-receiver .ensures) (finish-done (s .args .rx) (s .args .out .now) o (w .before .before .before .before .before .before .before .before .before .if2 .left) _ (w .before .before .before .before .end-state .ensures .0) _ (w .write-words .ensures .1)))
+    finishes _ _ _ _ (rw (w .before .before .before .before .before .before .before .before .before .before .before .before .closed-receiver .ensures) (finish-done (s .args .rx) (s .args .out .now) o (w .before .before .before .before .before .before .before .before .before .if2 .left) _ (w .before .before .before .before .end-state .ensures .0) _ (w .write-words .ensures .1)))
 
 pub finish-spec : {M : Type 1} → statement M
 finish-spec =
@@ -58,10 +58,10 @@ finish-spec =
     is-open-requires
     stopped-requires
     returns
+    closed-receiver-requires
     stopped-requires-2
     returns-2
     end-state-requires
     write-words-requires
-    closed-receiver-requires
     same-length
     returns-3)

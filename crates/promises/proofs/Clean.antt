@@ -1,0 +1,164 @@
+-- What a clean line is to 01's measure, and what a sender's run is on it.
+--   exact        what is received lies on one valid symbol at most
+--   hits         symbols heard exactly lie on themselves
+--   first-sent   the first m symbols heard are those of the first m words
+--   read-back    the coordinates that symbols have, 128 times, are read as the symbols heard exactly
+--   floats       coordinates of valid symbols, as f32, are heard as their coordinates, 128 times
+--   width-sent   a sender that was opened has a width up to 8
+--   accepted     the words that a sender accepted are words of its width
+use mathlib.Core.Path.{_≡_, refl, sym, ap, ap₂, subst, _∙_}
+use mathlib.Core.Bool.{true}
+use mathlib.Core.List.{List, [], _∷_, _++_, map}
+use Prim.Native.Nat.{ℕ, zero, suc, _+_, _*_, _/_, _^_, _≤_, _<_}
+use native.Mathlib.Omega.{arith}
+use lib.IntN.{ℤ, pos, negsuc, negℤ, natAbs, _+ℤ_, +ℤ-idl, +ℤ-invr, -ℤ-+ℤ-cancel, pos-*ℤ-pos, pos-*ℤ-negsuc}
+use lib.ListN.{take}
+use lib.Pow.{pow-mono}
+use native.Mathlib.Decide.{decLt}
+use Rattle.samples.specs.Given.{GivenSample}
+use Rattle.samples.proofs.Laws.{sample-point-heard}
+use Rattle.wei.specs.Word.{isWord}
+use Rattle.wei.specs.State.{nextState}
+use Rattle.wei.specs.Symbol.{Symbol, Valid, AllowedFrom, firstLabel, lastLabel, symbolOf, symbolsFrom}
+use Rattle.points.specs.declared.Point.{Point}
+use Rattle.points.specs.Turn.{Small}
+use Rattle.points.specs.Pair.{firstPoint, secondPoint}
+use Rattle.points.proofs.Turns.{small-point}
+use Rattle.points.proofs.Apart.{symbols-apart}
+use Rattle.trellis.specs.Lists.{Every}
+use Rattle.trellis.specs.Measure.{Two, farOf}
+use Rattle.trellis.specs.Clean.{Hits, Exact}
+use Rattle.nearest.specs.declared.Received.{Received}
+use Rattle.nearest.specs.Line.{difference, square, distance, lineDistance, lineMeasure}
+use Rattle.sender.specs.declared.Sender.{Sender}
+use Rattle.sender.specs.Send.{after, four}
+use Rattle.sender.specs.Run as sender
+use Rattle.sender.proofs.Exactly.{one, done, refused-keeps, opened-with}
+use Rattle.receiver.specs.Doors.{symbolsOf}
+use Rattle.promises.specs.Clean.{onLine, allOnLine, heardAt, heardExactly, cleanly, floatsHeard, samplesAt}
+
+-- ---- distance 0
+
+no-square : (n : ℕ) → n * n ≡ 0 → n ≡ 0
+no-square zero e = refl
+no-square (suc n) e = absurd (omega arith)
+
+none : (z : ℤ) → natAbs z ≡ 0 → z ≡ pos 0
+none (pos n) e = ap pos e
+none (negsuc n) e = absurd (omega arith)
+
+-- a received coordinate at distance 0 is the point's
+there : (r c : ℤ) → square (difference r c) ≡ 0 → r ≡ onLine c
+there r c e =
+    sym (-ℤ-+ℤ-cancel r (onLine c)) ∙ ap (λ (z : ℤ). z +ℤ onLine c) (none (difference r c) (no-square (natAbs (difference r c)) e)) ∙ +ℤ-idl (onLine c)
+
+offLine : ℤ → ℤ
+offLine (pos n) = pos (n / 128)
+offLine (negsuc n) = negsuc (n / 128)
+
+off-on : (c : ℤ) → offLine (onLine c) ≡ c
+unfolding offLine
+off-on (pos n) = ap offLine (pos-*ℤ-pos 128 n) ∙ ap pos (let e : 128 * n / 128 ≡ n = omega arith in e)
+off-on (negsuc n) =
+    let e : 128 * suc n ≡ suc (128 * n + 127) = omega arith in
+    ap offLine (pos-*ℤ-negsuc 128 n ∙ ap (λ (k : ℕ). negℤ (pos k)) e) ∙ ap negsuc (let f : (128 * n + 127) / 128 ≡ n = omega arith in f)
+
+one-coordinate : (r a b : ℤ) → square (difference r a) ≡ 0 → square (difference r b) ≡ 0 → a ≡ b
+one-coordinate r a b e f = sym (off-on a) ∙ ap offLine (sym (there r a e) ∙ there r b f) ∙ off-on b
+
+one-point : (h : Received) (p q : Point) → distance h p ≡ 0 → distance h q ≡ 0 → p ≡ q
+unfolding distance
+one-point h p q e f =
+    let x : p .x ≡ q .x = one-coordinate (h .x) (p .x) (q .x) (omega arith) (omega arith) in
+    let y : p .y ≡ q .y = one-coordinate (h .y) (p .y) (q .y) (omega arith) (omega arith) in
+    λ i. record { x = x i; y = y i }
+
+far-points : (y : Two Received) (c : Symbol) → farOf Received lineDistance y c ≡ distance (y .first) (firstPoint c) + distance (y .second) (secondPoint c)
+unfolding farOf lineDistance firstPoint secondPoint
+far-points y c = refl
+
+pub exact : (u : ℕ) → u ≤ 8 → Exact u lineMeasure
+exact u h y c d v w e f =
+    symbols-apart u c d h v w
+    (one-point (y .first) (firstPoint c) (firstPoint d) (omega (arith, far-points y c)) (omega (arith, far-points y d)))
+    (one-point (y .second) (secondPoint c) (secondPoint d) (omega (arith, far-points y c)) (omega (arith, far-points y d)))
+
+-- ---- symbols heard exactly
+
+at-itself : (p : Point) → distance (heardAt p) p ≡ 0
+unfolding distance
+at-itself p = ap₂ (λ (a b : ℤ). square a + square b) (+ℤ-invr (onLine (p .x))) (+ℤ-invr (onLine (p .y)))
+
+pub hits : (cs : List Symbol) → Hits lineMeasure (map heardExactly cs) cs
+hits [] = tt
+hits (c ∷ cs) = (far-points (heardExactly c) c ∙ ap₂ (λ (a b : ℕ). a + b) (at-itself (firstPoint c)) (at-itself (secondPoint c)), hits cs)
+
+take-symbols : (u s q m : ℕ) (ns : List ℕ) → take m (map heardExactly (symbolsFrom u s q ns)) ≡ map heardExactly (symbolsFrom u s q (take m ns))
+unfolding symbolsFrom
+take-symbols u s q zero ns = refl
+take-symbols u s q (suc m) [] = refl
+take-symbols u s q (suc m) (n ∷ ns) =
+    let c = symbolOf u s q n in
+    ap (λ (l : List (Two Received)). heardExactly c ∷ l) (take-symbols u (nextState s (c .i1) (c .i2)) (firstLabel c) m ns)
+
+pub first-sent : (u m : ℕ) (sent : List ℕ) → take m (cleanly u sent) ≡ cleanly u (take m sent)
+first-sent u m sent = take-symbols u 0 0 m sent
+
+pub read-back : (cs : List Symbol) → symbolsOf (allOnLine (sender.coordinatesOf cs)) ≡ map heardExactly cs
+unfolding four
+read-back [] = refl
+read-back (c ∷ cs) = ap (λ (l : List (Two Received)). heardExactly c ∷ l) (read-back cs)
+
+-- ---- as floats
+
+small : (u : ℕ) (c : Symbol) → u ≤ 8 → Valid u c → Small (firstPoint c) × Small (secondPoint c)
+unfolding firstPoint secondPoint
+small u c h v =
+    let k : 2 ^ u ≤ 256 = pow-mono h in
+    (small-point (firstLabel c) (c .w1) (omega (arith, v .w1-below)), small-point (lastLabel c) (c .w2) (omega (arith, v .w2-below)))
+
+point-floats : (p : Point) → Small p → (ps : List ℤ) → floatsHeard ps ≡ samplesAt (allOnLine ps) → floatsHeard (p .x ∷ p .y ∷ ps) ≡ samplesAt (allOnLine (p .x ∷ p .y ∷ ps))
+point-floats p h ps e =
+    ap₂ (λ (g : GivenSample) (l : List GivenSample). g ∷ l) (sample-point-heard (p .x) (p .y) (omega (arith, h .x-small)) (omega (arith, h .y-small))) e
+
+pub floats : (u s : ℕ) (cs : List Symbol) → u ≤ 8 → AllowedFrom u s cs → floatsHeard (sender.coordinatesOf cs) ≡ samplesAt (allOnLine (sender.coordinatesOf cs))
+unfolding four
+floats u s [] h a = refl
+floats u s (c ∷ cs) h a =
+    let (p, q) = small u c h (a .0 .valid) in
+    let rest = sender.coordinatesOf cs in
+    point-floats (firstPoint c) p (secondPoint c .x ∷ secondPoint c .y ∷ rest) (point-floats (secondPoint c) q rest (floats u (nextState s (c .i1) (c .i2)) cs h (a .1)))
+
+pub width-sent : (u : ℕ) (ws : List ℕ) (ps : List ℤ) (s : Sender) → sender.Talk u ws ps s → u ≤ 8
+width-sent u ws ps s (sender.opens r p z) = go (decLt 8 u)
+  where
+    go : Dec (8 < u) → u ≤ 8
+    go (yes h) = absurd (omega (arith, one u .1 h, p .number, z))
+    go (no n) = omega arith
+width-sent u ws ps s (sender.takes {ws = vs} {ps = qs} {s = t} k n out o r p z) = width-sent u vs qs t k
+width-sent u ws ps s (sender.refuses {ws = vs} {ps = qs} {s = t} k n out o r p z) = width-sent u vs qs t k
+
+-- ---- the words of a run
+
+every-snoc : (u : ℕ) (ns : List ℕ) (n : ℕ) → Every (λ k. isWord u k ≡ true) ns → isWord u n ≡ true → Every (λ k. isWord u k ≡ true) (ns ++ (n ∷ []))
+every-snoc u [] n e w = (w, tt)
+every-snoc u (k ∷ ns) n e w = (e .0, every-snoc u ns n (e .1) w)
+
+pub every-take : {A : Type 0} (P : A → Type 0) (m : ℕ) (l : List A) → Every P l → Every P (take m l)
+every-take P zero l e = tt
+every-take P (suc m) [] e = tt
+every-take P (suc m) (x ∷ l) e = (e .0, every-take P m l (e .1))
+
+run-words : (u : ℕ) (ws : List ℕ) (ps : List ℤ) (s : Sender) → sender.Talk u ws ps s → (s .u ≡ u) × Every (λ n. isWord u n ≡ true) ws
+unfolding after
+run-words u ws ps s (sender.opens r p z) = (ap (λ (x : Sender). x .u) (p .sender ∙ opened-with u (sym (p .number) ∙ z)), tt)
+run-words u ws ps s (sender.takes {ws = vs} {ps = qs} {s = t} k n out o r p z) =
+    let (w, e) = run-words u vs qs t k in
+    let d = done t n out (sym (p .number) ∙ z) in
+    (ap (λ (x : Sender). x .u) (p .sender ∙ d .sender) ∙ w, every-snoc u vs n e (subst (λ (v : ℕ). isWord v n ≡ true) w (d .word)))
+run-words u ws ps s (sender.refuses {ws = vs} {ps = qs} {s = t} k n out o r p z) =
+    let (w, e) = run-words u vs qs t k in
+    (ap (λ (x : Sender). x .u) (p .sender ∙ refused-keeps t n out (λ y. z (p .number ∙ y)) .0) ∙ w, e)
+
+pub accepted : (u : ℕ) (ws : List ℕ) (ps : List ℤ) (s : Sender) → sender.Talk u ws ps s → Every (λ n. isWord u n ≡ true) ws
+accepted u ws ps s k = run-words u ws ps s k .1

@@ -1,0 +1,124 @@
+-- DEMAND 2. "For every width, start and list of good symbols, the receiver's answer is the allowed sequence with the least sum, ties by
+-- 01's order; nothing else is. Round trip: a fresh sender's points for any list of accepted words, at 128 times their coordinates (and
+-- as floats through `samples`), into a fresh receiver of the same width with a free start or start 0 and any window, however cut into calls, none refused and the finish
+-- done, come back as the words sent." And with no condition on refusals: "if the symbols taken are the first m of the sender's, the
+-- words written so far begin the words sent, and with a finish that succeeds they are the first m."
+--
+-- `Talk u w b took ws rx` and `Ended u w b took ws` (specs/Talk) are any runs of calls on a receiver, cut as they may be and whichever
+-- calls refuse; `sender.Talk u sent ps s` (sender/specs/Run) is any run of calls on a sender that accepted the words `sent` and wrote
+-- the coordinates ps for them. `symbolsOf (allOnLine ps)` are these coordinates, 128 times, four to a symbol. Lists are in the order
+-- of time.
+--   least         after a finish that succeeded the words are those of the answer, and the answer is one
+--   any-cut       so neither the window nor the cut into calls matters
+--   round-trip    what a sender sent comes back
+--   begins        with the first m symbols taken, the words written begin the words sent
+--   first-back    and with a finish that succeeds they are the first m
+--   as-floats     the sender's coordinates, each as an f32, are heard by the front end as the same coordinates, 128 times
+use mathlib.Core.Path.{_≡_, sym, ap, subst, _∙_}
+use mathlib.Core.Bool.{true}
+use mathlib.Core.List.{List, reverse, IsPrefix}
+use Prim.Native.Nat.{ℕ}
+use native.Mathlib.Omega.{arith}
+use lib.IntN.{ℤ}
+use lib.ListN.{take, drop, take-append-drop}
+use Rattle.wei.specs.Word.{isWord}
+use Rattle.wei.specs.Symbol.{Symbol, symbolsFrom}
+use Rattle.calls.proofs.Prefixes.{prefix-trans}
+use Rattle.trellis.specs.Lists.{Every}
+use Rattle.trellis.specs.Code.{Path, symbols}
+use Rattle.trellis.specs.Best.{Answer}
+use Rattle.trellis.specs.Measure.{Two, weiCode}
+use Rattle.trellis.specs.Pick.{bestOf, pairSearch}
+use Rattle.trellis.specs.Words.{words}
+use Rattle.trellis.proofs.Answer.{answer-only}
+use Rattle.trellis.proofs.Onward.{some-answer}
+use Rattle.trellis.proofs.WeiTheorems.{laws, onward}
+use Rattle.trellis.proofs.Pairs.{pairs-chooses}
+use Rattle.trellis.proofs.Clean as trellis
+use Rattle.nearest.specs.declared.Received.{Received}
+use Rattle.nearest.specs.Line.{lineDistance, lineMeasure}
+use Rattle.walk.specs.declared.Receiver.{Receiver}
+use Rattle.walk.specs.Told.{Fine, speakerOf}
+use Rattle.receiver.specs.declared.Start.{Start}
+use Rattle.receiver.specs.Given.{startOf}
+use Rattle.receiver.specs.Doors.{symbolsOf}
+use Rattle.sender.specs.declared.Sender.{Sender}
+use Rattle.sender.specs.Run as sender
+use Rattle.sender.proofs.Run.{ran}
+use Rattle.promises.specs.Talk.{Talk, Ended, ends}
+use Rattle.promises.specs.Clean.{allOnLine, cleanly, floatsHeard, samplesAt, StartsAtZero}
+use Rattle.promises.proofs.Follows.{toldOf, speaks, follows, answers}
+use Rattle.promises.proofs.Demand3.{whole}
+use Rattle.promises.proofs.Clean.{exact, hits, first-sent, read-back, floats, width-sent, every-take, accepted}
+
+-- ---- the least sum
+
+-- the words ws are those of the answer for the symbols `took`, and there is no other answer
+pub record LeastWords (u : ℕ) (b : Start) (took : List (Two Received)) (ws : List ℕ) : Type 0 where
+  pub path : Path Symbol
+  pub is-answer : Answer (weiCode u lineMeasure (startOf b)) (reverse took) path
+  pub only : (q : Path Symbol) → Answer (weiCode u lineMeasure (startOf b)) (reverse took) q → q ≡ path
+  pub words-are : ws ≡ words u (symbols path)
+
+ended-fine : (u w : ℕ) (b : Start) (took : List (Two Received)) (ws : List ℕ) → Ended u w b took ws → Fine (toldOf u w b took)
+ended-fine u w b took ws (ends {ws = vs} {rx = q} k out o r h z) = follows u w b took vs q k .fine
+
+pub least : (u w : ℕ) (b : Start) (took : List (Two Received)) (ws : List ℕ) → Ended u w b took ws → LeastWords u b took ws
+least u w b took ws k =
+    let L = laws u lineDistance (startOf b) in
+    let (p, a) = some-answer (pairSearch u lineDistance (startOf b)) L (onward u lineDistance (startOf b) (ended-fine u w b took ws k .good-start)) (reverse took) in
+    record {
+      path = p;
+      is-answer = a;
+      only = λ q c. answer-only (weiCode u lineMeasure (startOf b)) (L .antisym) (reverse took) q p c a;
+      words-are = whole u w b took ws k p a;
+    }
+
+pub any-cut : (u v w : ℕ) (b : Start) (took : List (Two Received)) (ws vs : List ℕ) → Ended u v b took ws → Ended u w b took vs → ws ≡ vs
+any-cut u v w b took ws vs k l = answers u v b took ws k ∙ sym (answers u w b took vs l)
+
+-- ---- a clean line
+
+module _ (u w : ℕ) (b : Start) (z : StartsAtZero b) (sent : List ℕ) (e : Every (λ n. isWord u n ≡ true) sent) where
+  clean-answer : Fine (toldOf u w b (cleanly u sent)) → speakerOf (toldOf u w b (cleanly u sent)) .answered (reverse (cleanly u sent)) ≡ sent
+  clean-answer f =
+      trellis.round-trip u lineMeasure (bestOf u lineDistance) (pairs-chooses u lineDistance) (exact u (f .width)) (startOf b) (f .good-start) 0 (omega arith) z (cleanly u sent) sent e
+      (hits (symbolsFrom u 0 0 sent))
+
+  clean-ended : (ws : List ℕ) → Ended u w b (cleanly u sent) ws → ws ≡ sent
+  clean-ended ws k = answers u w b (cleanly u sent) ws k ∙ clean-answer (ended-fine u w b (cleanly u sent) ws k)
+
+  clean-talk : (ws : List ℕ) (rx : Receiver) → Talk u w b (cleanly u sent) ws rx → IsPrefix ws sent
+  clean-talk ws rx k =
+      let f = follows u w b (cleanly u sent) ws rx k in
+      rw (f .said) (subst (IsPrefix (speakerOf (toldOf u w b (cleanly u sent)) .spoken (reverse (cleanly u sent)))) (clean-answer (f .fine)) (speaks (toldOf u w b (cleanly u sent)) (f .fine) .within (reverse (cleanly u sent))))
+
+-- a sender's run, heard 128 times
+sent-cleanly : (u : ℕ) (sent : List ℕ) (ps : List ℤ) (s : Sender) → sender.Talk u sent ps s → symbolsOf (allOnLine ps) ≡ cleanly u sent
+sent-cleanly u sent ps s k =
+    let r = ran u sent ps s k in
+    ap (λ (l : List ℤ). symbolsOf (allOnLine l)) (r .written ∙ ap sender.coordinatesOf (r .are)) ∙ read-back (symbolsFrom u 0 0 sent)
+
+module _ (u w : ℕ) (b : Start) (z : StartsAtZero b) (sent : List ℕ) (ps : List ℤ) (s : Sender) (k : sender.Talk u sent ps s) where
+  words-sent : Every (λ n. isWord u n ≡ true) sent
+  words-sent = accepted u sent ps s k
+
+  pub round-trip : (ws : List ℕ) → Ended u w b (symbolsOf (allOnLine ps)) ws → ws ≡ sent
+  round-trip ws h = clean-ended u w b z sent words-sent ws (subst (λ (l : List (Two Received)). Ended u w b l ws) (sent-cleanly u sent ps s k) h)
+
+  some-taken : (m : ℕ) → take m (symbolsOf (allOnLine ps)) ≡ cleanly u (take m sent)
+  some-taken m = ap (take m) (sent-cleanly u sent ps s k) ∙ first-sent u m sent
+
+  pub begins : (m : ℕ) (ws : List ℕ) (rx : Receiver) → Talk u w b (take m (symbolsOf (allOnLine ps))) ws rx → IsPrefix ws sent
+  begins m ws rx h =
+      prefix-trans ws (take m sent) sent
+      (clean-talk u w b z (take m sent) (every-take (λ n. isWord u n ≡ true) m sent words-sent) ws rx (subst (λ (l : List (Two Received)). Talk u w b l ws rx) (some-taken m) h))
+      (drop m sent, take-append-drop m sent)
+
+  pub first-back : (m : ℕ) (ws : List ℕ) → Ended u w b (take m (symbolsOf (allOnLine ps))) ws → ws ≡ take m sent
+  first-back m ws h = clean-ended u w b z (take m sent) (every-take (λ n. isWord u n ≡ true) m sent words-sent) ws (subst (λ (l : List (Two Received)). Ended u w b l ws) (some-taken m) h)
+
+pub as-floats : (u : ℕ) (sent : List ℕ) (ps : List ℤ) (s : Sender) → sender.Talk u sent ps s → floatsHeard ps ≡ samplesAt (allOnLine ps)
+as-floats u sent ps s k =
+    let r = ran u sent ps s k in
+    subst (λ (l : List ℤ). floatsHeard l ≡ samplesAt (allOnLine l)) (sym (r .written)) (floats u 0 (r .symbols) (width-sent u sent ps s k) (r .allowed))

@@ -1,0 +1,251 @@
+-- A receiver can have been told 4,294,967,295 symbols: at width 0 with a free start, all zeros are good symbols, and never are more than
+-- two of them pending. So 7 is not an empty promise.
+--   fine-end        every history that can be told is told by an opening and calls: its receiver is an end
+--   histories-end   for each number up to 4,294,967,295 there is an end that has taken so many
+--   full            an end to which every good symbol is one too many
+-- All zeros are equally far from all points of width 0, so all sums stay equal, the first way into each state wins, and each column
+-- has the same steps (`Steady`).
+use mathlib.Core.Path.{_≡_, refl, sym, ap, ap₂, subst, _∙_}
+use mathlib.Core.Bool.{Bool, true, cond}
+use mathlib.Core.List.{List, [], _∷_, map}
+use Prim.Native.Nat.{ℕ, zero, suc, _+_, _-_, _*_, _%_, _≤_, _<_}
+use native.Mathlib.Omega.{arith}
+use borrow.Author.Tests.{lt-ltb, le-ltb, le-leb}
+use lib.Dec.{ltb}
+use lib.IntN.{ℤ, pos}
+use lib.ListN.{getD, length, take, replicate, length-replicate}
+use lib.Seq.{ext-getD}
+use Rattle.wei.specs.State.{before, carryI1, carryI2, between}
+use Rattle.wei.specs.Label.{secondLabel}
+use Rattle.wei.proofs.Finite.{equal1}
+use Rattle.wei.proofs.States.{before-below, between-below}
+use Rattle.points.specs.Points.{coordinates, aPoint}
+use Rattle.points.specs.Turn.{pointOf}
+use Rattle.trellis.specs.Lists.{Every}
+use Rattle.trellis.specs.Search.{range}
+use Rattle.trellis.specs.Ring.{seen, view}
+use Rattle.trellis.specs.Measure.{Two, free, GoodStart}
+use Rattle.trellis.specs.Pick.{keepN, least, near, gapOf, typeSum, bestI3}
+use Rattle.trellis.proofs.Ring.{seen-length, push-view}
+use Rattle.nearest.specs.declared.Received.{Received}
+use Rattle.nearest.specs.Line.{BothInRange, distance, lineDistance}
+use Rattle.nearest.specs.Found.{costOf, weighedOf}
+use Rattle.walk.specs.declared.Receiver.{Receiver}
+use Rattle.walk.specs.Select.{limit, sixteen, arrive, winner, sumAt, fromAt, stepAt, reachedOf, liveOf}
+use Rattle.walk.specs.Column.{Column, prevIn, picksOf, placed, heldOf, columnsOf, empty}
+use Rattle.walk.specs.Back.{allSubset, oneSubset, agreedFrom}
+use Rattle.walk.specs.Machine.{freshSums, opened, nextSums, nextSteps, pendingOf, agreedOf, keptOf, grown}
+use Rattle.walk.specs.Told.{Told, reason, givenOf, pendingAfter, Fine, FineList, machineAfter, machineOf, withHeard}
+use Rattle.walk.proofs.Lists.{sixteen-at}
+use Rattle.walk.proofs.Slots.{held-placed}
+use Rattle.walk.proofs.Owes.{owes}
+use Rattle.walk.proofs.Owed.{width-told, kept-told, fine-told, grown-told, fine-opened, fresh-most}
+use Rattle.calls.specs.Calls.{walk}
+use Rattle.receiver.specs.declared.Start.{Start}
+use Rattle.receiver.specs.declared.Start.the-variants.{Free, At}
+use Rattle.receiver.specs.declared.Answer.{Answer}
+use Rattle.receiver.specs.Given.{startOf, startFits}
+use Rattle.receiver.specs.Doors.{opening, End, fresh, heard}
+use Rattle.receiver.specs.Meaning.{pieceOwed}
+use Rattle.receiver.specs.Promise.{Hears}
+use Rattle.receiver.proofs.Doors.{hearing-owes}
+use Rattle.promises.specs.Table as table
+use Rattle.promises.proofs.Numbers.{said-is}
+use Rattle.promises.proofs.Clean.{every-take}
+use Rattle.promises.proofs.Demand1.{seven}
+
+abbrev zeros : Two Received
+zeros = record { first = record { x = pos 0; y = pos 0 }; second = record { x = pos 0; y = pos 0 } }
+
+zeros-good : BothInRange zeros
+zeros-good = record { first-in = record { x-in = omega arith; y-in = omega arith }; second-in = record { x-in = omega arith; y-in = omega arith } }
+
+abbrev told : ℕ → Told
+told n = record { u = 0; window = 64; start = free; heard = replicate n zeros }
+
+-- ---- one step over equal sums
+
+abbrev costs : List ℕ
+costs = weighedOf 0 zeros .costs
+
+costs-at : (i : ℕ) → i < 8 → getD costs i 0 ≡ 65536
+unfolding weighedOf costOf bestI3 typeSum gapOf near least lineDistance distance pointOf aPoint coordinates secondLabel
+costs-at = equal1 8 (λ i. getD costs i 0) (λ i. 65536) tt
+
+least-flat : (f : ℕ → ℕ) (c n : ℕ) → ((k : ℕ) → k ≤ n → f k ≡ c) → least f n ≡ 0
+unfolding least
+least-flat f c zero h = refl
+least-flat f c (suc n) h =
+    let e : least f n ≡ 0 = least-flat f c n (λ k l. h k (omega arith)) in
+    ap₂ (λ (b : Bool) (k : ℕ). keepN b k (suc n)) (le-ltb (f (suc n)) (f (least f n)) (omega (arith, h (suc n) (omega arith), ap f e, h 0 (omega arith)))) e
+
+-- the steps of the first way into each state
+abbrev steps : List ℕ
+steps = sixteen (λ t. 8 * before t 0 + between (before t 0) t)
+
+sixteen-same : (f g : ℕ → ℕ) → ((s : ℕ) → s < 16 → f s ≡ g s) → sixteen f ≡ sixteen g
+sixteen-same f g h = ext-getD 0 (sixteen f) (sixteen g) refl (λ s k. sixteen-at f s k ∙ h s k ∙ sym (sixteen-at g s k))
+
+module _ (v : ℕ) (small : v + 65536 < limit) where
+  abbrev flat : List ℕ
+  flat = sixteen (λ s. v)
+
+  module _ (t : ℕ) (h : t < 16) where
+    arrives : (k : ℕ) → k ≤ 3 → arrive flat costs t k ≡ v + 65536
+    unfolding arrive
+    arrives k l = ap₂ (λ (a b : ℕ). a + b) (sixteen-at (λ s. v) (before t k) (before-below t k h (omega arith))) (costs-at (between (before t k) t) (between-below (before t k) t))
+
+    wins : winner flat costs t ≡ 0
+    unfolding winner
+    wins = least-flat (arrive flat costs t) (v + 65536) 3 arrives
+
+    sum-is : sumAt flat costs t ≡ v + 65536
+    unfolding sumAt
+    sum-is = ap (arrive flat costs t) wins ∙ arrives 0 (omega arith)
+
+    step-is : stepAt flat costs t ≡ 8 * before t 0 + between (before t 0) t
+    unfolding stepAt fromAt
+    step-is =
+        let e : cond (ltb (sumAt flat costs t) limit) (before t (winner flat costs t)) 0 ≡ before t 0 =
+        rw (lt-ltb (sumAt flat costs t) limit (omega (arith, sum-is))) (ap (before t) wins) in
+        ap (λ (s : ℕ). 8 * s + between s t) e
+
+  sums-next : sixteen (sumAt flat costs) ≡ sixteen (λ s. v + 65536)
+  sums-next = sixteen-same (sumAt flat costs) (λ s. v + 65536) sum-is
+
+  steps-next : sixteen (stepAt flat costs) ≡ steps
+  steps-next = sixteen-same (stepAt flat costs) (λ t. 8 * before t 0 + between (before t 0) t) step-is
+
+  all-live : liveOf (sixteen (λ s. v + 65536)) ≡ range 0 16
+  unfolding liveOf reachedOf range
+  all-live = rw (lt-ltb (v + 65536) limit small)
+
+-- ---- two stay pending
+
+abbrev Same : Column → Type 0
+Same c = c .steps ≡ steps
+
+kept-few : (cs : List Column) → Every Same cs → length cs ≤ 2 → length cs + 1 - agreedFrom cs (map (prevIn steps) (range 0 16)) (length cs) ≤ 2
+unfolding agreedFrom oneSubset allSubset range before between carryI1 carryI2
+kept-few [] e h = omega arith
+kept-few (c ∷ []) e h = rw (e .0) (omega arith)
+kept-few (c ∷ d ∷ []) e h = rw (e .0, e .1 .0) (omega arith)
+kept-few (c ∷ d ∷ x ∷ cs) e h = absurd (omega arith)
+
+record Steady (n : ℕ) : Type 0 where
+  fine : Fine (told n)
+  sums : machineOf (told n) .sums ≡ sixteen (λ s. 65536 * n)
+  few : machineOf (told n) .core .pending ≤ 2
+  columns : Every Same (pendingOf (machineOf (told n)))
+
+module _ (n : ℕ) (S : Steady n) (more : n < 4294967295) where
+  abbrev rx : Receiver
+  rx = machineOf (told n)
+
+  not-many : length (replicate n zeros) < 4294967295
+  not-many = omega (arith, length-replicate n zeros)
+
+  small : 65536 * n + 65536 < limit
+  small = omega arith
+
+  costs-are : weighedOf (rx .core .u) zeros .costs ≡ costs
+  costs-are = ap (λ (u : ℕ). weighedOf u zeros .costs) (width-told (told n) (S .fine))
+
+  next-sums : nextSums rx zeros ≡ sixteen (λ s. 65536 * n + 65536)
+  next-sums = ap₂ (λ (l c : List ℕ). sixteen (sumAt l c)) (S .sums) costs-are ∙ sums-next (65536 * n) small
+
+  next-steps : nextSteps rx zeros ≡ steps
+  next-steps = ap₂ (λ (l c : List ℕ). sixteen (stepAt l c)) (S .sums) costs-are ∙ steps-next (65536 * n) small
+
+  columns-long : length (pendingOf rx) ≡ rx .core .pending
+  columns-long = seen-length empty (heldOf (rx .core .slot) (rx .core .pending) (rx .steps) (rx .picks) .ring) (rx .core .slot) (rx .core .pending)
+
+  agreed-is : agreedOf rx zeros ≡ agreedFrom (pendingOf rx) (map (prevIn steps) (range 0 16)) (length (pendingOf rx))
+  unfolding agreedOf
+  agreed-is =
+      ap₂ (λ (l s : List ℕ). agreedFrom (pendingOf rx) (map (prevIn s) (liveOf l)) (rx .core .pending)) next-sums next-steps
+      ∙ ap₂ (λ (l : List ℕ) (k : ℕ). agreedFrom (pendingOf rx) (map (prevIn steps) l) k) (all-live (65536 * n) small) (sym columns-long)
+
+  kept-two : keptOf rx zeros ≤ 2
+  kept-two = omega (arith, kept-few (pendingOf rx) (S .columns) (omega (arith, columns-long, S .few)), agreed-is, columns-long)
+
+  abbrev newest : Column
+  newest = record { steps = nextSteps rx zeros; picks = picksOf (weighedOf (rx .core .u) zeros) }
+
+  columns-next : columnsOf ((rx .core .slot + 1) % 64) (keptOf rx zeros) (placed (rx .steps) (rx .core .slot) (newest .steps)) (placed (rx .picks) (rx .core .slot) (newest .picks)) ≡ take (keptOf rx zeros) (newest ∷ pendingOf rx)
+  unfolding weighedOf
+  columns-next =
+      let k = owes (told n) (S .fine) .keeps in
+      let r = heldOf (rx .core .slot) (rx .core .pending) (rx .steps) (rx .picks) in
+      ap (view empty) (held-placed (rx .steps) (rx .picks) (rx .core .slot) newest (k .steps-long) (k .picks-long) (k .holds .sound .slot-below) refl refl (rx .core .pending) (keptOf rx zeros))
+      ∙ push-view empty newest (keptOf rx zeros) r (k .holds .sound) (omega (arith, kept-two)) (omega arith)
+
+  grown-steady : (machineOf (told (suc n)) ≡ grown rx zeros) → Steady (suc n)
+  unfolding grown
+  grown-steady e =
+      record {
+        fine = fine-told (told n) (S .fine) zeros zeros-good not-many (omega (arith, kept-two, kept-told (told n) (S .fine) zeros zeros-good not-many));
+        sums = ap (λ (x : Receiver). x .sums) e ∙ next-sums ∙ ap (λ (v : ℕ). sixteen (λ s. v)) (let z : 65536 * n + 65536 ≡ 65536 * suc n = omega arith in z);
+        few = subst (λ (x : Receiver). x .core .pending ≤ 2) (sym e) kept-two;
+        columns = subst (λ (x : Receiver). Every Same (pendingOf x)) (sym e) (subst (Every Same) (sym columns-next) (every-take Same (keptOf rx zeros) (newest ∷ pendingOf rx) (next-steps, S .columns)));
+      }
+
+steady : (n : ℕ) → n ≤ 4294967295 → Steady n
+unfolding machineAfter opened freshSums seen
+steady zero h = record { fine = fine-opened 0 64 free (omega arith) (omega arith) (omega arith) tt; sums = refl; few = omega arith; columns = tt }
+steady (suc n) h =
+    let s = steady n (omega arith) in
+    grown-steady n s (omega arith) (grown-told (told n) (s .fine) zeros)
+
+-- ---- what can be told, calls can tell
+
+-- the four coordinates of a received symbol
+abbrev fourOf : Two Received → List ℤ
+fourOf y = y .first .x ∷ y .first .y ∷ y .second .x ∷ y .second .y ∷ []
+
+-- `hear` answers 7 to every good symbol
+abbrev pub AnswersSeven : Receiver → Type 0
+AnswersSeven rx = (y : Two Received) → BothInRange y → (out : List ℕ) (r : Answer) (o : List ℕ) → Hears rx (fourOf y) out r o → givenOf (r .why) ≡ reason 7
+
+fine-same : (t : Told) (zs ys : List (Two Received)) → FineList (withHeard t zs) ys → FineList t ys
+fine-same t zs [] f = tt
+fine-same t zs (y ∷ ys) f = (f .0, f .1, fine-same t zs ys (f .2))
+
+start-fits : (b : Start) → GoodStart (startOf b) → startFits b ≡ true
+start-fits Free g = refl
+start-fits (At n) g = le-leb n 15 (omega arith)
+
+-- one symbol that is not one to refuse, as a piece with room for 64 words
+heard-one : (t : Told) (f : Fine t) (y : Two Received) → BothInRange y → length (t .heard) < 4294967295 → pendingAfter t (y ∷ t .heard) ≤ t .window →
+    pieceOwed t (fourOf y) 64 .told ≡ withHeard t (y ∷ t .heard)
+unfolding pieceOwed walk
+heard-one t f y r few h = rw (said-is t (t .heard) y 64 (reason 0) (table.Said.taken r few h (fresh-most t f y r few)))
+
+module _ (u w : ℕ) (b : Start) where
+  abbrev after : List (Two Received) → Told
+  after ys = record { u = u; window = w; start = startOf b; heard = ys }
+
+  pub fine-end : (ys : List (Two Received)) → Fine (after ys) → End (machineOf (after ys))
+  unfolding machineAfter opening
+  fine-end [] f =
+      subst End (let e : opening u w b .receiver ≡ opened u w (startOf b) = rw (le-leb u 8 (f .width), le-leb 1 w (f .some-window), le-leb w 64 (f .small-window), start-fits b (f .good-start)) in e) (fresh u w b)
+  fine-end (y ∷ ys) f =
+      let few : length ys < 4294967295 = omega (arith, f .few) in
+      let g : Fine (after ys) =
+      record { width = f .width; some-window = f .some-window; small-window = f .small-window; good-start = f .good-start; few = omega arith; each = fine-same (after ys) (y ∷ ys) ys (f .each .2) } in
+      subst End (hearing-owes (after ys) g (fourOf y) 64 .receiver ∙ ap machineOf (heard-one (after ys) g y (f .each .0) few (f .each .1))) (heard (fine-end ys g) (fourOf y) 64)
+
+-- so for each number there is an end that has taken so many; and one that has taken 4,294,967,295 answers 7
+pub histories-end : (n : ℕ) → n ≤ 4294967295 → (rx : Receiver) × End rx × (rx .core .taken ≡ n) × (n ≡ 4294967295 → AnswersSeven rx)
+unfolding pieceOwed walk
+histories-end n h =
+    let f = steady n h .fine in
+    let l = length-replicate n zeros in (
+      machineOf (told n),
+      fine-end 0 64 Free (replicate n zeros) f,
+      owes (told n) f .keeps .taken ∙ l,
+      λ e y g out r o p. p .owed (told n) f refl .given ∙ rw (seven (told n) (replicate n zeros) y (length out) (l ∙ e) g),
+    )
+
+pub full : (rx : Receiver) × End rx × AnswersSeven rx
+full = let (rx, e, c, s) = histories-end 4294967295 (omega arith) in (rx, e, s refl)

@@ -1,0 +1,248 @@
+-- The numbers of each door, by what specs/Table says of them: the number that is given is one that the table gives (the laws `..-case`),
+-- and what the table gives is the number (the laws `..-is`).
+--   Known, end-known   an end is closed, or it has been told something
+use mathlib.Core.Path.{_≡_, refl, sym, ap, subst, _∙_}
+use mathlib.Core.Bool.{Bool, true, false, cond, _&&_}
+use mathlib.Core.Logic.{_⊎_, inl, inr, ⊎-elim}
+use mathlib.Core.List.{List, [], _∷_, _++_, reverse, reverse-append, reverse-reverse}
+use Prim.Native.Nat.{ℕ, suc, _-_, _%_, _<_}
+use native.Mathlib.Nat.{sub-zero}
+use native.Mathlib.Omega.{arith}
+use borrow.Author.Tests.{ltb-true, ltb-false, leb-true, leb-false, eqb-true, eqb-false, lt-ltb, le-ltb, le-leb, lt-leb}
+use lib.Dec.{eqb, leb, ltb}
+use lib.IntN.{ℤ}
+use lib.ListN.{length, take, drop, length-append, drop-of-length-le}
+use Rattle.calls.specs.Calls.{Ended, fresh, rest, after, walk}
+use Rattle.calls.proofs.Steps.{walk-heard}
+use Rattle.trellis.specs.Measure.{Two}
+use Rattle.nearest.specs.declared.Received.{Received}
+use Rattle.walk.specs.declared.Receiver.{Receiver}
+use Rattle.walk.specs.declared.Why.the-variants.{Done, BadWidth, BadWindow, BadStart, NoRoom, Closed}
+use Rattle.walk.specs.Machine.{opened, shut, lastWords, sound}
+use Rattle.walk.specs.Told.{Told, Reason, reason, speakerOf, judgeOf, judgeSymbol, pendingAfter, faultOf, Fine, machineOf, withHeard}
+use Rattle.walk.proofs.Owed.{no-fault}
+use Rattle.sender.specs.declared.Sender.{Sender}
+use Rattle.sender.specs.Send as sender
+use Rattle.sender.proofs.Sound.{end-sound}
+use Rattle.sender.proofs.Exactly as sending
+use Rattle.receiver.specs.declared.Start.{Start}
+use Rattle.receiver.specs.declared.Start.the-variants.{Free, At}
+use Rattle.receiver.specs.Given.{startOf, startFits}
+use Rattle.receiver.specs.Doors.{Opening, notOpened, opening, symbolsOf, Ran, stopped, hearing, finishing, End, fresh as fresh-end, heard, finished}
+use Rattle.receiver.specs.Meaning.{Owed, endedOf, pieceOwed, FinishOwed, finishOwed, openingOwed}
+use Rattle.receiver.proofs.Symbols as symbols
+use Rattle.receiver.proofs.Doors.{hearing-owes}
+use Rattle.receiver.proofs.Settled.{told-or-shut}
+use Rattle.promises.specs.Table as table
+
+-- ---- the sender
+
+sender-shut : (s : Sender) → s .live ≡ false → sender.sound s ≡ false
+sender-shut s e = rw e
+
+pub sender-opening-case : (u : ℕ) → table.SenderOpens u (sender.opening u .number)
+unfolding sender.opening
+sender-opening-case u = go (leb u 8) refl
+  where
+    go : (b : Bool) → leb u 8 ≡ b → table.SenderOpens u (cond {A = sender.Given} b (record { number = 0; sender = sender.fresh u; output = [] }) (record { number = 1; sender = sender.shut; output = [] }) .number)
+    go true e = table.SenderOpens.done (leb-true u 8 e)
+    go false e = table.SenderOpens.one (leb-false u 8 e)
+
+pub sender-opening-is : (u k : ℕ) → table.SenderOpens u k → sender.opening u .number ≡ k
+unfolding sender.opening
+sender-opening-is u k (table.SenderOpens.one h) = rw (lt-leb u 8 h)
+sender-opening-is u k (table.SenderOpens.done h) = rw (le-leb u 8 h)
+
+module _ (s : Sender) (e : sender.End s) (n : ℕ) (out : List ℤ) where
+  live-sound : (b : Bool) → s .live ≡ b → sender.sound s ≡ b
+  live-sound true l = end-sound s e l
+  live-sound false l = sender-shut s l
+
+  shut-live : (b : Bool) → s .live ≡ b → sender.sound s ≡ false → s .live ≡ false
+  shut-live true l z = absurd (let x : _≡_ {A = Bool} true false = sym (end-sound s e l) ∙ z in let y : _≡_ {A = ℕ} 0 1 = cc in omega arith)
+  shut-live false l z = l
+
+  sound-live : (b : Bool) → s .live ≡ b → sender.sound s ≡ true → s .live ≡ true
+  sound-live true l z = l
+  sound-live false l z = absurd (let x : _≡_ {A = Bool} false true = sym (sender-shut s l) ∙ z in let y : _≡_ {A = ℕ} 0 1 = cc in omega arith)
+
+  pub sending-case : table.Sends s n out (sender.sending s n out .number)
+  sending-case = go (sender.sending s n out) (sending.outcome s n out)
+    where
+      go : (g : sender.Given) → sending.Outcome s n out g → table.Sends s n out (g .number)
+      go g (sending.closed f) = table.Sends.nine (shut-live (s .live) refl f)
+      go g (sending.bad-word f w) = table.Sends.four (sound-live (s .live) refl f) w
+      go g (sending.no-room f w l) = table.Sends.eight (sound-live (s .live) refl f) w l
+      go g (sending.taken f w l) = table.Sends.done (sound-live (s .live) refl f) w l
+
+  pub sending-is : (k : ℕ) → table.Sends s n out k → sender.sending s n out .number ≡ k
+  unfolding sender.sending
+  sending-is k (table.Sends.nine l) = rw (live-sound false l)
+  sending-is k (table.Sends.four l w) = rw (live-sound true l, w)
+  sending-is k (table.Sends.eight l w r) = rw (live-sound true l, w, lt-leb 4 (length out) r)
+  sending-is k (table.Sends.done l w r) = rw (live-sound true l, w, le-leb 4 (length out) r)
+
+-- ---- the receiver's opening
+
+no-start : (b : Start) → startFits b ≡ false → (n : ℕ) × (b ≡ At n) × (15 < n)
+no-start Free e = absurd (let y : _≡_ {A = ℕ} 0 1 = cc in omega arith)
+no-start (At n) e = (n, refl, leb-false n 15 e)
+
+module _ (u w : ℕ) (b : Start) where
+  pub opening-case : table.ReceiverOpens u w b (openingOwed u w b)
+  unfolding openingOwed
+  opening-case = go (ltb 8 u) (leb 1 w) (leb w 64) (startFits b) refl refl refl refl
+    where
+      go : (p q r s : Bool) → ltb 8 u ≡ p → leb 1 w ≡ q → leb w 64 ≡ r → startFits b ≡ s → table.ReceiverOpens u w b (cond p 1 (cond (q && r) (cond s 0 3) 2))
+      go true q r s e f g h = table.ReceiverOpens.one (ltb-true 8 u e)
+      go false false r s e f g h = table.ReceiverOpens.two (ltb-false 8 u e) (inl (omega (arith, leb-false 1 w f)))
+      go false true false s e f g h = table.ReceiverOpens.two (ltb-false 8 u e) (inr (leb-false w 64 g))
+      go false true true false e f g h = let (n, i, l) = no-start b h in table.ReceiverOpens.three (ltb-false 8 u e) (leb-true 1 w f) (leb-true w 64 g) n i l
+      go false true true true e f g h = table.ReceiverOpens.done (ltb-false 8 u e) (leb-true 1 w f) (leb-true w 64 g) h
+
+  pub opening-is : (k : ℕ) → table.ReceiverOpens u w b k → openingOwed u w b ≡ k
+  unfolding openingOwed
+  opening-is k (table.ReceiverOpens.one h) = rw (lt-ltb 8 u h)
+  opening-is k (table.ReceiverOpens.two h (inl z)) = rw (le-ltb 8 u h, z)
+  opening-is k (table.ReceiverOpens.two h (inr z)) = rw (le-ltb 8 u h, le-leb 1 w (omega arith), lt-leb w 64 z)
+  opening-is k (table.ReceiverOpens.three h i j n e l) = rw (le-ltb 8 u h, le-leb 1 w i, le-leb w 64 j, e, lt-leb n 15 l)
+  opening-is k (table.ReceiverOpens.done h i j s) = rw (le-ltb 8 u h, le-leb 1 w i, le-leb w 64 j, s)
+
+-- ---- a symbol
+
+module _ (t : Told) (ys : List (Two Received)) (y : Two Received) (room : ℕ) where
+  pub said-case : table.Said t ys y room (judgeSymbol t ys y room)
+  unfolding judgeSymbol
+  said-case = go (ltb (faultOf y) 4) (leb 4294967295 (length ys)) (ltb (t .window) (pendingAfter t (y ∷ ys))) (ltb room (length (fresh (speakerOf t) ys y))) refl refl refl refl
+    where
+      go : (a b c d : Bool) → ltb (faultOf y) 4 ≡ a → leb 4294967295 (length ys) ≡ b → ltb (t .window) (pendingAfter t (y ∷ ys)) ≡ c → ltb room (length (fresh (speakerOf t) ys y)) ≡ d →
+          table.Said t ys y room (cond a (record { number = 5; place = faultOf y }) (cond b (reason 7) (cond c (reason 6) (cond d (reason 8) (reason 0)))))
+      go true b c d e f g h = table.Said.five (ltb-true (faultOf y) 4 e)
+      go false true c d e f g h = table.Said.seven (symbols.no-fault y e) (leb-true 4294967295 (length ys) f)
+      go false false true d e f g h = table.Said.six (symbols.no-fault y e) (leb-false 4294967295 (length ys) f) (ltb-true (t .window) (pendingAfter t (y ∷ ys)) g)
+      go false false false true e f g h =
+          table.Said.eight (symbols.no-fault y e) (leb-false 4294967295 (length ys) f) (ltb-false (t .window) (pendingAfter t (y ∷ ys)) g) (ltb-true room (length (fresh (speakerOf t) ys y)) h)
+      go false false false false e f g h =
+          table.Said.taken (symbols.no-fault y e) (leb-false 4294967295 (length ys) f) (ltb-false (t .window) (pendingAfter t (y ∷ ys)) g) (ltb-false room (length (fresh (speakerOf t) ys y)) h)
+
+  pub said-is : (g : Reason) → table.Said t ys y room g → judgeSymbol t ys y room ≡ g
+  unfolding judgeSymbol
+  said-is g (table.Said.five h) = rw (lt-ltb (faultOf y) 4 h)
+  said-is g (table.Said.seven r n) = rw (no-fault y r, le-leb 4294967295 (length ys) n)
+  said-is g (table.Said.six r n p) = rw (no-fault y r, lt-leb 4294967295 (length ys) n, lt-ltb (t .window) (pendingAfter t (y ∷ ys)) p)
+  said-is g (table.Said.eight r n p q) =
+      rw (no-fault y r, lt-leb 4294967295 (length ys) n, le-ltb (t .window) (pendingAfter t (y ∷ ys)) p, lt-ltb room (length (fresh (speakerOf t) ys y)) q)
+  said-is g (table.Said.taken r n p q) =
+      rw (no-fault y r, lt-leb 4294967295 (length ys) n, le-ltb (t .window) (pendingAfter t (y ∷ ys)) p, le-ltb room (length (fresh (speakerOf t) ys y)) q)
+
+-- ---- a piece
+
+-- how the symbols zs went after ys: all taken, or up to the first that is refused
+data Went (t : Told) (zs : List (Two Received)) (room : ℕ) (e : Ended (speakerOf t) (judgeOf t)) : Type 0 where
+  all : e .taken ≡ length zs → e .why ≡ reason 0 → Went t zs room e
+  some : (y : Two Received) (later : List (Two Received)) → drop (e .taken) zs ≡ y ∷ later → e .why ≡ judgeSymbol t (e .heard) y (room - length (e .said)) → (e .why .number ≡ 0 → ⊥) → Went t zs room e
+
+went : (t : Told) (ys zs : List (Two Received)) (room : ℕ) → Went t zs room (walk (speakerOf t) (judgeOf t) ys zs room)
+unfolding walk
+went t ys [] room = all refl refl
+went t ys (z ∷ zs) room =
+    let f = fresh (speakerOf t) ys z in
+    go (eqb (judgeSymbol t ys z room .number) 0) refl (walk (speakerOf t) (judgeOf t) (z ∷ ys) zs (room - length f)) (went t (z ∷ ys) zs (room - length f))
+  where
+    go : (b : Bool) → eqb (judgeSymbol t ys z room .number) 0 ≡ b → (e : Ended (speakerOf t) (judgeOf t)) → Went t zs (room - length (fresh (speakerOf t) ys z)) e →
+        Went t (z ∷ zs) room (after (speakerOf t) (judgeOf t) ys z (judgeSymbol t ys z room) b e)
+    go true q e (all m w) = all (ap suc m) w
+    go true q e (some y later d w n) =
+        let l : room - length (fresh (speakerOf t) ys z) - length (e .said) ≡ room - length (fresh (speakerOf t) ys z ++ e .said) =
+        omega (arith, length-append (fresh (speakerOf t) ys z) (e .said)) in
+        some y later d (w ∙ ap (judgeSymbol t (e .heard) y) l) n
+    go false q e x = some z zs refl (ap (judgeSymbol t ys z) (sym (sub-zero room))) (eqb-false (judgeSymbol t ys z room .number) 0 q)
+
+heard-then : (t : Told) (ys zs : List (Two Received)) (room : ℕ) → let e = walk (speakerOf t) (judgeOf t) ys zs room in e .heard ≡ reverse (take (e .taken) zs) ++ ys
+heard-then t ys zs room =
+    let e = walk (speakerOf t) (judgeOf t) ys zs room in
+    sym (reverse-reverse (e .heard)) ∙ ap reverse (walk-heard (speakerOf t) (judgeOf t) ys zs room) ∙ reverse-append (reverse ys) (take (e .taken) zs)
+    ∙ ap (λ (l : List (Two Received)). reverse (take (e .taken) zs) ++ l) (reverse-reverse ys)
+
+module _ (t : Told) (xs : List ℤ) (room : ℕ) where
+  pub piece-case : let d = pieceOwed t xs room in table.Hears t xs room (d .taken) (length (d .words)) (d .reason)
+  unfolding pieceOwed
+  piece-case = go (eqb (length xs % 4) 0) refl
+    where
+      e : Ended (speakerOf t) (judgeOf t)
+      e = endedOf t xs room
+
+      walked : length xs % 4 ≡ 0 → Went t (symbolsOf xs) room e → table.Hears t xs room (e .taken) (length (e .said)) (e .why)
+      walked z (all m w) = subst (table.Hears t xs room (e .taken) (length (e .said))) (sym w) (table.Hears.whole z m)
+      walked z (some y later d w n) =
+          table.Hears.stopped z y later d (e .why) n
+          (subst (table.Said t (reverse (take (e .taken) (symbolsOf xs)) ++ t .heard) y (room - length (e .said))) (sym (w ∙ ap (λ (l : List (Two Received)). judgeSymbol t l y (room - length (e .said))) (heard-then t (t .heard) (symbolsOf xs) room)))
+          (said-case t (reverse (take (e .taken) (symbolsOf xs)) ++ t .heard) y (room - length (e .said))))
+
+      go : (b : Bool) → eqb (length xs % 4) 0 ≡ b →
+          let d : Owed = cond b (record { reason = e .why; taken = e .taken; words = e .said; told = withHeard t (e .heard) }) (record { reason = reason 10; taken = 0; words = []; told = t }) in
+          table.Hears t xs room (d .taken) (length (d .words)) (d .reason)
+      go true q = walked (eqb-true (length xs % 4) 0 q) (went t (t .heard) (symbolsOf xs) room)
+      go false q = table.Hears.ten (eqb-false (length xs % 4) 0 q) refl refl
+
+-- one place has one next symbol
+not-more : (l : List (Two Received)) (m : ℕ) (y : Two Received) (later : List (Two Received)) → m ≡ length l → drop m l ≡ y ∷ later → ⊥
+not-more l m y later e d = let z : _≡_ {A = ℕ} 0 (suc (length later)) = ap length (sym (drop-of-length-le l {i = m} (omega arith)) ∙ d) in omega arith
+
+abbrev headOr : Two Received → List (Two Received) → Two Received
+headOr d [] = d
+headOr d (x ∷ l) = x
+
+pub piece-one : (t : Told) (xs : List ℤ) (room m n : ℕ) (g h : Reason) → table.Hears t xs room m n g → table.Hears t xs room m n h → g ≡ h
+piece-one t xs room m n g h (table.Hears.ten a p q) (table.Hears.ten b r s) = refl
+piece-one t xs room m n g h (table.Hears.ten a p q) (table.Hears.whole b r) = absurd (a b)
+piece-one t xs room m n g h (table.Hears.ten a p q) (table.Hears.stopped b y later d g′ z s) = absurd (a b)
+piece-one t xs room m n g h (table.Hears.whole a p) (table.Hears.ten b r s) = absurd (b a)
+piece-one t xs room m n g h (table.Hears.whole a p) (table.Hears.whole b r) = refl
+piece-one t xs room m n g h (table.Hears.whole a p) (table.Hears.stopped b y later d g′ z s) = absurd (not-more (symbolsOf xs) m y later p d)
+piece-one t xs room m n g h (table.Hears.stopped a y later d g′ z s) (table.Hears.ten b r q) = absurd (b a)
+piece-one t xs room m n g h (table.Hears.stopped a y later d g′ z s) (table.Hears.whole b r) = absurd (not-more (symbolsOf xs) m y later r d)
+piece-one t xs room m n g h (table.Hears.stopped a y later d g′ z s) (table.Hears.stopped b y₂ later₂ d₂ g₂ z₂ s₂) =
+    let ys = reverse (take m (symbolsOf xs)) ++ t .heard in
+    let e : y ≡ y₂ = ap (headOr y) (sym d ∙ d₂) in
+    sym (said-is t ys y (room - n) g s) ∙ ap (λ (x : Two Received). judgeSymbol t ys x (room - n)) e ∙ said-is t ys y₂ (room - n) h s₂
+
+-- ---- a finish
+
+module _ (t : Told) (room : ℕ) where
+  pub finish-case : table.Finishes t room (finishOwed t room .reason .number)
+  unfolding finishOwed
+  finish-case = go (ltb room (length (rest (speakerOf t) (t .heard)))) refl
+    where
+      go : (b : Bool) → ltb room (length (rest (speakerOf t) (t .heard))) ≡ b →
+          let d : FinishOwed = cond b (record { reason = reason 8; words = []; closes = false }) (record { reason = reason 0; words = rest (speakerOf t) (t .heard); closes = true }) in
+          table.Finishes t room (d .reason .number)
+      go true e = table.Finishes.eight (ltb-true room (length (rest (speakerOf t) (t .heard))) e)
+      go false e = table.Finishes.done (ltb-false room (length (rest (speakerOf t) (t .heard))) e)
+
+  pub finish-is : (k : ℕ) → table.Finishes t room k → finishOwed t room .reason .number ≡ k
+  unfolding finishOwed
+  finish-is k (table.Finishes.eight h) = rw (lt-ltb room (length (rest (speakerOf t) (t .heard))) h)
+  finish-is k (table.Finishes.done h) = rw (le-ltb room (length (rest (speakerOf t) (t .heard))) h)
+
+-- ---- ends
+
+pub record Known (rx : Receiver) : Type 0 where
+  pub told : Told
+  pub fine : Fine told
+  pub machine : rx ≡ machineOf told
+
+shut-sound : sound shut ≡ false
+unfolding sound shut
+shut-sound = refl
+
+pub shut-hears : (xs : List ℤ) (room : ℕ) → hearing shut xs room ≡ stopped shut Closed
+unfolding hearing
+shut-hears xs room = rw shut-sound
+
+pub shut-finishes : (room : ℕ) → finishing shut room ≡ stopped shut Closed
+unfolding finishing
+shut-finishes room = rw shut-sound
+
+pub end-known : (rx : Receiver) → End rx → (rx ≡ shut) ⊎ Known rx
+end-known rx e = ⊎-elim (λ z. inl z) (λ z. let (t, f, m) = z in inr (record { told = t; fine = f; machine = m })) (told-or-shut rx e)

@@ -1,0 +1,53 @@
+-- A clean line between the two ends: every point that the sender wrote is heard where it stands. From 01: "Point coordinate c stands at
+-- 128·c". Lists are in the order of time.
+--   onLine c              a point's coordinate as a received one
+--   allOnLine ps          the same of all coordinates that a sender wrote
+--   heardExactly c        the received symbol at the two points of the symbol c
+--   cleanly u sent        what is heard, on a clean line, of a fresh sender of width u that accepted the words `sent`
+--   floatsHeard ps        what the front end gives for the coordinates ps, two to a sample, each as an f32
+--   samplesAt ps          samples, none refused, at the coordinates ps
+--   StartsAtZero b        the state 0, in which a sender starts, may stand first: the start is free or names 0
+use Prim.Native.Nat.{ℕ}
+use mathlib.Core.List.{List, [], _∷_, map}
+use lib.Dec.{T}
+use lib.IntN.{ℤ, pos, _*ℤ_}
+use lib.Ieee.{binary32, ofInt}
+use Rattle.samples.specs.Given.{GivenSample, bothDone}
+use Rattle.samples.specs.Heard.{heardSample}
+use Rattle.wei.specs.Symbol.{Symbol, symbolsFrom}
+use Rattle.points.specs.declared.Point.{Point}
+use Rattle.points.specs.Pair.{firstPoint, secondPoint}
+use Rattle.trellis.specs.Measure.{Two, mayStart}
+use Rattle.nearest.specs.declared.Received.{Received}
+use Rattle.receiver.specs.declared.Start.{Start}
+use Rattle.receiver.specs.Given.{startOf}
+
+abbrev pub onLine : ℤ → ℤ
+onLine c = pos 128 *ℤ c
+
+abbrev pub allOnLine : List ℤ → List ℤ
+allOnLine ps = map onLine ps
+
+abbrev pub heardAt : Point → Received
+heardAt p = record { x = onLine (p .x); y = onLine (p .y) }
+
+abbrev pub heardExactly : Symbol → Two Received
+heardExactly c = record { first = heardAt (firstPoint c); second = heardAt (secondPoint c) }
+
+-- "The sender starts in state 0"; "q starts at 0"
+abbrev pub cleanly : ℕ → List ℕ → List (Two Received)
+cleanly u sent = map heardExactly (symbolsFrom u 0 0 sent)
+
+abbrev pub StartsAtZero : Start → Type 0
+StartsAtZero b = T (mayStart (startOf b) 0)
+
+-- "A front end gives each 2D sample as a pair of f32"
+abbrev pub floatsHeard : List ℤ → List GivenSample
+floatsHeard (x ∷ y ∷ ps) = heardSample (ofInt binary32 x) (ofInt binary32 y) ∷ floatsHeard ps
+floatsHeard (x ∷ []) = []
+floatsHeard [] = []
+
+abbrev pub samplesAt : List ℤ → List GivenSample
+samplesAt (x ∷ y ∷ ps) = bothDone x y ∷ samplesAt ps
+samplesAt (x ∷ []) = []
+samplesAt [] = []

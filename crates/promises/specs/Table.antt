@@ -1,0 +1,66 @@
+-- 01's table "Numbers given back", door by door: each number with all that is so when it is given, the tests before it in their order
+-- among them. Demand 1 says that a number is given exactly then (proofs/Demand1).
+--   SenderOpens u k         the sender's opening gives k
+--   Sends s n out k         sending the word n into `out` gives k
+--   ReceiverOpens u w b k   the receiver's opening gives k
+--   Said t ys y room g      the symbol y, heard after ys with room for so many words, is answered with g
+--   Hears t xs room m n g   a piece xs gives g, after m symbols taken and n words written
+--   Finishes t room k       a finish gives k
+-- A receiver that has been told t is open; a closed one is answered 9, as said in proofs/Demand1.
+use Prim.Native.Nat.{ℕ, _-_, _%_, _≤_, _<_}
+use mathlib.Core.Path.{_≡_}
+use mathlib.Core.Bool.{true, false}
+use mathlib.Core.Logic.{_⊎_}
+use mathlib.Core.List.{List, _∷_, _++_, reverse}
+use lib.IntN.{ℤ}
+use lib.ListN.{length, take, drop}
+use Rattle.wei.specs.Word.{isWord}
+use Rattle.calls.specs.Calls.{fresh, rest}
+use Rattle.trellis.specs.Measure.{Two}
+use Rattle.nearest.specs.declared.Received.{Received}
+use Rattle.nearest.specs.Line.{BothInRange}
+use Rattle.walk.specs.Told.{Told, Reason, reason, speakerOf, pendingAfter, faultOf}
+use Rattle.sender.specs.declared.Sender.{Sender}
+use Rattle.receiver.specs.declared.Start.{Start}
+use Rattle.receiver.specs.declared.Start.the-variants.{At}
+use Rattle.receiver.specs.Given.{startFits}
+use Rattle.receiver.specs.Doors.{symbolsOf}
+
+-- "u above 8 at an opening"; "a sender has only 1"
+pub data SenderOpens (u : ℕ) : ℕ → Type 0 where
+  one : 8 < u → SenderOpens u 1
+  done : u ≤ 8 → SenderOpens u 0
+
+-- "Sending one word: 9, 4, 8"
+pub data Sends (s : Sender) (n : ℕ) (out : List ℤ) : ℕ → Type 0 where
+  nine : s .live ≡ false → Sends s n out 9
+  four : s .live ≡ true → isWord (s .u) n ≡ false → Sends s n out 4
+  eight : s .live ≡ true → isWord (s .u) n ≡ true → length out < 4 → Sends s n out 8
+  done : s .live ≡ true → isWord (s .u) n ≡ true → 4 ≤ length out → Sends s n out 0
+
+-- "Opening order: 1, 2, 3": "u above 8", "window not 1 to 64", "named start above 15"
+pub data ReceiverOpens (u w : ℕ) (b : Start) : ℕ → Type 0 where
+  one : 8 < u → ReceiverOpens u w b 1
+  two : u ≤ 8 → (w ≡ 0) ⊎ (64 < w) → ReceiverOpens u w b 2
+  three : u ≤ 8 → 1 ≤ w → w ≤ 64 → (n : ℕ) → b ≡ At n → 15 < n → ReceiverOpens u w b 3
+  done : u ≤ 8 → 1 ≤ w → w ≤ 64 → startFits b ≡ true → ReceiverOpens u w b 0
+
+-- "symbol by symbol 5, 7, 6, 8"
+pub data Said (t : Told) (ys : List (Two Received)) (y : Two Received) (room : ℕ) : Reason → Type 0 where
+  five : faultOf y < 4 → Said t ys y room (record { number = 5; place = faultOf y })
+  seven : BothInRange y → 4294967295 ≤ length ys → Said t ys y room (reason 7)
+  six : BothInRange y → length ys < 4294967295 → t .window < pendingAfter t (y ∷ ys) → Said t ys y room (reason 6)
+  eight : BothInRange y → length ys < 4294967295 → pendingAfter t (y ∷ ys) ≤ t .window → room < length (fresh (speakerOf t) ys y) → Said t ys y room (reason 8)
+  taken : BothInRange y → length ys < 4294967295 → pendingAfter t (y ∷ ys) ≤ t .window → length (fresh (speakerOf t) ys y) ≤ room → Said t ys y room (reason 0)
+
+-- "A piece: 9, 10, then symbol by symbol .., stopping at the first refusal. Earlier symbols of that piece stay taken"
+pub data Hears (t : Told) (xs : List ℤ) (room m n : ℕ) : Reason → Type 0 where
+  ten : (length xs % 4 ≡ 0 → ⊥) → m ≡ 0 → n ≡ 0 → Hears t xs room m n (reason 10)
+  whole : length xs % 4 ≡ 0 → m ≡ length (symbolsOf xs) → Hears t xs room m n (reason 0)
+  stopped : length xs % 4 ≡ 0 → (y : Two Received) (later : List (Two Received)) → drop m (symbolsOf xs) ≡ y ∷ later →
+      (g : Reason) → (g .number ≡ 0 → ⊥) → Said t (reverse (take m (symbolsOf xs)) ++ t .heard) y (room - n) g → Hears t xs room m n g
+
+-- "Finish: 9, 8"; "Need for 8: room .. at finish for all pending words"
+pub data Finishes (t : Told) (room : ℕ) : ℕ → Type 0 where
+  eight : room < length (rest (speakerOf t) (t .heard)) → Finishes t room 8
+  done : length (rest (speakerOf t) (t .heard)) ≤ room → Finishes t room 0

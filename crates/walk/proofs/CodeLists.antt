@@ -1,15 +1,19 @@
--- Lists that a loop fills or changes from the front.
---   tabled f n           f at the numbers below n; tabled-more, one store more of a list that is filled with it
---   mapped f l i         l with f at its first i places; mapped-at, mapped-more, a read and a store of a loop that makes it
---   said-more            one word more of an output
+-- Lists that a loop fills or changes from the front, and their places.
+--   set-next                  a store in the place after those filled
+--   tabled f n                f at the numbers below n; tabled-more, one store more
+--   mapped f l i              l with f at its first i places; mapped-at, mapped-more, a read and a store more; mapped-all, the end
+--   three-listed              three lists by their places, one after the other
+--   map-each                  what holds at each place of a mapped list
+--   last-of, earlier-of       the places of a list that grew by one
+--   and-both                  both of two tests
 use mathlib.Core.Path.{_≡_, refl, sym, ap, ap₂, _∙_}
 use mathlib.Core.List.{List, [], _∷_, _++_, map, append-nil}
 use Prim.Native.Nat.{ℕ, zero, suc, _+_, _≤_, _<_}
 use native.Mathlib.Omega.{arith}
-use lib.ListN.{length, getD, take, drop, set, length-append, length-map}
+use mathlib.Core.Bool.{Bool, true, false, _&&_}
+use lib.ListN.{List·getD-append, length, getD, take, drop, set, length-append, length-map}
 use lib.Seq.{take-suc, drop-cons, append-snoc, set-at, getD-at, length-take-le, take-length, drop-length}
 
--- a list of n places of which the last is set next
 module _ {A : Type 0} where
   pub set-next : (p l : List A) (n : ℕ) (d a : A) → length p ≡ n → n < length l → set (p ++ drop n l) n a ≡ (p ++ (a ∷ [])) ++ drop (suc n) l
   set-next p l n d a e h =
@@ -64,3 +68,21 @@ pub three-listed : (a b d : List ℕ) → length a ≡ 8 → length b ≡ 4 → 
     → tabled (λ i. getD a i 0) 8 ++ (tabled (λ i. getD b i 0) 4 ++ tabled (λ i. getD d i 0) 4) ≡ a ++ (b ++ d)
 three-listed a b d p q r =
     ap₂ (λ (l m : List ℕ). l ++ m) (all-listed a 8 p) (ap₂ (λ (l m : List ℕ). l ++ m) (all-listed b 4 q) (all-listed d 4 r))
+
+-- what holds of 0 and of each f t holds at each place of a mapped list, and past its end
+pub map-each : (P : ℕ → Type 0) (f : ℕ → ℕ) → P 0 → ((t : ℕ) → P (f t)) → (l : List ℕ) (i : ℕ) → P (getD (map f l) i 0)
+map-each P f z h [] i = z
+map-each P f z h (x ∷ l) zero = h x
+map-each P f z h (x ∷ l) (suc i) = map-each P f z h l i
+
+-- the last of a list that grew by one
+pub last-of : {A : Type 0} (l m : List A) (x d : A) (p : ℕ) → l ≡ m ++ (x ∷ []) → length m ≡ p → getD l p d ≡ x
+last-of l m x d p e h = ap (λ (k : List _). getD k p d) e ∙ getD-at m x [] d p h
+
+pub earlier-of : {A : Type 0} (l m : List A) (x d : A) (j : ℕ) → l ≡ m ++ (x ∷ []) → j < length m → getD l j d ≡ getD m j d
+earlier-of l m x d j e h = ap (λ (k : List _). getD k j d) e ∙ List·getD-append m (x ∷ []) d j h
+
+-- both of two tests
+pub and-both : (a b : Bool) → (a && b) ≡ true → (a ≡ true) × (b ≡ true)
+and-both true b e = (refl, e)
+and-both false b e = let z : _≡_ {A = ℕ} 0 1 = cc in absurd (omega arith)

@@ -4,16 +4,15 @@
 use mathlib.Core.Path.{_≡_, refl, sym, ap, _∙_}
 use mathlib.Core.Bool.{Bool, true, false}
 use mathlib.Core.List.{List}
-use Prim.Native.Nat.{ℕ, zero, suc, _+_, _-_, _*_, _≤_, _<_}
+use Prim.Native.Nat.{ℕ, suc, _+_, _-_, _*_, _≤_, _<_}
 use native.Mathlib.Omega.{arith}
 use lib.Dec.{ltb}
 use borrow.Author.Tests.{lt-ltb, le-ltb}
-use Rattle.wei.specs.State.{before, between}
-use Rattle.wei.proofs.States.{before-below, between-below}
+use Rattle.wei.specs.State.{between}
 use Rattle.trellis.specs.Pick.{keepN, least}
-use Rattle.walk.specs.declared.select.Way.{Way}
-use Rattle.walk.specs.declared.select.Four.{Four}
-use Rattle.walk.specs.declared.select.Selected.{Selected}
+use Rattle.walk.specs.declared.ways.Way.{Way}
+use Rattle.walk.specs.declared.ways.Four.{Four}
+use Rattle.walk.specs.declared.ways.Selected.{Selected}
 use Rattle.walk.specs.Select.{limit, sixteen, arrive, winner, sumAt, fromAt, stepAt}
 use Rattle.walk.specs.Ways.{wayBy, keepWay, nearerOf, wayAt, sumsOf, stepsOf}
 

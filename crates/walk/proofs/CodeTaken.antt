@@ -4,12 +4,11 @@
 --   looked               what the look ahead puts together
 --   many, full, short    the refusals 7, 6 and 8
 --   taken                the symbol is taken
-use mathlib.Core.Path.{_≡_, refl, sym, ap, ap₂, subst, _∙_}
+use mathlib.Core.Path.{_≡_, refl, sym, ap, ap₂, _∙_}
 use mathlib.Core.Bool.{Bool, true, false, cond}
 use mathlib.Core.List.{List, [], _∷_, _++_, map}
-use Prim.Native.Nat.{ℕ, zero, suc, _+_, _-_, _*_, _%_, _^_, _≤_, _<_}
+use Prim.Native.Nat.{ℕ, _+_, _-_, _%_, _≤_, _<_}
 use native.Mathlib.Omega.{arith}
-use lib.Dec.{eqb, ltb}
 use lib.ListN.{length, getD, take, drop}
 use lib.Seq.{length-take-le}
 use borrow.Author.Tests.{eq-eqb, ne-eqb, lt-ltb, le-ltb}
@@ -20,23 +19,25 @@ use Rattle.trellis.proofs.Speak.{speak-length}
 use Rattle.wei.specs.Symbol.{Symbol}
 use Rattle.nearest.specs.declared.Received.{Received}
 use Rattle.nearest.specs.declared.Weighed.{Weighed}
-use Rattle.nearest.specs.Line.{InRange, BothInRange}
+use Rattle.nearest.specs.Line.{InRange}
 use Rattle.nearest.specs.Found.{heardAs, weighedOf}
 use Rattle.nearest.proofs.Laws.{costs-below}
-use Rattle.walk.specs.declared.select.Selected.{Selected}
+use Rattle.walk.specs.declared.ways.Selected.{Selected}
 use Rattle.walk.specs.declared.Core.{Core}
 use Rattle.walk.specs.declared.Receiver.{Receiver}
 use Rattle.walk.specs.declared.Outlook.{Outlook}
 use Rattle.walk.specs.declared.Took.{Took}
 use Rattle.walk.specs.declared.Why.{Why}
 use Rattle.walk.specs.declared.Why.the-variants.{Done, TooMany, Full, NoRoom}
-use Rattle.walk.specs.Select.{limit, sixteen, sumAt, stepAt, liveOf}
-use Rattle.walk.specs.Column.{Column, prevIn, read, picksOf, placed, columnsOf}
+use Rattle.walk.specs.Select.{sixteen, sumAt, stepAt, liveOf}
+use Rattle.walk.specs.Column.{Column, prevIn, picksOf, placed, columnsOf}
 use Rattle.walk.specs.Back.{agreedFrom, oneSubset}
-use Rattle.walk.specs.Machine.{nextSums, nextSteps, headOf, agreedOf, keptOf, releasedOf, grown, refused, taking, topSum}
-use Rattle.walk.specs.Taken.{CoreFits, SumsFit, wayFrom, whole, outlookOf, TookIs}
+use Rattle.walk.specs.Machine.{nextSums, nextSteps, headOf, agreedOf, releasedOf, grown, refused, taking}
+use Rattle.walk.specs.Taken.{Ready, wayFrom, whole, outlookOf, TookIs}
 use Rattle.walk.specs.Ways.{Summable, pastLive}
-use Rattle.walk.proofs.CodeBack.{agreed-padded, agreed-steps, past-head, columns-length}
+use Rattle.walk.proofs.CodeRing.{columns-length}
+use Rattle.walk.proofs.CodeLive.{agreed-padded, past-head}
+use Rattle.walk.proofs.CodeBack.{agreed-steps}
 use Rattle.walk.proofs.CodeWords.{trail-length}
 
 -- ---- how many are agreed
@@ -54,11 +55,11 @@ unfolding agreedOf
 agreed-few rx y = agreed-most (columnsOf (rx .core .slot) (rx .core .pending) (rx .steps) (rx .picks)) _ (rx .core .pending) (rx .core .pending) (omega arith) (rw (columns-length (rx .steps) (rx .picks) (rx .core .slot) (rx .core .pending)) (omega arith))
 
 -- ---- the look ahead
-pub summable : (core : Core) (sums : List ℕ) (g h : Received) (w : Weighed) → CoreFits core → SumsFit (core .taken) sums → core .taken < 4294967295 → InRange g → InRange h → w ≡ weighedOf (core .u) (heardAs g h) → Summable sums (w .costs)
-summable core sums g h w fits bound few a b e =
+pub summable : (core : Core) (sums : List ℕ) (g h : Received) (w : Weighed) → Ready core sums → core .taken < 4294967295 → InRange g → InRange h → w ≡ weighedOf (core .u) (heardAs g h) → Summable sums (w .costs)
+summable core sums g h w r few a b e =
     record {
-      sums-below = λ i. omega (arith, bound i);
-      costs-below = rw e (costs-below (core .u) (heardAs g h) (fits .width) (record { first-in = a; second-in = b }));
+      sums-below = λ i. omega (arith, r .sums-fit i);
+      costs-below = rw e (costs-below (core .u) (heardAs g h) (r .core-fits .width) (record { first-in = a; second-in = b }));
     }
 
 pub looked : (core : Core) (sums steps : List ℕ) (y : Two Received) (w : Weighed) (next : Selected) (picks live : List ℕ) (n : ℕ)
@@ -127,20 +128,15 @@ module _ (core : Core) (sums steps picks : List ℕ) (y : Two Received) (out : L
             speak-length turnAfter (word (core .u)) (core .turn) released
             ∙ length-take-le (o .agreed) (wayFrom core steps picks (o .state)) (rw (trail-length (core .u) steps picks (core .slot) (core .pending) (o .state)) few)
 
-        pub done : (sums′ steps′ picks′ out′ : List ℕ) (turn : ℕ) → o .agreed ≤ length out
+        pub done : (core′ : Core) (sums′ steps′ picks′ out′ : List ℕ) (turn : ℕ) → o .agreed ≤ length out
             → turn ≡ after turnAfter (core .turn) released
             → out′ ≡ wordsFrom (core .u) (core .turn) released ++ drop (o .agreed) out
             → sums′ ≡ o .sums
             → steps′ ≡ placed steps (core .slot) (o .steps)
             → picks′ ≡ placed picks (core .slot) (o .picks)
-            → TookIs (taking rx y (length out))
-            (record {
-              core = record { u = core .u; window = core .window; taken = core .taken + 1; turn = turn; slot = (core .slot + 1) % 64; pending = core .pending + 1 - o .agreed };
-              written = o .agreed;
-              why = Done;
-            })
-            sums′ steps′ picks′ out out′
+            → core′ ≡ record { u = core .u; window = core .window; taken = core .taken + 1; turn = turn; slot = (core .slot + 1) % 64; pending = core .pending + 1 - o .agreed }
+            → TookIs (taking rx y (length out)) (record { core = core′; written = o .agreed; why = Done }) sums′ steps′ picks′ out out′
         unfolding taking grown
-        done sums′ steps′ picks′ out′ turn room et eo ea eb ec =
+        done core′ sums′ steps′ picks′ out′ turn room et eo ea eb ec ed =
             rw (ne-eqb _ _ fresh, ← agreed-is, le-ltb _ _ fits, le-ltb _ _ room, ← released-is)
-            (record { receiver = rw (et, ea, eb, ec, is); why = refl; written = sym words-length; out = rw words-length eo })
+            (record { receiver = rw (ed, et, ea, eb, ec, is); why = refl; written = sym words-length; out = rw words-length eo })

@@ -4,7 +4,7 @@
 --   pack-in, said        what is packed, and what is said, is the word of the symbol
 --   back-more            one column of the way back
 --   trail-at             the symbols of the trail, one by one
-use mathlib.Core.Path.{_≡_, refl, sym, ap, ap₂, subst, _∙_}
+use mathlib.Core.Path.{_≡_, refl, sym, ap, ap₂, _∙_}
 use mathlib.Core.List.{List, [], _∷_, _++_, map, append-nil}
 use Prim.Native.Nat.{ℕ, zero, suc, _+_, _-_, _*_, _/_, _%_, _^_, _≤_, _<_}
 use native.Mathlib.Nat.{mod-lt}
@@ -13,11 +13,11 @@ use native.Mathlib.Decide.{decLt}
 use native.Mathlib.Omega.{arith}
 use lib.Bits.{bitAnd, and-mask}
 use lib.Pow.{pow-pos}
-use lib.ListN.{length, getD, take, drop, set, length-append, length-set, List·getD-append}
-use lib.Seq.{take-suc, drop-cons, append-snoc, getD-at, getD-take, getD-set-same, drop-set-lt, length-take-le}
+use lib.ListN.{length, getD, take, drop, set, length-append, length-set}
+use lib.Seq.{take-suc, drop-cons, append-snoc, getD-take, getD-set-same, drop-set-lt, length-take-le}
 use Rattle.wei.specs.declared.label.LabelPair.{LabelPair}
 use Rattle.wei.specs.declared.word.Parts.{Parts}
-use Rattle.wei.specs.Label.{turnOf, turnFrom, secondLabel, pairOf}
+use Rattle.wei.specs.Label.{turnFrom, secondLabel, pairOf}
 use Rattle.wei.specs.Word.{packed, InRange}
 use Rattle.wei.specs.Symbol.{Symbol, firstLabel, Valid}
 use Rattle.wei.proofs.Words.{masked}
@@ -29,11 +29,11 @@ use Rattle.trellis.specs.Words.{wordParts, word, wordsFrom, turnAfter}
 use Rattle.trellis.proofs.Speak.{speak-length, speak-append}
 use Rattle.walk.specs.declared.Core.{Core}
 use Rattle.walk.specs.declared.words.Said.{Said}
-use Rattle.walk.specs.Column.{Column, prevIn, subsetIn, part, symbolIn, read, slotAt, columnsOf}
+use Rattle.walk.specs.Column.{Column, prevIn, subsetIn, part, symbolIn, read, columnsOf}
 use Rattle.walk.specs.Taken.{CoreFits, wayFrom}
 use Rattle.walk.specs.Ways.{subsetsBack, saidOf}
-use Rattle.walk.proofs.CodeLists.{set-next}
-use Rattle.walk.proofs.CodeBack.{part-at, columns-more}
+use Rattle.walk.proofs.CodeLists.{set-next, last-of, earlier-of}
+use Rattle.walk.proofs.CodeRing.{part-at, columns-more}
 
 pub symbol-valid : (u : ℕ) (picks : List ℕ) (k : ℕ) → Valid u (symbolIn u picks k)
 unfolding symbolIn
@@ -54,7 +54,7 @@ bit-of n = and-mask n 1
 pub bit-below : (n : ℕ) → bitAnd n 1 < 2
 bit-below n = omega (arith, bit-of n)
 
-module _ (u turn slot k : ℕ) (picks : List ℕ) (l : LabelPair) (hu : u ≤ 8) (ht : turn < 4) (hk : k < 8)
+module _ (u turn slot k : ℕ) (picks : List ℕ) (l : LabelPair) (hu : u ≤ 8) (hk : k < 8)
     (is : l ≡ pairOf (2 * bitAnd (getD picks (16 * slot + k) 0) 1 + bitAnd k 1) (secondLabel (2 * bitAnd (getD picks (16 * slot + k) 0) 1 + bitAnd k 1) (bitAnd (k / 4) 1) (bitAnd (k / 2) 1))) where
   abbrev c : Symbol
   c = symbolIn u (part picks slot) k
@@ -178,13 +178,6 @@ module _ (u : ℕ) (steps picks : List ℕ) where
   back-length a (suc p) s =
       let b = (a + 63) % 64 in
       ap length (back-one steps [] a p s) ∙ length-append (subsetsBack (columnsOf b p steps []) (prevIn (part steps b) s)) _ ∙ rw (back-length b p (prevIn (part steps b) s)) (omega arith)
-
-  -- the last of a list that grew by one
-  last-of : {A : Type 0} (l m : List A) (x d : A) (p : ℕ) → l ≡ m ++ (x ∷ []) → length m ≡ p → getD l p d ≡ x
-  last-of l m x d p e h = ap (λ (k : List _). getD k p d) e ∙ getD-at m x [] d p h
-
-  earlier-of : {A : Type 0} (l m : List A) (x d : A) (j : ℕ) → l ≡ m ++ (x ∷ []) → j < length m → getD l j d ≡ getD m j d
-  earlier-of l m x d j e h = ap (λ (k : List _). getD k j d) e ∙ List·getD-append m (x ∷ []) d j h
 
   abbrev At : ℕ → ℕ → ℕ → ℕ → Symbol → Type 0
   At a p s j d = getD (way a p s) j d ≡ symbolIn u (part picks ((a + 64 - p + j) % 64)) (getD (subsetsBack (columnsOf a p steps []) s) j 0)

@@ -1,6 +1,8 @@
--- the code's own
+-- the code is the machine
 pub mod CodeLists
 pub mod CodeSelect
+pub mod CodeRing
+pub mod CodeLive
 pub mod CodeBack
 pub mod CodeWords
 pub mod CodeTaken

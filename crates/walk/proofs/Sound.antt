@@ -1,5 +1,5 @@
 -- A receiver that the functions can work on stays one.
---   sound-live, sound-core, sums-fact   what the test of a record says
+--   sound-live, sound-core, sound-ready   what the test of a record says
 --   sound-from                          and what it wants
 --   grown-sound                         one symbol more, where it was not refused
 use mathlib.Core.Path.{_≡_, refl, sym, ap, subst, _∙_}
@@ -22,7 +22,7 @@ use Rattle.walk.specs.declared.Core.{Core}
 use Rattle.walk.specs.declared.Receiver.{Receiver}
 use Rattle.walk.specs.Column.{Column, read, symbolIn}
 use Rattle.walk.specs.Machine.{allUpTo, topSum, soundCore, sound, keptOf, pendingOf, agreedOf, releasedOf, grown}
-use Rattle.walk.specs.Taken.{CoreFits, SumsFit}
+use Rattle.walk.specs.Taken.{CoreFits, SumsFit, Ready}
 use Rattle.walk.proofs.Bounds.{top-next, all-up-to}
 
 -- ---- what the test says
@@ -53,7 +53,7 @@ core-facts c e =
       held = leb-true (c .pending) (c .window) e₅;
     }
 
-pub sums-fact : (rx : Receiver) → sound rx ≡ true → SumsFit (rx .core .taken) (rx .sums)
+sums-fact : (rx : Receiver) → sound rx ≡ true → SumsFit (rx .core .taken) (rx .sums)
 unfolding sound
 sums-fact rx e = up-to-all (topSum (rx .core .taken)) (rx .sums) (both (soundCore (rx .core)) _ (both (rx .live) _ e .1) .1)
 
@@ -64,6 +64,9 @@ sound-live rx e = both (rx .live) _ e .0
 pub sound-core : (rx : Receiver) → sound rx ≡ true → CoreFits (rx .core)
 unfolding sound
 sound-core rx e = core-facts (rx .core) (both (soundCore (rx .core)) _ (both (rx .live) _ e .1) .0)
+
+pub sound-ready : (rx : Receiver) → sound rx ≡ true → Ready (rx .core) (rx .sums)
+sound-ready rx e = record { core-fits = sound-core rx e; sums-fit = sums-fact rx e }
 
 -- ---- the turn after what is released
 abbrev Turned : Symbol → Type 0

@@ -1,6 +1,7 @@
 -- What the code of one symbol is told and what it gives, in terms of the machine.
 --   CoreFits c           the ranges that `soundCore` tests, as facts
 --   SumsFit n sums       no sum is above what n symbols can make
+--   Ready c sums         both
 --   wayFrom c steps picks s   the symbols on the way back from the state s over the pending columns, the oldest first
 --   whole                an open receiver, from its parts
 --   outlookOf rx y       what the symbol y would make of the receiver
@@ -33,6 +34,10 @@ pub record CoreFits (c : Core) : Type 0 where
 
 abbrev pub SumsFit : ℕ → List ℕ → Type 0
 SumsFit n sums = (i : ℕ) → getD sums i 0 ≤ topSum n
+
+pub record Ready (c : Core) (sums : List ℕ) : Type 0 where
+  pub core-fits : CoreFits c
+  pub sums-fit : SumsFit (c .taken) sums
 
 abbrev pub wayFrom : Core → List ℕ → List ℕ → ℕ → List Symbol
 wayFrom c steps picks s = trail (map (read (c .u)) (columnsOf (c .slot) (c .pending) steps picks)) s

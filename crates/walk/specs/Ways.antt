@@ -1,9 +1,16 @@
--- How add, compare and select goes: ways into a state, one beside the other. Nothing here need be believed: what is selected is said
--- in Select.
+-- How the code goes: notions that its inner contracts name and that nobody need believe. What is selected, agreed and said stands in
+-- Select, Back and Machine.
 --   Summable sums costs   a sum and a cost add up
 --   wayBy sums costs t k  the way into t from the k-th state before it: its sum and its last step
 --   nearerOf a b          the way with the smaller sum, the first of equals
 --   wayAt sums costs t    the best way into t
+--   sumsOf, stepsOf       the sums and the steps of all sixteen ways, four by four
+--   States l              sixteen states
+--   spreadFrom, spread    in which bits the steps into the states of a list differ
+--   pastAt sums steps s   the state before s; where nothing reaches s, the one before the first reached state
+--   pastLive sums steps   that at all sixteen states
+--   subsetsBack cs s      the subsets on the way back from s, the oldest first
+--   saidOf u q c          the word of the symbol c after the turn q, and the turn after it
 use Prim.Native.Nat.{ℕ, _+_, _*_, _^_, _<_}
 use mathlib.Core.Path.{_≡_}
 use mathlib.Core.Bool.{Bool, true, false, cond}
@@ -14,8 +21,8 @@ use lib.Bits.{bitOr, bitXor}
 use Rattle.wei.specs.State.{before, between}
 use Rattle.wei.specs.Symbol.{Symbol}
 use Rattle.trellis.specs.Words.{word, turnAfter}
-use Rattle.walk.specs.declared.select.Way.{Way}
-use Rattle.walk.specs.declared.select.Four.{Four}
+use Rattle.walk.specs.declared.ways.Way.{Way}
+use Rattle.walk.specs.declared.ways.Four.{Four}
 use Rattle.walk.specs.declared.words.Said.{Said}
 use Rattle.walk.specs.Select.{limit, sixteen, arrive, sumAt, stepAt, liveOf}
 use Rattle.walk.specs.Column.{Column, prevIn, subsetIn}
@@ -38,7 +45,6 @@ nearerOf a b = keepWay (ltb (b .sum) (a .sum)) a b
 unfoldable pub wayAt : List ℕ → List ℕ → ℕ → Way
 wayAt sums costs t = record { sum = sumAt sums costs t; step = stepAt sums costs t }
 
--- the sums and the steps of all four groups
 abbrev pub sumsOf : Four → Four → Four → Four → List ℕ
 sumsOf w x y z =
     w .a .sum ∷ w .b .sum ∷ w .c .sum ∷ w .d .sum
@@ -55,21 +61,18 @@ stepsOf w x y z =
 
 -- ---- walking back
 
--- sixteen states
 pub record States (l : List ℕ) : Type 0 where
   pub long : length l ≡ 16
   pub below : (i : ℕ) → getD l i 0 < 16
 
--- in which bits some step into the states differs from `first`, or from what differed before
+-- from the step `first`, and beside the bits d that differed before
 unfoldable pub spreadFrom : List ℕ → ℕ → ℕ → List ℕ → ℕ
 spreadFrom steps first d [] = d
 spreadFrom steps first d (s ∷ l) = spreadFrom steps first (bitOr d (bitXor (getD steps s 0) first)) l
 
--- in which bits the steps into the states differ
 abbrev pub spread : List ℕ → List ℕ → ℕ
 spread steps l = spreadFrom steps (getD steps (headOf l) 0) 0 l
 
--- the state before s; where nothing reaches s, the one before the first reached state
 unfoldable pub pastAt : List ℕ → List ℕ → ℕ → ℕ
 pastAt sums steps s = prevIn steps (cond (ltb (getD sums s 0) limit) s (headOf (liveOf sums)))
 
@@ -78,11 +81,9 @@ pastLive sums steps = sixteen (pastAt sums steps)
 
 -- ---- words
 
--- the subsets on the way back from s, the oldest first
 unfoldable pub subsetsBack : List Column → ℕ → List ℕ
 subsetsBack [] s = []
 subsetsBack (c ∷ older) s = subsetsBack older (prevIn (c .steps) s) ++ (subsetIn (c .steps) s ∷ [])
 
--- the word of a symbol after the turn q, and the turn after it
 abbrev pub saidOf : ℕ → ℕ → Symbol → Said
 saidOf u q c = record { word = word u q c; turn = turnAfter q c }

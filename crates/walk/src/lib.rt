@@ -1,15 +1,19 @@
-// The inside of one symbol: add, compare and select; the columns of the pending symbols in their ring; walking back the live
-// states; how many symbols are agreed; the words. `Receiver` is the whole state of the receiving end.
+// The inside of one symbol. `Receiver` is the whole state of the receiving end, and `take_symbol` takes it over one received
+// symbol: `look_ahead` weighs the symbol (crate nearest), adds, compares and selects (`ways`), and walks back over the pending
+// columns to see how many symbols all live states now agree on (`columns`). Nothing is stored so far, so a refusal leaves all as
+// it was. Then the agreed words are written (`words`) and the new column takes its slot. At the end of a line `end_state` and
+// `write_words` give the words of the answer.
 //
-// Arrays are lent inside a piece and copied nowhere. Every function equals a definition of specs/ on the same numbers.
-mod ring;
-mod select;
+// The arrays are lent and copied nowhere: a caller that holds a receiver takes it apart once for a whole piece. Every function
+// equals a definition of specs/ on the same numbers, whatever the lists hold.
+mod columns;
+mod ways;
 mod words;
 
 use nearest::Received;
 ghost use mathlib.Core.Path.{_≡_};
 ghost use mathlib.Core.List.{[], _++_};
-ghost use Prim.Native.Nat.{_≤_, _<_};
+ghost use Prim.Native.Nat.{_+_, _%_, _≤_, _<_};
 ghost use lib.ListN.{length, take, drop};
 ghost use Rattle.trellis.specs.Speak.{after};
 ghost use Rattle.trellis.specs.Words.{wordsFrom, turnAfter};
@@ -17,7 +21,10 @@ ghost use Rattle.points.specs.Points.{coordinates};
 ghost use Rattle.nearest.specs.Line.{InRange};
 ghost use Rattle.nearest.specs.Found.{heardAs};
 ghost use Rattle.walk.specs.Machine.{endOf, taking};
-ghost use Rattle.walk.specs.Taken.{CoreFits, SumsFit, wayFrom, whole, outlookOf, TookIs};
+ghost use Rattle.walk.specs.Taken.{CoreFits, Ready, wayFrom, whole, outlookOf, TookIs};
+
+// Where the sums of states begin that nothing reaches: 2^62. The sums of reached states stay below.
+pub const LIMIT: u64 = 4611686018427387904;
 
 // The part of the receiver that is a handful of numbers.
 pub struct Core {
@@ -147,7 +154,7 @@ fn look_ahead(
     second: Received,
 ) -> Outlook
     requires { ⌜ (now t ≡ coordinates) × InRange first × InRange second ⌝ }
-    requires { ⌜ CoreFits core × SumsFit (core .taken) (now sums) × (core .taken < 4294967295) ⌝ }
+    requires { ⌜ Ready core (now sums) × (core .taken < 4294967295) ⌝ }
     ensures { λ r. ⌜ r ≡ outlookOf (whole core (now (sums .entry)) (now (steps .entry)) []) (heardAs first second) ⌝ }
 {
     let w = nearest::weigh(t, core.u, first, second);
@@ -156,11 +163,11 @@ fn look_ahead(
     let w1 = w.w1;
     let w2 = w.w2;
     let picks = picks_of(i3, w1, w2);
-    let next = select::select(sums, &costs);
+    let next = ways::select(sums, &costs);
     let new_sums = next.sums;
     let new_steps = next.steps;
-    let live = ring::before_live(&new_sums, &new_steps);
-    let agreed = ring::walk_back(steps, core.slot, core.pending, live);
+    let live = columns::before_live(&new_sums, &new_steps);
+    let agreed = columns::walk_back(steps, core.slot, core.pending, live);
     Outlook {
         sums: new_sums,
         steps: new_steps,
@@ -181,6 +188,21 @@ fn refused(core: Core, why: Why) -> Took
     }
 }
 
+// The numbers after a symbol is taken, with the turn after its words and with so many pending.
+fn moved_on(core: Core, turn: u32, pending: usize) -> Core
+    requires { ⌜ (core .taken < 4294967295) × (core .slot < 64) ⌝ }
+    ensures { λ r. ⌜ r ≡ record { u = core .u; window = core .window; taken = core .taken + 1; turn = turn; slot = (core .slot + 1) % 64; pending = pending } ⌝ }
+{
+    Core {
+        u: core.u,
+        window: core.window,
+        taken: core.taken + 1,
+        turn: turn,
+        slot: (core.slot + 1) % 64,
+        pending: pending,
+    }
+}
+
 // One symbol. It is refused with number 7, 6 or 8, in this order, and then nothing has been stored; or it is taken, and the words
 // that all live states now agree on stand at the front of `out`.
 pub fn take_symbol(
@@ -194,7 +216,7 @@ pub fn take_symbol(
     out: &mut [u32],
 ) -> Took
     requires { ⌜ (now t ≡ coordinates) × InRange first × InRange second ⌝ }
-    requires { ⌜ CoreFits core × SumsFit (core .taken) (now sums) ⌝ }
+    requires { ⌜ Ready core (now sums) ⌝ }
     ensures { λ r. ⌜ TookIs (taking (whole core (now (sums .entry)) (now (steps .entry)) (now (picks .entry))) (heardAs first second) (length (now (out .entry)))) r (now (sums .exit)) (now (steps .exit)) (now (picks .exit)) (now (out .entry)) (now (out .exit)) ⌝ }
 {
     if core.taken == 4294967295 {
@@ -214,17 +236,10 @@ pub fn take_symbol(
     let new_steps = o.steps;
     let new_picks = o.picks;
     *sums = new_sums;
-    ring::store(steps, core.slot, new_steps);
-    ring::store(picks, core.slot, new_picks);
+    columns::store(steps, core.slot, new_steps);
+    columns::store(picks, core.slot, new_picks);
     Took {
-        core: Core {
-            u: core.u,
-            window: core.window,
-            taken: core.taken + 1,
-            turn: turn,
-            slot: (core.slot + 1) % 64,
-            pending: kept,
-        },
+        core: moved_on(core, turn, kept),
         written: n,
         why: Why::Done,
     }

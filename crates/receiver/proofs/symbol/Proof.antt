@@ -7,7 +7,7 @@ use mir.Facts.{toZ-ofZ}
 use Rattle.nearest.specs.Line.{BothInRange}
 use Rattle.walk.specs.Taken.{whole}
 use Rattle.walk.specs.Told.{faultOf}
-use Rattle.walk.proofs.Sound.{sound-core, sums-fact}
+use Rattle.walk.proofs.Sound.{sound-ready}
 use Rattle.receiver.specs.Doors.{symbolFrom}
 use Rattle.receiver.proofs.Kept.{faulty-took, good-taking, good-took}
 use borrow.Author.Needs.{needs}
@@ -37,7 +37,7 @@ take-symbol-requires c κs =
     let e = back (a .x0) (a .x1) (a .x2) (a .x3) (s .fits .x0) (s .fits .x1) (s .fits .x2) (s .fits .x3) in
     let rx = whole (a .core) (a .sums .now) (a .steps .now) (a .picks .now) in
     let g = subst BothInRange (sym e) (good-taking (a .core) (a .sums .now) (a .steps .now) (a .picks .now) (a .out .now) (symbolFrom (a .x0) (a .x1) (a .x2) (a .x3)) (d .before .fault .result) (d .before .fault .ensures ∙ ap faultOf e) (d .if1 .left) .1) in
-    ((s .pre .0, g .first-in, g .second-in), (sound-core rx (s .pre .1), sums-fact rx (s .pre .1)))
+    ((s .pre .0, g .first-in, g .second-in), sound-ready rx (s .pre .1))
 
 same-length : tie.Need-same-length
 same-length c = search needs

@@ -2,7 +2,7 @@
 use native.Mathlib.Omega.{arith}
 use borrow.Author.Needs.{needs}
 use Rattle.nearest.specs.Found.{heardAs}
-use Rattle.walk.proofs.CodeBack.{past-states}
+use Rattle.walk.proofs.CodeLive.{past-states}
 use Rattle.walk.proofs.CodeTaken.{summable, looked}
 use Rattle.walk.proofs.look_ahead.Statement.{statement}
 use Rattle.walk.proofs.look_ahead.Tie as tie
@@ -17,14 +17,14 @@ select-requires : tie.Need-select-requires
 select-requires c κs =
     let w = c .before .before .before .before .before .before in
     let s = w .before in
-    summable (s .args .core) (s .args .sums .now) (s .args .first) (s .args .second) (w .weigh .result) (s .pre .1 .0) (s .pre .1 .1) (s .pre .1 .2) (s .pre .0 .1) (s .pre .0 .2) (w .weigh .ensures)
+    summable (s .args .core) (s .args .sums .now) (s .args .first) (s .args .second) (w .weigh .result) (s .pre .1 .0) (s .pre .1 .1) (s .pre .0 .1) (s .pre .0 .2) (w .weigh .ensures)
 
 before-live-requires : tie.Need-before-live-requires
 before-live-requires c κs = search needs
 
 walk-back-requires : tie.Need-walk-back-requires
 walk-back-requires c κs =
-    let f = c .before .before .before .before .before .before .before .before .before .before .before .before .before .pre .1 .0 in
+    let f = c .before .before .before .before .before .before .before .before .before .before .before .before .before .pre .1 .0 .core-fits in
     (f .slot-below, omega (arith, f .held, f .small-window), rw (c .before-live .ensures) (past-states _ _))
 
 array-read-t25 : tie.Need-array-read-t25

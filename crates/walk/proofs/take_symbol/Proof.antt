@@ -16,10 +16,13 @@ returns c =
     let a = c .before .before .before .before .args in
     many (a .core) (a .sums .now) (a .steps .now) (a .picks .now) (heardAs (a .first) (a .second)) (a .out .now) (c .refused .result) (c .refused .ensures) (c .before .if1 .taken)
 
+fresh : (e : tie.Else1) → e .before .before .before .args .core .taken < 4294967295
+fresh e = omega (arith, e .if1 .left)
+
 look-ahead-requires : tie.Need-look-ahead-requires
 look-ahead-requires c κs =
     let p = c .before .before .before .before .before .pre in
-    (p .0, (p .1 .0, p .1 .1, omega (arith, c .before .before .if1 .left)))
+    (p .0, (p .1, fresh (c .before .before)))
 
 add-kept : tie.Need-add-kept
 add-kept c = search needs
@@ -54,29 +57,26 @@ returns-3 c =
 write-words-requires : tie.Need-write-words-requires
 write-words-requires c κs =
     let l = c .before .before .before .before .before .before .before in
-    (c .before .before .before .before .before .before .before .before .before .before .before .before .before .pre .1 .0, low l, few-agreed l, c .before .before .before .if3 .left)
+    (c .before .before .before .before .before .before .before .before .before .before .before .before .before .pre .1 .core-fits, low l, few-agreed l, c .before .before .before .if3 .left)
 
 store-requires : tie.Need-store-requires
-store-requires c κs = c .before .before .before .before .before .before .before .before .before .before .before .before .before .before .before .before .before .before .before .before .pre .1 .0 .slot-below
+store-requires c κs = c .before .before .before .before .before .before .before .before .before .before .before .before .before .before .before .before .before .before .before .before .pre .1 .core-fits .slot-below
 
 store-requires-2 : tie.Need-store-requires-2
-store-requires-2 c κs = c .before .before .before .before .before .before .before .before .before .before .before .before .before .before .before .before .before .before .before .before .before .before .pre .1 .0 .slot-below
+store-requires-2 c κs = c .before .before .before .before .before .before .before .before .before .before .before .before .before .before .before .before .before .before .before .before .before .before .pre .1 .core-fits .slot-below
 
-add-t30 : tie.Need-add-t30
-add-t30 c = search needs
-
-add-t20 : tie.Need-add-t20
-add-t20 c = record { fits = omega (arith, c .before .before .before .before .before .before .before .before .before .before .before .before .before .before .before .before .before .before .before .before .before .before .before .before .before .pre .1 .0 .slot-below) }
+moved-on-requires : tie.Need-moved-on-requires
+moved-on-requires c κs = (fresh (c .before .before .before .before .before .before .before .before .before .before .before .before .before .before .before .before .before .before .before .before), c .before .before .before .before .before .before .before .before .before .before .before .before .before .before .before .before .before .before .before .before .before .before .before .pre .1 .core-fits .slot-below)
 
 same-length : tie.Need-same-length
 same-length c = search needs
 
 returns-4 : tie.Need-returns-4
 returns-4 c =
-    let l = c .before .before .before .before .before .before .before .before .before .before .before .before .before .before .before .before .before .before .before in
+    let l = c .before .before .before .before .before .before .before .before .before .before .before .before .before .before .before .before .before .before in
     let a = l .before .before .before .before .before .before .args in
-    let w = c .before .before .before .before .before .before .before .before .before .before .before in
-    done (a .core) (a .sums .now) (a .steps .now) (a .picks .now) (heardAs (a .first) (a .second)) (a .out .now) (l .look-ahead .result) (l .look-ahead .ensures) (l .before .before .before .if1 .left) (c .before .before .before .before .before .before .before .before .before .before .before .before .before .before .before .before .if2 .left) _ _ _ _ _ (c .before .before .before .before .before .before .before .before .before .before .before .before .before .before .before .if3 .left) (w .write-words .ensures .0) (w .write-words .ensures .1) refl (c .before .before .before .before .store .ensures) (c .before .before .store2 .ensures)
+    let w = c .before .before .before .before .before .before .before .before .before .before in
+    done (a .core) (a .sums .now) (a .steps .now) (a .picks .now) (heardAs (a .first) (a .second)) (a .out .now) (l .look-ahead .result) (l .look-ahead .ensures) (l .before .before .before .if1 .left) (c .before .before .before .before .before .before .before .before .before .before .before .before .before .before .before .if2 .left) _ _ _ _ _ _ (c .before .before .before .before .before .before .before .before .before .before .before .before .before .before .if3 .left) (w .write-words .ensures .0) (w .write-words .ensures .1) refl (c .before .before .before .store .ensures) (c .before .store2 .ensures) (c .moved-on .ensures)
 
 pub take-symbol-spec : {M : Type 1} → statement M
 take-symbol-spec =
@@ -94,7 +94,6 @@ take-symbol-spec =
     write-words-requires
     store-requires
     store-requires-2
-    add-t30
-    add-t20
+    moved-on-requires
     same-length
     returns-4)

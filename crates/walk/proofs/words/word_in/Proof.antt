@@ -1,6 +1,5 @@
 -- `words::word_in`.
 use Prim.Native.Nat.{_+_, _*_, _/_, _<_}
-use native.Mathlib.Nat.{sub-zero}
 use native.Mathlib.Omega.{arith}
 use borrow.Author.Needs.{needs}
 use lib.ListN.{getD}
@@ -55,10 +54,10 @@ add-wide-2 : tie.Need-add-wide-2
 add-wide-2 c = search needs
 
 first : (w : tie.After-labels) → w .labels .result .first < 4
-first w = let a = w .before .before .args in first-below (a .u) (a .turn) (a .slot) (a .k) (a .picks .now) (w .labels .result) (w .before .before .pre .0) (w .before .before .pre .1) (w .before .before .pre .3) (w .labels .ensures)
+first w = let a = w .before .before .args in first-below (a .u) (a .turn) (a .slot) (a .k) (a .picks .now) (w .labels .result) (w .before .before .pre .0) (w .before .before .pre .3) (w .labels .ensures)
 
 second : (w : tie.After-labels) → w .labels .result .second < 4
-second w = let a = w .before .before .args in last-below (a .u) (a .turn) (a .slot) (a .k) (a .picks .now) (w .labels .result) (w .before .before .pre .0) (w .before .before .pre .1) (w .before .before .pre .3) (w .labels .ensures)
+second w = let a = w .before .before .args in last-below (a .u) (a .turn) (a .slot) (a .k) (a .picks .now) (w .labels .result) (w .before .before .pre .0) (w .before .before .pre .3) (w .labels .ensures)
 
 element-copy-out-wide : tie.Need-element-copy-out-wide
 element-copy-out-wide c = omega (arith, first (c .before .before))
@@ -85,14 +84,14 @@ pack-requires : tie.Need-pack-requires
 pack-requires c κs =
     let w = c .before .before .before .before .before .before .before in
     let a = w .before .before .args in
-    (w .before .before .pre .0, pack-in (a .u) (a .turn) (a .slot) (a .k) (a .picks .now) (w .labels .result) (w .before .before .pre .0) (w .before .before .pre .1) (w .before .before .pre .3) (w .labels .ensures) (c .before .before .before .wide .result) (c .before .wide2 .result) (c .turn-from .result) (c .before .before .before .wide .ensures) (c .before .wide2 .ensures) (c .turn-from .ensures))
+    (w .before .before .pre .0, pack-in (a .u) (a .turn) (a .slot) (a .k) (a .picks .now) (w .labels .result) (w .before .before .pre .0) (w .before .before .pre .3) (w .labels .ensures) (c .before .before .before .wide .result) (c .before .wide2 .result) (c .turn-from .result) (c .before .before .before .wide .ensures) (c .before .wide2 .ensures) (c .turn-from .ensures))
 
 returns : tie.Need-returns
 returns c =
     let t = c .before in
     let w = t .before .before .before .before .before .before .before in
     let a = w .before .before .args in
-    said (a .u) (a .turn) (a .slot) (a .k) (a .picks .now) (w .labels .result) (w .before .before .pre .0) (w .before .before .pre .1) (w .before .before .pre .3) (w .labels .ensures) (t .before .before .before .wide .result) (t .before .wide2 .result) (t .turn-from .result) (t .before .before .before .wide .ensures) (t .before .wide2 .ensures) (t .turn-from .ensures) (c .pack .result) (c .pack .ensures)
+    said (a .u) (a .turn) (a .slot) (a .k) (a .picks .now) (w .labels .result) (w .before .before .pre .0) (w .before .before .pre .3) (w .labels .ensures) (t .before .before .before .wide .result) (t .before .wide2 .result) (t .turn-from .result) (t .before .before .before .wide .ensures) (t .before .wide2 .ensures) (t .turn-from .ensures) (c .pack .result) (c .pack .ensures)
 
 pub word-in-spec : {M : Type 1} → statement M
 word-in-spec =

@@ -1,0 +1,81 @@
+-- `columns::before_live`.
+use Prim.Native.Nat.{_≤_, _-_}
+use mathlib.Core.Path.{_≡_, refl, _∙_}
+use mathlib.Core.List.{_++_}
+use native.Mathlib.Numerals.{add-one}
+use native.Mathlib.Omega.{arith}
+use lib.ListN.{length, drop}
+use Rattle.walk.specs.Ways.{pastAt}
+use Rattle.walk.proofs.CodeLists.{tabled, tabled-more}
+use Rattle.walk.proofs.CodeLive.{past-is}
+use Rattle.walk.proofs.columns.before_live.Statement.{statement}
+use Rattle.walk.proofs.columns.before_live.Tie as tie
+
+abbrev Inv-loop : tie.InvT-loop
+Inv-loop sums steps head other live₀ s₀ live s = (s ≤ 16) × (length live₀ ≡ 16) × (live ≡ tabled (pastAt sums steps) s ++ drop s live₀)
+
+abbrev μ-loop : tie.MeasureT-loop
+μ-loop sums steps head other live₀ s₀ live s = 16 - s
+
+first-live-requires : tie.Need-first-live-requires Inv-loop μ-loop
+first-live-requires c κs = tt
+
+element-copy-out-other : tie.Need-element-copy-out-other Inv-loop μ-loop
+element-copy-out-other c = c .first-live .ensures .1
+
+loop-holds : tie.Need-loop-holds Inv-loop μ-loop
+loop-holds c = (omega arith, refl, refl)
+
+mul-state-before : tie.Need-mul-state-before Inv-loop μ-loop
+mul-state-before c = omega arith
+
+element-copy-out-state-before : tie.Need-element-copy-out-state-before Inv-loop μ-loop
+element-copy-out-state-before c = omega arith
+
+element-copy-out-state-before-2 : tie.Need-element-copy-out-state-before-2 Inv-loop μ-loop
+element-copy-out-state-before-2 c = omega arith
+
+state-before-requires : tie.Need-state-before-requires Inv-loop μ-loop
+state-before-requires c κs = tt
+
+array-write-live : tie.Need-array-write-live Inv-loop μ-loop
+array-write-live c = omega arith
+
+add-s : tie.Need-add-s Inv-loop μ-loop
+add-s c = omega arith
+
+loop-less : tie.Need-loop-less Inv-loop μ-loop
+loop-less c = omega arith
+
+loop-again : tie.Need-loop-again Inv-loop μ-loop
+loop-again c =
+    let at = c .before .before .before .before in
+    let first = at .before .before in
+    let a = first .before .args in
+    let x = past-is (a .sums .now) (a .steps .now) (at .loop .s) (first .first-live .result) (c .state-before .result) (first .first-live .ensures .0) (c .state-before .ensures) in
+    (omega arith, at .loop .inv .1, rw (at .loop .inv .2, x, add-one (at .loop .s)) (tabled-more (pastAt (a .sums .now) (a .steps .now)) (at .loop .s) _ (omega arith)))
+
+returns : tie.Need-returns Inv-loop μ-loop
+returns c =
+    let at = c .before in
+    let end : at .loop .s ≡ 16 = omega arith in
+    at .loop .inv .2 ∙ rw end
+
+pub before-live-spec : {M : Type 1} → statement M
+before-live-spec =
+    tie.close
+    (tie.spec
+    Inv-loop
+    μ-loop
+    first-live-requires
+    element-copy-out-other
+    loop-holds
+    mul-state-before
+    element-copy-out-state-before
+    element-copy-out-state-before-2
+    state-before-requires
+    array-write-live
+    add-s
+    loop-less
+    loop-again
+    returns)

@@ -1,0 +1,217 @@
+-- The outcomes of the exported functions, one law each over plain values; and that an end that did something stands in a state that is
+-- long enough to be written back.
+use mathlib.Core.Path.{_≡_, refl, sym, ap, subst, _∙_}
+use mathlib.Core.Bool.{Bool, true, false, cond}
+use mathlib.Core.List.{List, [], _∷_, _++_}
+use Prim.Native.Nat.{ℕ, _^_, _≤_, _<_}
+use native.Mathlib.Omega.{arith}
+use borrow.Author.Tests.{lt-ltb, le-ltb, eq-eqb, ne-eqb}
+use lib.Dec.{eqb, ltb}
+use lib.IntN.{ℤ}
+use lib.ListN.{length, drop}
+use Rattle.walk.proofs.Sound.{sound-core}
+use Rattle.sender.specs.declared.Sender.{Sender}
+use Rattle.sender.specs.declared.Sent.{Sent}
+use Rattle.sender.specs.Send as sender
+use Rattle.sender.specs.Promise as sends
+use Rattle.walk.specs.declared.Receiver.{Receiver}
+use Rattle.walk.specs.Machine.{shut, sound, soundCore}
+use Rattle.walk.specs.Told.{Reason, givenOf}
+use Rattle.receiver.specs.declared.Start.{Start}
+use Rattle.receiver.specs.declared.Opened.{Opened}
+use Rattle.receiver.specs.declared.Answer.{Answer}
+use Rattle.receiver.specs.Doors.{Ran, opening, hearing, finishing}
+use Rattle.receiver.specs.Promise as receives
+use Rattle.demfizagu.specs.State.{holds, senderLength, senderTag, senderIn, wordsOfSender, receiverLength, receiverTag, receiverIn, wordsOfReceiver, readSender, readReceiver, SenderStored, ReceiverStored}
+use Rattle.demfizagu.specs.Calls.{pendingIn, senderOpening, receiverOpening, sendCall, toldOf, Call, callOf, hearCall, finishCall}
+use Rattle.demfizagu.specs.Promise.{Opens, Sends, Answers}
+use Rattle.demfizagu.proofs.Held.{held}
+use Rattle.demfizagu.proofs.Ends.{sender-opening-reads, sending-keeps, sending-reads, receiver-opening-reads, hearing-keeps, hearing-reads, finishing-keeps, finishing-reads}
+
+differ : false ≡ true → ⊥
+differ e = let z : _≡_ {A = ℕ} 0 1 = cc in omega arith
+
+-- ---- an open end has the words it needs
+
+pub sender-long : (ws : List ℕ) → sender.sound (senderIn ws) ≡ true → senderLength ≤ length ws
+unfolding senderIn
+sender-long ws e = go (holds senderLength senderTag ws) refl where
+  go : (b : Bool) → holds senderLength senderTag ws ≡ b → senderLength ≤ length ws
+  go true h = held senderLength senderTag ws h .long
+  go false h = absurd (differ (rw h at e))
+
+pub receiver-long : (ws : List ℕ) → sound (receiverIn ws) ≡ true → receiverLength ≤ length ws
+unfolding receiverIn sound shut
+receiver-long ws e = go (holds receiverLength receiverTag ws) refl where
+  go : (b : Bool) → holds receiverLength receiverTag ws ≡ b → receiverLength ≤ length ws
+  go true h = held receiverLength receiverTag ws h .long
+  go false h = absurd (differ (rw h at e))
+
+pub sent-open : (s : Sender) (n : ℕ) (out : List ℤ) → sender.sending s n out .number ≡ 0 → sender.sound s ≡ true
+unfolding sender.sending
+sent-open s n out e = go (sender.sound s) refl where
+  go : (b : Bool) → sender.sound s ≡ b → sender.sound s ≡ true
+  go true h = h
+  go false h = absurd (let z : _≡_ {A = ℕ} 9 0 = rw h at e in omega arith)
+
+pub heard-open : (rx : Receiver) (xs : List ℤ) (room : ℕ) → (hearing rx xs room .taken ≡ 0 → ⊥) → sound rx ≡ true
+unfolding hearing
+heard-open rx xs room e = go (sound rx) refl where
+  go : (b : Bool) → sound rx ≡ b → sound rx ≡ true
+  go true h = h
+  go false h = absurd (e (rw h))
+
+pub finished-open : (rx : Receiver) (room : ℕ) → givenOf (finishing rx room .why) .number ≡ 0 → sound rx ≡ true
+unfolding finishing
+finished-open rx room e = go (sound rx) refl where
+  go : (b : Bool) → sound rx ≡ b → sound rx ≡ true
+  go true h = h
+  go false h = absurd (let z : _≡_ {A = ℕ} 9 0 = rw h at e in omega arith)
+
+-- ---- openings
+
+pub sender-short : (state : List ℕ) (u : ℕ) → length state < senderLength → Opens senderIn (senderOpening state u) 8 state
+unfolding senderOpening
+sender-short state u h = rw (lt-ltb (length state) senderLength h) (record { number = refl; state-is = refl; reads = refl })
+
+pub sender-opened : (state l : List ℕ) (u n : ℕ) (r : Sent) → senderLength ≤ length state → sends.Opens u r → n ≡ sender.numberOf (r .why) →
+    SenderStored (r .sender) state l → Opens senderIn (senderOpening state u) n l
+unfolding senderOpening
+sender-opened state l u n r h o e f =
+    rw (le-ltb (length state) senderLength h)
+    (record {
+      number = e ∙ o .number;
+      state-is = f .words ∙ ap (λ (s : Sender). wordsOfSender s ++ drop senderLength state) (o .sender);
+      reads = f .reads ∙ ap readSender (o .sender) ∙ sender-opening-reads u;
+    })
+
+pub receiver-short : (state : List ℕ) (u w : ℕ) (b : Start) → length state < receiverLength → Opens receiverIn (receiverOpening state u w b) 8 state
+unfolding receiverOpening
+receiver-short state u w b h = rw (lt-ltb (length state) receiverLength h) (record { number = refl; state-is = refl; reads = refl })
+
+pub receiver-opened : (state l : List ℕ) (u w : ℕ) (b : Start) (n : ℕ) (r : Opened) → receiverLength ≤ length state → receives.Opens u w b r →
+    n ≡ givenOf (r .why) .number → ReceiverStored (r .receiver) state l → Opens receiverIn (receiverOpening state u w b) n l
+unfolding receiverOpening
+receiver-opened state l u w b n r h o e f =
+    rw (le-ltb (length state) receiverLength h)
+    (record {
+      number = e ∙ ap (λ (g : Reason). g .number) (o .always-given);
+      state-is = f .words ∙ ap (λ (rx : Receiver). wordsOfReceiver rx ++ drop receiverLength state) (o .always-receiver);
+      reads = f .reads ∙ ap readReceiver (o .always-receiver) ∙ receiver-opening-reads u w b;
+    })
+
+-- ---- a word sent
+
+module _ (state : List ℕ) (word : ℕ) (out o : List ℤ) (n : ℕ) (r : Sent) (is : sends.Sends (senderIn state) word out r o) (number : n ≡ sender.numberOf (r .why)) where
+  pub sent-refused : (n ≡ 0 → ⊥) → Sends (sendCall state word out) n state o
+  unfolding sendCall
+  sent-refused h =
+      let e = number ∙ is .number in
+      record {
+        number = e;
+        state-is = rw (ne-eqb (sender.sending (senderIn state) word out .number) 0 (λ z. h (e ∙ z)));
+        reads = sym (sending-keeps (senderIn state) word out (λ z. h (e ∙ z)));
+        out-is = is .output;
+      }
+
+  pub sent-done : (l : List ℕ) → n ≡ 0 → SenderStored (r .sender) state l → Sends (sendCall state word out) n l o
+  unfolding sendCall
+  sent-done l h f =
+      let e = number ∙ is .number in
+      record {
+        number = e;
+        state-is = rw (eq-eqb (sender.sending (senderIn state) word out .number) 0 (sym e ∙ h)) (f .words ∙ ap (λ (s : Sender). wordsOfSender s ++ drop senderLength state) (is .sender));
+        reads = f .reads ∙ ap readSender (is .sender) ∙ sending-reads (senderIn state) word out (sym e ∙ h);
+        out-is = is .output;
+      }
+
+  pub sent-long : n ≡ 0 → senderLength ≤ length state
+  sent-long h = sender-long state (sent-open (senderIn state) word out (sym (number ∙ is .number) ∙ h))
+
+-- ---- a piece and a finish
+
+module _ (ran : Ran) (state out told : List ℕ) (a : Answer) (o t : List ℕ) (n : ℕ) (is : receives.Is ran out a o) (number : n ≡ givenOf (a .why) .number)
+    (tells : t ≡ toldOf (a .taken) (a .written) (givenOf (a .why) .place) told) where
+  told-same : t ≡ toldOf (ran .taken) (length (ran .words)) (givenOf (ran .why) .place) told
+  told-same = tells ∙ rw (is .taken, is .written, is .given)
+
+  pub answered-kept : (changed : Bool) → changed ≡ false → ran .receiver ≡ receiverIn state → Answers (callOf changed ran state out told) n state o t
+  answered-kept changed e same =
+      record { number = number ∙ ap (λ (g : Reason). g .number) (is .given); state-is = rw e; reads = sym same; out-is = is .output; told-is = told-same }
+
+  pub answered-written : (changed : Bool) (l : List ℕ) → changed ≡ true → ReceiverStored (a .receiver) state l → readReceiver (ran .receiver) ≡ ran .receiver →
+      Answers (callOf changed ran state out told) n l o t
+  answered-written changed l e f itself =
+      record {
+        number = number ∙ ap (λ (g : Reason). g .number) (is .given);
+        state-is = rw e (f .words ∙ ap (λ (rx : Receiver). wordsOfReceiver rx ++ drop receiverLength state) (is .receiver));
+        reads = f .reads ∙ ap readReceiver (is .receiver) ∙ itself;
+        out-is = is .output;
+        told-is = told-same;
+      }
+
+module _ (state : List ℕ) (piece : List ℤ) (out told : List ℕ) where
+  pub hear-short : length told < 3 → Answers (hearCall state piece out told) 8 state out told
+  unfolding hearCall
+  hear-short h = rw (lt-ltb (length told) 3 h) (record { number = refl; state-is = refl; reads = refl; out-is = refl; told-is = refl })
+
+  module _ (enough : 3 ≤ length told) (a : Answer) (o t : List ℕ) (n : ℕ) (is : receives.Hears (receiverIn state) piece out a o) (number : n ≡ givenOf (a .why) .number)
+      (tells : t ≡ toldOf (a .taken) (a .written) (givenOf (a .why) .place) told) where
+    ran : Ran
+    ran = hearing (receiverIn state) piece (length out)
+
+    pub hear-kept : a .taken ≡ 0 → Answers (hearCall state piece out told) n state o t
+    unfolding hearCall ran
+    hear-kept h =
+        rw (le-ltb (length told) 3 enough)
+        (answered-kept ran state out told a o t n (is .always) number tells (ltb 0 (ran .taken)) (rw (sym (is .always .taken) ∙ h)) (hearing-keeps (receiverIn state) piece (length out) (sym (is .always .taken) ∙ h)))
+
+    pub hear-written : (l : List ℕ) → (a .taken ≡ 0 → ⊥) → ReceiverStored (a .receiver) state l → Answers (hearCall state piece out told) n l o t
+    unfolding hearCall ran
+    hear-written l h f =
+        let e = is .always .taken in
+        rw (le-ltb (length told) 3 enough)
+        (answered-written ran state out told a o t n (is .always) number tells (ltb 0 (ran .taken)) l (lt-ltb 0 (ran .taken) (omega arith)) f (hearing-reads (receiverIn state) piece (length out) (λ z. h (e ∙ z))))
+
+    pub hear-long : (a .taken ≡ 0 → ⊥) → receiverLength ≤ length state
+    unfolding ran
+    hear-long h = receiver-long state (heard-open (receiverIn state) piece (length out) (λ z. h (is .always .taken ∙ z)))
+
+module _ (state out told : List ℕ) where
+  pub finish-short : length told < 3 → Answers (finishCall state out told) 8 state out told
+  unfolding finishCall
+  finish-short h = rw (lt-ltb (length told) 3 h) (record { number = refl; state-is = refl; reads = refl; out-is = refl; told-is = refl })
+
+  module _ (enough : 3 ≤ length told) (a : Answer) (o t : List ℕ) (n : ℕ) (is : receives.Finishes (receiverIn state) out a o) (number : n ≡ givenOf (a .why) .number)
+      (tells : t ≡ toldOf (a .taken) (a .written) (givenOf (a .why) .place) told) where
+    ends : Ran
+    ends = finishing (receiverIn state) (length out)
+
+    same : n ≡ givenOf (ends .why) .number
+    unfolding ends
+    same = number ∙ ap (λ (g : Reason). g .number) (is .always .given)
+
+    pub finish-kept : (n ≡ 0 → ⊥) → Answers (finishCall state out told) n state o t
+    unfolding finishCall ends same
+    finish-kept h =
+        rw (le-ltb (length told) 3 enough)
+        (answered-kept ends state out told a o t n (is .always) number tells (eqb (givenOf (ends .why) .number) 0) (ne-eqb _ _ (λ z. h (same ∙ z))) (finishing-keeps (receiverIn state) (length out) (λ z. h (same ∙ z))))
+
+    pub finish-written : (l : List ℕ) → n ≡ 0 → ReceiverStored (a .receiver) state l → Answers (finishCall state out told) n l o t
+    unfolding finishCall ends same
+    finish-written l h f =
+        rw (le-ltb (length told) 3 enough)
+        (answered-written ends state out told a o t n (is .always) number tells (eqb (givenOf (ends .why) .number) 0) l (eq-eqb _ _ (sym same ∙ h)) f (finishing-reads (receiverIn state) (length out) (sym same ∙ h)))
+
+    pub finish-long : n ≡ 0 → receiverLength ≤ length state
+    unfolding ends same
+    finish-long h = receiver-long state (finished-open (receiverIn state) (length out) (sym same ∙ h))
+
+-- ---- what is pending
+
+pub pending-small : (state : List ℕ) → pendingIn state < 2 ^ 32
+unfolding pendingIn
+pending-small state = go (sound (receiverIn state)) refl where
+  go : (b : Bool) → sound (receiverIn state) ≡ b → pendingIn state < 2 ^ 32
+  go true h = let f = sound-core (receiverIn state) h in rw h (omega arith)
+  go false h = rw h (omega arith)

@@ -1,0 +1,304 @@
+// The library for C and Rust: both ends over numbers and slices only, their states in words that the caller lends.
+//
+// Each function reads the state, calls the door that it wraps, and writes the state back where it changed. A state is read as closed
+// where it is too short, its tag is another, or the record in it is not sound.
+pub mod bytes;
+pub mod state;
+
+use crate::state::load_receiver;
+use crate::state::load_sender;
+use crate::state::store_receiver;
+use crate::state::store_sender;
+use receiver::Start;
+use samples::Pair;
+use samples::Sample;
+ghost use mathlib.Core.Path.{_≡_};
+ghost use mathlib.Core.List.{[]};
+ghost use Prim.Native.Nat.{_+_, _%_, _≤_};
+ghost use lib.IntN.{pos};
+ghost use lib.ListN.{length, set};
+ghost use Rattle.samples.specs.Heard.{heardSample};
+ghost use Rattle.demfizagu.specs.Calls.{senderOpening, startAt, receiverOpening, sendCall, toldOf, hearCall, finishCall, pendingIn, openIn, sampleCall, converting, samplesCall};
+ghost use Rattle.demfizagu.specs.Promise.{Opens, Sends, Answers, HeardIs, Samples, ConvertsTo, Converts};
+ghost use Rattle.demfizagu.specs.State.{senderLength, senderIn, receiverLength, receiverIn};
+
+#[no_mangle]
+pub extern "C" fn demfizagu_version() -> u32
+    ensures { λ r. ⌜ r ≡ 1 ⌝ }
+{
+    1
+}
+
+#[no_mangle]
+pub extern "C" fn demfizagu_sender_words() -> usize
+    ensures { λ r. ⌜ r ≡ senderLength ⌝ }
+{
+    4
+}
+
+#[no_mangle]
+pub extern "C" fn demfizagu_receiver_words() -> usize
+    ensures { λ r. ⌜ r ≡ receiverLength ⌝ }
+{
+    279
+}
+
+#[no_mangle]
+pub extern "C" fn demfizagu_sender_open(state: &mut [u64], u: u32) -> u32
+    ensures { λ r. ⌜ Opens senderIn (senderOpening (now (state .entry)) u) r (now (state .exit)) ⌝ }
+{
+    if state.len() < 4 {
+        return 8;
+    }
+    let o = sender::open_sender(u);
+    let s = o.sender;
+    let why = o.why;
+    store_sender(s, state);
+    sender::number(why)
+}
+
+// Refused, in this order: a closed sender, a bit at or above 3 + 2u, an output shorter than four places.
+#[no_mangle]
+pub extern "C" fn demfizagu_send(state: &mut [u64], word: u32, out: &mut [i32]) -> u32
+    ensures { λ r. ⌜ Sends (sendCall (now (state .entry)) word (now (out .entry))) r (now (state .exit)) (now (out .exit)) ⌝ }
+{
+    let a = sender::send(load_sender(state), word, out);
+    let why = a.why;
+    let n = sender::number(why);
+    if n != 0 {
+        return n;
+    }
+    let s = a.sender;
+    store_sender(s, state);
+    n
+}
+
+// Opens a receiver in a state that is long enough.
+fn opened(state: &mut [u64], u: u32, window: u32, start: Start) -> u32
+    ensures { λ r. ⌜ Opens receiverIn (receiverOpening (now (state .entry)) u window start) r (now (state .exit)) ⌝ }
+{
+    if state.len() < 279 {
+        return 8;
+    }
+    let o = receiver::open_receiver(u, window, start);
+    let rx = o.receiver;
+    let why = o.why;
+    store_receiver(rx, state);
+    receiver::number(why)
+}
+
+#[no_mangle]
+pub extern "C" fn demfizagu_receiver_open(state: &mut [u64], u: u32, window: u32, start: u32) -> u32
+    ensures { λ r. ⌜ Opens receiverIn (receiverOpening (now (state .entry)) u window (startAt start)) r (now (state .exit)) ⌝ }
+{
+    if start == 16 {
+        return opened(state, u, window, Start::Free);
+    }
+    opened(state, u, window, Start::At(start))
+}
+
+// Window 64 and a free start.
+#[no_mangle]
+pub extern "C" fn demfizagu_receiver_open_plain(state: &mut [u64], u: u32) -> u32
+    ensures { λ r. ⌜ Opens receiverIn (receiverOpening (now (state .entry)) u 64 Start.Free) r (now (state .exit)) ⌝ }
+{
+    opened(state, u, 64, Start::Free)
+}
+
+// The first three places of `told`.
+fn tell(told: &mut [u64], taken: usize, written: usize, place: usize)
+    requires { ⌜ 3 ≤ length (now told) ⌝ }
+    ensures { λ _. ⌜ now (told .exit) ≡ toldOf taken written place (now (told .entry)) ⌝ }
+{
+    told[0] = taken as u64;
+    told[1] = written as u64;
+    told[2] = place as u64;
+}
+
+// The state is written back where a symbol was taken.
+#[no_mangle]
+pub extern "C" fn demfizagu_hear(
+    state: &mut [u64],
+    piece: &[i32],
+    out: &mut [u32],
+    told: &mut [u64],
+) -> u32
+    ensures { λ r. ⌜ Answers (hearCall (now (state .entry)) (now (piece .entry)) (now (out .entry)) (now (told .entry))) r (now (state .exit)) (now (out .exit)) (now (told .exit)) ⌝ }
+{
+    if told.len() < 3 {
+        return 8;
+    }
+    let a = receiver::hear(load_receiver(state), piece, out);
+    let why = a.why;
+    let n = receiver::number(why);
+    let place = receiver::place(why);
+    tell(told, a.taken, a.written, place as usize);
+    if a.taken == 0 {
+        return n;
+    }
+    let rx = a.receiver;
+    store_receiver(rx, state);
+    n
+}
+
+// The state is written back, closed, where the finish was done.
+#[no_mangle]
+pub extern "C" fn demfizagu_finish(state: &mut [u64], out: &mut [u32], told: &mut [u64]) -> u32
+    ensures { λ r. ⌜ Answers (finishCall (now (state .entry)) (now (out .entry)) (now (told .entry))) r (now (state .exit)) (now (out .exit)) (now (told .exit)) ⌝ }
+{
+    if told.len() < 3 {
+        return 8;
+    }
+    let a = receiver::finish(load_receiver(state), out);
+    let why = a.why;
+    let n = receiver::number(why);
+    let place = receiver::place(why);
+    tell(told, a.taken, a.written, place as usize);
+    if n != 0 {
+        return n;
+    }
+    let rx = a.receiver;
+    store_receiver(rx, state);
+    n
+}
+
+// 0 of a sender and of a closed state.
+#[no_mangle]
+pub extern "C" fn demfizagu_pending(state: &[u64]) -> u32
+    ensures { λ r. ⌜ r ≡ pendingIn (now (state .entry)) ⌝ }
+{
+    let n = receiver::pending(load_receiver(state));
+    n as u32
+}
+
+#[no_mangle]
+pub extern "C" fn demfizagu_is_open(state: &[u64]) -> u32
+    ensures { λ r. ⌜ r ≡ openIn (now (state .entry)) ⌝ }
+{
+    if receiver::is_open(load_receiver(state)) {
+        return 1;
+    }
+    if sender::is_open(load_sender(state)) {
+        return 1;
+    }
+    0
+}
+
+// What was heard of a sample: the number, both coordinates, and the place at fault, which is 0 where there is none.
+struct Heard {
+    number: u32,
+    x: i32,
+    y: i32,
+    place: u8,
+}
+
+fn hear_floats(x: f32, y: f32) -> Heard
+    ensures { λ r. ⌜ HeardIs (heardSample x y) r ⌝ }
+{
+    let p = samples::hear_sample(Sample { x: x, y: y });
+    match p {
+        Pair::Heard { x: a, y: b } => Heard {
+            number: 0,
+            x: a,
+            y: b,
+            place: 0,
+        },
+        Pair::Refused { place } => Heard {
+            number: 5,
+            x: 0,
+            y: 0,
+            place: place,
+        },
+    }
+}
+
+// The first three places of an output.
+fn put_three(out: &mut [i32], h: Heard)
+    requires { ⌜ 3 ≤ length (now out) ⌝ }
+    ensures { λ _. ⌜ now (out .exit) ≡ set (set (set (now (out .entry)) 0 (h .x)) 1 (h .y)) 2 (pos (h .place)) ⌝ }
+{
+    let a = h.x;
+    let b = h.y;
+    out[0] = a;
+    out[1] = b;
+    out[2] = h.place as i32;
+}
+
+#[no_mangle]
+pub extern "C" fn demfizagu_sample(x: f32, y: f32, out: &mut [i32]) -> u32
+    ensures { λ r. ⌜ Samples (sampleCall x y (now (out .entry))) r (now (out .exit)) ⌝ }
+{
+    if out.len() < 3 {
+        return 8;
+    }
+    let h = hear_floats(x, y);
+    put_three(out, h);
+    h.number
+}
+
+// How a list of coordinates went: how many were written, and where it stopped.
+struct Converted {
+    number: u32,
+    written: usize,
+    place: usize,
+}
+
+// Two places of an output.
+fn put_pair(out: &mut [i32], at: usize, h: Heard)
+    requires { ⌜ at + 2 ≤ length (now out) ⌝ }
+    ensures { λ _. ⌜ now (out .exit) ≡ set (set (now (out .entry)) at (h .x)) (at + 1) (h .y) ⌝ }
+{
+    let a = h.x;
+    let b = h.y;
+    out[at] = a;
+    out[at + 1] = b;
+}
+
+// Sample by sample, up to the first that is refused or has no room.
+fn convert(floats: &[f32], out: &mut [i32]) -> Converted
+    requires { ⌜ length (now floats) % 2 ≡ 0 ⌝ }
+    ensures { λ r. ⌜ ConvertsTo (converting (now (floats .entry)) [] (length (now (out .entry)))) (now (out .entry)) (r .number) (r .written) (r .place) (now (out .exit)) ⌝ }
+{
+    let mut i: usize = 0;
+    while i < floats.len() {
+        let h = hear_floats(floats[i], floats[i + 1]);
+        if h.number != 0 {
+            return Converted {
+                number: 5,
+                written: i,
+                place: i + h.place as usize,
+            };
+        }
+        if out.len() < i + 2 {
+            return Converted {
+                number: 8,
+                written: i,
+                place: 0,
+            };
+        }
+        put_pair(out, i, h);
+        i += 2;
+    }
+    Converted {
+        number: 0,
+        written: i,
+        place: 0,
+    }
+}
+
+// Refused as a whole where the length is odd.
+#[no_mangle]
+pub extern "C" fn demfizagu_samples(floats: &[f32], out: &mut [i32], told: &mut [u64]) -> u32
+    ensures { λ r. ⌜ Converts (samplesCall (now (floats .entry)) (now (out .entry)) (now (told .entry))) r (now (out .exit)) (now (told .exit)) ⌝ }
+{
+    if told.len() < 3 {
+        return 8;
+    }
+    if floats.len() % 2 != 0 {
+        tell(told, 0, 0, 0);
+        return 10;
+    }
+    let c = convert(floats, out);
+    tell(told, c.written, c.written, c.place);
+    c.number
+}

@@ -1,0 +1,66 @@
+// The page of `lab help`: a first session to copy, the verbs, and the numbers given back.
+use libc::STDOUT_FILENO;
+
+fn say(text: &[u8]) {
+    io::write_all(STDOUT_FILENO, text);
+}
+
+fn first_session() {
+    say(
+        b"lab: both ends of the line by hand. It reads lines from standard input and answers each by a line.
+
+A first session. Start `lab` and type the lines on the left; its answers stand on the right.
+
+  sender 0                      0             a sender of width 0, whose words are 0 to 7
+  send 5 4                      0 -1 -1 1 1   word 5 is sent as the points (-1,-1) and (1,1)
+  receiver 0                    0             a receiver of the same width
+  piece 64 -120 -131 128 140    1 0 0         it hears them 128 times as large, a little off: 1 taken
+  finish 64                     0 1 0 : 5     the line ends: 1 word, and it is 5
+
+The receiver says a word only when no later symbol can change it, so mostly some symbols later.
+
+",
+    );
+}
+
+fn verbs() {
+    say(
+        b"What a line can be. Tokens are separated by one space.
+
+  sender U                  opens a sender of width U, 0 to 8. Answer: N
+  send W CAP                sends word W, below 2^(3+2U), into an output of CAP places. Answer: N, if 0 then x y x y
+  receiver U                opens a receiver with window 64 and a free start. Answer: N
+  receiver U WINDOW free    the same with a window of 1 to 64 symbols that may wait undecided
+  receiver U WINDOW at S    the same from the state S, 0 to 15; a sender starts at 0
+  piece CAP C C C C ..      hears coordinates, four to a symbol, -8192 to 8192, into an output of CAP words
+                            Answer: TAKEN WRITTEN N, for a 5 ` place P`, and if words were written ` :` and the words
+  finish CAP                ends the line and writes the words that wait. Answer: as for a piece
+  sample HEX HEX            a pair of floats by their bits, eight digits each. Answer: X Y, or `5 place P`
+  pending                   how many symbols wait undecided
+  an empty line, or # ..    answers nothing
+
+",
+    );
+}
+
+fn numbers() {
+    say(
+        b"N, the number given back:
+
+  0 done                        6 the window is full: finish, and open again
+  1 width above 8               7 4294967295 symbols were taken
+  2 window not 1 to 64          8 the output is shorter than needed
+  3 start above 15              9 closed: open it first
+  4 no word of this width      10 coordinates not in fours
+  5 coordinate out of range     ? the line cannot be read, and changes nothing
+
+Numbers are decimal, CAP is at most 4096, and a line at most 65536 bytes.
+",
+    );
+}
+
+pub fn show() {
+    first_session();
+    verbs();
+    numbers();
+}

@@ -1,0 +1,26 @@
+// The laboratory: both ends of the line behind a text protocol. A line of standard input is answered by a line of standard
+// output; `lab help` prints what the lines are. What no proof can say of a program, which bytes it reads and writes, is kept
+// to `lines`; all the rest works on slices that are lent here.
+mod answer;
+mod desk;
+mod help;
+mod lines;
+
+fn main() {
+    if os::arg_count() > 1 {
+        help::show();
+        return;
+    }
+    let mut chunk = [0u8; 65536];
+    let mut line = [0u8; 65536];
+    let mut page = [0u8; 131072];
+    let mut coordinates = [0i32; 4096];
+    let mut words = [0u32; 4096];
+    lines::serve(
+        &mut chunk,
+        &mut line,
+        &mut page,
+        &mut coordinates,
+        &mut words,
+    );
+}

@@ -1,0 +1,5 @@
+pub mod Bytes
+pub mod Token
+pub mod Number
+pub mod Page
+pub mod Many

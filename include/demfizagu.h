@@ -1,0 +1,192 @@
+/*
+ * demfizagu.h: both ends of a trellis-coded line (Wei's 16-state 4D code), as functions over numbers and slices.
+ *
+ * WHAT IT DOES
+ *
+ * A sender turns data words into symbols. A symbol is a pair of points, (x1, y1) and (x2, y2), with odd whole coordinates
+ * from -39 to 39. A receiver turns received symbols into words. It says a word only when the word is final: when the best
+ * readings of all it has heard, whatever state they end in, begin with the same symbols. What it has said is never taken
+ * back, and together with what a finish adds it is the nearest allowed sequence for all that was heard. Symbols taken
+ * whose words are not said yet are pending. The window is how many may be pending.
+ *
+ * The width u, 0 to 8, fixes the word: 3 + 2u bits, all higher bits zero. Both ends must use the same width.
+ *
+ * The receiver hears whole numbers from -8192 to 8192, where a point's coordinate c stands at 128 * c. A front end that
+ * has floats in the unit of the points (1.0 is coordinate 1) gets such numbers from demfizagu_sample or demfizagu_samples.
+ *
+ * A LINE IN SHORT
+ *
+ *     uint64_t *tx = malloc(8 * demfizagu_sender_words()), *rx = malloc(8 * demfizagu_receiver_words());
+ *     demfizagu_sender_open(tx, demfizagu_sender_words(), u);
+ *     demfizagu_receiver_open_plain(rx, demfizagu_receiver_words(), u);
+ *     for each word:
+ *         int32_t point[4], heard[4];   uint32_t said[65];   uint64_t told[3];
+ *         demfizagu_send(tx, demfizagu_sender_words(), word, point, 4);
+ *         heard[i] = 128 * point[i] + noise, for i 0 to 3;
+ *         demfizagu_hear(rx, demfizagu_receiver_words(), heard, 4, said, 65, told, 3);
+ *         said[0] to said[told[1] - 1] are final words
+ *     demfizagu_finish(rx, demfizagu_receiver_words(), said, 65, told, 3);
+ *         said[0] to said[told[1] - 1] are the last words
+ *
+ * examples/line.c is such a line, with every answer looked at.
+ *
+ * SLICES
+ *
+ * A slice is a pointer and then a length, which counts elements, not bytes. Each function's contract is proved by machine;
+ * these duties are the caller's, and no proof can see whether they are kept:
+ *
+ *   - a length is true: so many elements are there, and may be written where the pointer is not const;
+ *   - a pointer is aligned for its type and not null, also where the length is 0;
+ *   - slices of one call do not overlap;
+ *   - the words of a state are used by one thread at a time. Different states are independent: the library has no other
+ *     memory;
+ *   - the program is for x86-64 Linux: the archive holds no other code.
+ *
+ * STATES
+ *
+ * An end lives in 64-bit words that the caller lends: at least demfizagu_sender_words() or demfizagu_receiver_words(). More
+ * do no harm and stay as they are. An opening makes a state from any words; nothing is allocated, and nothing need be
+ * freed. A state may be copied to another place, and each copy then goes its own way. Its words are for the library
+ * alone. A state that is too short, was not made by an opening of that end, or whose numbers are out of range is
+ * read as closed. Between an opening and a finish nothing but these calls should write to it: a state whose words were
+ * changed may be read as closed, or as an end that heard something else, but no call then reads or writes outside its
+ * slices.
+ *
+ * TOLD
+ *
+ * Where a call has a slice `told`, it has at least three places, and the call always writes these three: told[0] how
+ * many symbols were taken (0 for a finish), told[1] how many words were written, told[2] the place at fault if the number
+ * is 5, else 0. If `told` is shorter the call answers 8 and does nothing.
+ *
+ * NUMBERS
+ *
+ * A call that opens, sends, hears, finishes or converts gives one of the numbers below. Where several apply, the order of
+ * tests is said at the function. A refused call leaves the state and all lent memory as they were, but for what is said
+ * here.
+ */
+#ifndef DEMFIZAGU_H
+#define DEMFIZAGU_H
+
+#include <stddef.h>
+#include <stdint.h>
+
+#ifdef __cplusplus
+extern "C" {
+#endif
+
+#define DEMFIZAGU_VERSION 1u
+
+/* Done: everything asked for was done. */
+#define DEMFIZAGU_DONE 0u
+/* An opening was given a width above 8; the state is now a closed end. */
+#define DEMFIZAGU_WIDTH 1u
+/* An opening was given a window that is not 1 to 64; the state is now a closed receiver. */
+#define DEMFIZAGU_WINDOW 2u
+/* An opening was given a start above 16; the state is now a closed receiver. */
+#define DEMFIZAGU_START 3u
+/* The word to send has a bit at or above bit 3 + 2u; nothing was sent. */
+#define DEMFIZAGU_WORD 4u
+/* A coordinate is outside -8192 to 8192, or a float is not a number, infinite or rounds to outside that range; the symbol
+ * or sample it belongs to was not taken, and the place says which coordinate was first at fault. */
+#define DEMFIZAGU_COORDINATE 5u
+/* With this symbol more than the window's number would be pending; it was not taken. Another symbol will seldom help: finish,
+ * open again, and go on with the symbol that was refused. */
+#define DEMFIZAGU_FULL 6u
+/* The receiver has taken 4,294,967,295 symbols; it takes no more: finish and open again. */
+#define DEMFIZAGU_END 7u
+/* A slice is too short: an output for what had to be written there, a `told`, or the state of an opening; the word, symbol,
+ * finish or call was not done and may be tried again with more room. */
+#define DEMFIZAGU_ROOM 8u
+/* The end is closed: it was never opened, its opening was refused, or it was finished; open it first. */
+#define DEMFIZAGU_CLOSED 9u
+/* The length of a piece is not a multiple of 4, or of a list of floats not a multiple of 2; nothing was taken. */
+#define DEMFIZAGU_LENGTH 10u
+
+/* The start that names no state: the receiver joins a line without knowing the sender's state. */
+#define DEMFIZAGU_FREE 16u
+
+/* The version of these functions: DEMFIZAGU_VERSION of the header that goes with the library. */
+uint32_t demfizagu_version(void);
+
+/* How many 64-bit words the state of a sender needs, and of a receiver. Always the same. */
+size_t demfizagu_sender_words(void);
+size_t demfizagu_receiver_words(void);
+
+/*
+ * Opens a sender of width u in state 0 with turn 0.
+ * Order: 8 if the state is too short (nothing is written), then 1.
+ */
+uint32_t demfizagu_sender_open(uint64_t *state, size_t state_len, uint32_t u);
+
+/*
+ * Sends one word: writes the symbol's x1, y1, x2, y2 to out[0] to out[3]. Other places of out stay.
+ * Order: 9, 4, 8 (out has less than four places). A refused word changes nothing.
+ *
+ * The word's bit 0 is I1, bits 1 and 2 are I2 and I3, the next u bits choose the first point and the next u bits the
+ * second.
+ */
+uint32_t demfizagu_send(uint64_t *state, size_t state_len, uint32_t word, int32_t *out, size_t out_len);
+
+/*
+ * Opens a receiver of width u that lets at most `window` symbols be pending. `start` 0 to 15 is the sender's state before
+ * the first symbol (0 for a sender just opened); DEMFIZAGU_FREE leaves it open.
+ * Order: 8 if the state is too short (nothing is written), then 1, 2, 3.
+ *
+ * The first word's turn, its bits 1 and 2, is measured against 0 with either start: a receiver that joins a live line
+ * cannot know the turn before it, and these two bits of its first word may be wrong.
+ */
+uint32_t demfizagu_receiver_open(uint64_t *state, size_t state_len, uint32_t u, uint32_t window, uint32_t start);
+
+/* The same with window 64 and a free start. */
+uint32_t demfizagu_receiver_open_plain(uint64_t *state, size_t state_len, uint32_t u);
+
+/*
+ * Hears a piece: symbols one after the other, four coordinates each (x1, y1, x2, y2). The words that become final with a
+ * symbol are written to out straight after those that this call wrote before. Other places of out stay.
+ *
+ * Order: 8 if told is too short (nothing is written), then 9, 10, then symbol by symbol 5, 7, 6, 8, stopping at the first
+ * refusal. Symbols before it stay taken and their words written: told[0] and told[1] count them, and the piece is to be
+ * gone on with at piece + 4 * told[0]. For a 5, told[2] is 0 to 3, the coordinate of that symbol. For an 8, out has no
+ * room for all words of that symbol, and none of them was written.
+ *
+ * One symbol makes at most 64 words final, and a whole piece at most as many as were pending and it has symbols: with that
+ * much room there is no 8. An empty piece on an open receiver is done, with 0 taken and 0 written.
+ */
+uint32_t demfizagu_hear(uint64_t *state, size_t state_len, const int32_t *piece, size_t piece_len, uint32_t *out,
+                        size_t out_len, uint64_t *told, size_t told_len);
+
+/*
+ * Finishes: writes the words of all pending symbols as the nearest allowed sequence has them, and closes the receiver.
+ * Order: 8 if told is too short (nothing is written), then 9, 8 (out has less places than symbols are pending, at most
+ * 64). A refused finish may be tried again.
+ */
+uint32_t demfizagu_finish(uint64_t *state, size_t state_len, uint32_t *out, size_t out_len, uint64_t *told,
+                          size_t told_len);
+
+/* How many symbols are pending; 0 for a closed receiver and for a sender. */
+uint32_t demfizagu_pending(const uint64_t *state, size_t state_len);
+
+/* 1 if the state is an open sender or an open receiver, else 0. */
+uint32_t demfizagu_is_open(const uint64_t *state, size_t state_len);
+
+/*
+ * Converts one sample. Each coordinate v becomes the whole number nearest to 128 * v, halves to the even neighbour, exactly.
+ * Done: out[0] and out[1] are the two numbers, out[2] is 0. For a 5, out[0] and out[1] are 0 and out[2] is 0 or 1, the
+ * coordinate first at fault. Other places of out stay. 8 if out has less than three places (nothing is written).
+ */
+uint32_t demfizagu_sample(float x, float y, int32_t *out, size_t out_len);
+
+/*
+ * Converts a list of coordinates, two to a sample (x, y, x, y, ..), up to the first sample that is refused. Coordinate n of
+ * the list goes to out[n]. told[0] and told[1] are how many coordinates were written, always whole samples; told[2] for a 5
+ * is the place in the list of the coordinate first at fault. Other places of out stay.
+ * Order: 8 if told is too short (nothing is written), then 10, then sample by sample 5, 8 (no room for its two numbers).
+ */
+uint32_t demfizagu_samples(const float *floats, size_t floats_len, int32_t *out, size_t out_len, uint64_t *told,
+                           size_t told_len);
+
+#ifdef __cplusplus
+}
+#endif
+
+#endif

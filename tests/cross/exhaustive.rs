@@ -1,0 +1,121 @@
+//! The scope's answer and release by their definition: every allowed sequence is listed and the order of ties is applied
+//! as it is worded. It serves to check the reference on short lists, and leans on it for the code's rules alone.
+
+use crate::reference::*;
+use crate::rng::Rng;
+
+/// An allowed sequence. The key is the scope's order: the sum, the states from the last back to the first, then in each
+/// symbol I3', w1, w2.
+#[derive(Clone)]
+struct Sequence {
+    sum: u64,
+    states: Vec<u32>,
+    symbols: Vec<Symbol>,
+}
+
+impl Sequence {
+    fn key(&self) -> (u64, Vec<u32>, Vec<(u32, u32, u32)>) {
+        let back = self.states.iter().rev().copied().collect();
+        (self.sum, back, self.symbols.iter().map(|s| (s.turn >> 1, s.w1, s.w2)).collect())
+    }
+
+    fn is_before(&self, other: &Sequence) -> bool {
+        self.sum < other.sum || (self.sum == other.sum && self.key() < other.key())
+    }
+
+    fn last(&self) -> u32 {
+        *self.states.last().unwrap()
+    }
+}
+
+fn offer(place: &mut Option<Sequence>, s: &Sequence) {
+    if place.as_ref().is_none_or(|best| s.is_before(best)) {
+        *place = Some(s.clone());
+    }
+}
+
+/// Goes through every allowed continuation of `so_far` and offers each whole sequence to the state it ends in.
+fn list_all(map: &Map, u: u32, heard: &[(Point, Point)], so_far: &mut Sequence, best: &mut [Option<Sequence>]) {
+    let Some(&y) = heard.get(so_far.symbols.len()) else {
+        return offer(&mut best[so_far.last() as usize], so_far);
+    };
+    let (from, sum) = (so_far.last(), so_far.sum);
+    for parts in 0..1u32 << (3 + 2 * u) {
+        let low = (1 << u) - 1;
+        let (i1, turn) = (parts & 1, parts >> 1 & 3);
+        let s = symbol(map, from & 1, i1, turn, parts >> 3 & low, parts >> (3 + u) & low);
+        so_far.symbols.push(s);
+        so_far.states.push(next_state(from, i1, turn % 2));
+        so_far.sum = sum + distance(y.0, s.points.0) + distance(y.1, s.points.1);
+        list_all(map, u, heard, so_far, best);
+        so_far.symbols.pop();
+        so_far.states.pop();
+        so_far.sum = sum;
+    }
+}
+
+fn words(u: u32, symbols: &[Symbol]) -> Vec<u32> {
+    let before = std::iter::once(0).chain(symbols.iter().map(|s| s.turn));
+    symbols.iter().zip(before).map(|(s, b)| word_of(u, b, s)).collect()
+}
+
+/// What is owed for a list: the words of the longest common beginning, and the words of the answer.
+fn owed(map: &Map, u: u32, start: u32, heard: &[(Point, Point)]) -> (Vec<u32>, Vec<u32>) {
+    let mut best: Vec<Option<Sequence>> = vec![None; 16];
+    for s in (0..16).filter(|&s| start == FREE || start == s) {
+        let mut none = Sequence { sum: 0, states: vec![s], symbols: vec![] };
+        list_all(map, u, heard, &mut none, &mut best);
+    }
+    let live: Vec<&Sequence> = best.iter().flatten().collect();
+    let mut answer = None;
+    live.iter().for_each(|s| offer(&mut answer, s));
+    let same = |k: &usize| live.iter().all(|s| s.symbols[*k].points == live[0].symbols[*k].points);
+    let common = (0..heard.len()).take_while(same).count();
+    (words(u, &live[0].symbols[..common]), words(u, &answer.unwrap().symbols))
+}
+
+/// One received coordinate: small whole points, midpoints (ties), the ends of the range, or anything.
+fn coordinate(rng: &mut Rng) -> i32 {
+    match rng.below(5) {
+        0 => 0,
+        1 => 128 * (rng.below(9) as i32 - 4),
+        2 => [-8192, 8192, -8191, 8191][rng.below(4) as usize],
+        3 => rng.below(16385) as i32 - 8192,
+        _ => 256 * (rng.below(5) as i32 - 2) + 128 + rng.below(61) as i32 - 30,
+    }
+}
+
+/// Compares the reference with the definition after every symbol of short lists. Gives the number of lists.
+pub fn check(map: &Map, seed: u64) -> Result<usize, String> {
+    let mut rng = Rng::new(seed);
+    // width, longest list with a free start, with a named start, lists
+    let sizes = [(0, 4, 5, 200), (0, 5, 6, 20), (1, 2, 3, 60), (2, 1, 2, 30), (3, 1, 1, 20)];
+    let mut lists = 0;
+    for (u, free, named, times) in sizes {
+        for _ in 0..times {
+            let start = if rng.below(2) == 0 { FREE } else { rng.below(16) as u32 };
+            let length = if start == FREE { free } else { named };
+            let (_, mut receiver) = Receiver::open(u, 64, start);
+            let (mut heard, mut spoken) = (vec![], vec![]);
+            for k in 1..=length {
+                let c: Vec<i32> = (0..4).map(|_| coordinate(&mut rng)).collect();
+                heard.push(((c[0], c[1]), (c[2], c[3])));
+                let mut out = [0; 64];
+                let answer = receiver.hear(map, &c, &mut out);
+                spoken.extend_from_slice(&out[..answer.written as usize]);
+                let mut rest = [0; 64];
+                let last = receiver.clone().finish(&mut rest);
+                let all: Vec<u32> = spoken.iter().chain(&rest[..last.written as usize]).copied().collect();
+                let (common, answer_words) = owed(map, u, start, &heard);
+                if (&spoken, &all) != (&common, &answer_words) {
+                    return Err(format!(
+                        "u {u}, start {start}, heard {heard:?}: after {k} symbols the reference spoke {spoken:?} of {all:?}, \
+                         the definition owes {common:?} of {answer_words:?}"
+                    ));
+                }
+            }
+            lists += 1;
+        }
+    }
+    Ok(lists)
+}

@@ -1,0 +1,137 @@
+//! The text protocol of `lab` over the reference: what each line answers. It lets the public cases in that form be run
+//! against the reference, and gives what `lab` should say to a failing case.
+
+use crate::reference::*;
+
+pub struct Lab {
+    map: Map,
+    sender: Sender,
+    receiver: Receiver,
+}
+
+fn whole(token: &str, most: u64) -> Option<u64> {
+    if token.is_empty() || !token.bytes().all(|b| b.is_ascii_digit()) {
+        return None;
+    }
+    let digits = token.trim_start_matches('0');
+    let n = if digits.is_empty() { 0 } else { digits.parse::<u64>().ok()? };
+    (n <= most).then_some(n)
+}
+
+fn u32_of(token: &str) -> Option<u32> {
+    whole(token, u32::MAX as u64).map(|n| n as u32)
+}
+
+fn cap_of(token: &str) -> Option<usize> {
+    whole(token, 4096).map(|n| n as usize)
+}
+
+fn coordinate_of(token: &str) -> Option<i32> {
+    let (digits, sign, most) = match token.strip_prefix('-') {
+        Some(rest) => (rest, -1, 1 << 31),
+        None => (token, 1, (1 << 31) - 1),
+    };
+    whole(digits, most).map(|n| (sign * n as i64) as i32)
+}
+
+fn bits_of(token: &str) -> Option<u32> {
+    let good = token.len() == 8 && token.bytes().all(|b| b.is_ascii_hexdigit());
+    if good {
+        u32::from_str_radix(token, 16).ok()
+    } else {
+        None
+    }
+}
+
+/// An answer of a piece or a finish, with its words.
+pub fn answer_line(a: &Answer, words: &[u32]) -> String {
+    let mut line = format!("{} {} {}", a.taken, a.written, a.number);
+    if a.number == 5 {
+        line += &format!(" place {}", a.place);
+    }
+    if !words.is_empty() {
+        line += " :";
+        words.iter().for_each(|w| line += &format!(" {w}"));
+    }
+    line
+}
+
+impl Lab {
+    pub fn new() -> Lab {
+        Lab { map: Map::new(), sender: Sender::closed(), receiver: Receiver::closed() }
+    }
+
+    fn opened(&mut self, (number, receiver): (u32, Receiver)) -> String {
+        self.receiver = receiver;
+        number.to_string()
+    }
+
+    /// The answer to a line that can be read; none to one that cannot.
+    fn read(&mut self, line: &str) -> Option<String> {
+        let tokens: Vec<&str> = line.split(' ').collect();
+        match tokens[..] {
+            ["sender", u] => {
+                let (number, sender) = Sender::open(u32_of(u)?);
+                self.sender = sender;
+                Some(number.to_string())
+            }
+            ["send", word, cap] => {
+                let (word, mut out) = (u32_of(word)?, vec![0; cap_of(cap)?]);
+                let number = self.sender.send(&self.map, word, &mut out);
+                let points = if number == 0 { &out[..4] } else { &[] };
+                Some(points.iter().fold(number.to_string(), |line, c| line + &format!(" {c}")))
+            }
+            ["receiver", u] => Some(u32_of(u)?).map(|u| self.opened(Receiver::open_plain(u))),
+            ["receiver", u, window, "free"] => {
+                let (u, window) = (u32_of(u)?, u32_of(window)?);
+                Some(self.opened(Receiver::open(u, window, FREE)))
+            }
+            ["receiver", u, window, "at", start] => {
+                let (u, window, start) = (u32_of(u)?, u32_of(window)?, u32_of(start)?);
+                // a start that is named must be one of the sixteen: 16 is no name of the free start here
+                let start = if start > 15 { 17 } else { start };
+                Some(self.opened(Receiver::open(u, window, start)))
+            }
+            ["piece", cap, ref coordinates @ ..] if coordinates.len() <= 4096 => {
+                let mut out = vec![0; cap_of(cap)?];
+                let piece = coordinates.iter().map(|c| coordinate_of(c)).collect::<Option<Vec<i32>>>()?;
+                let answer = self.receiver.hear(&self.map, &piece, &mut out);
+                Some(answer_line(&answer, &out[..answer.written as usize]))
+            }
+            ["finish", cap] => {
+                let mut out = vec![0; cap_of(cap)?];
+                let answer = self.receiver.finish(&mut out);
+                Some(answer_line(&answer, &out[..answer.written as usize]))
+            }
+            ["sample", x, y] => {
+                let (x, y) = (bits_of(x)?, bits_of(y)?);
+                Some(match sample(x, y) {
+                    Ok((x, y)) => format!("{x} {y}"),
+                    Err(place) => format!("5 place {place}"),
+                })
+            }
+            ["pending"] => Some(self.receiver.pending().to_string()),
+            _ => None,
+        }
+    }
+
+    /// The answer to one line without its newline; none where nothing is said.
+    pub fn line(&mut self, line: &[u8]) -> Option<String> {
+        if line.len() > 65_536 {
+            return Some("?".into());
+        }
+        if line.is_empty() || line[0] == b'#' {
+            return None;
+        }
+        let answer = std::str::from_utf8(line).ok().and_then(|line| self.read(line));
+        Some(answer.unwrap_or("?".into()))
+    }
+
+    pub fn all(&mut self, input: &[u8]) -> String {
+        let mut lines: Vec<&[u8]> = input.split(|&b| b == b'\n').collect();
+        if lines.last().is_some_and(|l| l.is_empty()) {
+            lines.pop();
+        }
+        lines.iter().filter_map(|l| self.line(l)).fold(String::new(), |all, answer| all + &answer + "\n")
+    }
+}

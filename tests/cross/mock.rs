@@ -1,0 +1,341 @@
+//! A stand-in for the static library: the same C functions over the receiver written for speed (`bench/fast.rs`).
+//!
+//! It serves three ends. The test is tried on it before a proved library is at hand; deliberately broken copies of it
+//! (`mutants/*.edit`) must be caught; and running the test on it shows that the receiver that the bench measures
+//! equals the clear reference. It is never linked into anything that is handed out.
+
+#[path = "../../bench/fast.rs"]
+#[allow(dead_code)]
+mod fast;
+
+use std::slice::{from_raw_parts, from_raw_parts_mut};
+
+#[cfg(columns)]
+use columns::*;
+#[cfg(not(columns))]
+use planes::*;
+
+/// The receiver with planes, and its memory as words.
+#[cfg(not(columns))]
+mod planes {
+    use crate::fast::*;
+    pub type Held = Receiver<Keyed, Planes>;
+    pub const MEMORY_WORDS: usize = 64;
+
+    pub fn put(memory: &Planes, words: &mut [u64]) {
+        words.copy_from_slice(memory.bits.as_flattened());
+    }
+
+    pub fn get(words: &[u64]) -> Planes {
+        Planes { bits: std::array::from_fn(|s| std::array::from_fn(|b| words[4 * s + b])) }
+    }
+}
+
+/// The receiver with columns, and its memory as words.
+#[cfg(columns)]
+mod columns {
+    use crate::fast::*;
+    pub type Held = Receiver<Direct, Columns>;
+    pub const MEMORY_WORDS: usize = 32;
+
+    pub fn put(memory: &Columns, words: &mut [u64]) {
+        let one = |c: Column| c.low as u64 | (c.high as u64) << 16;
+        words.iter_mut().zip(memory.ring.chunks(2)).for_each(|(w, two)| *w = one(two[0]) | one(two[1]) << 32);
+    }
+
+    pub fn get(words: &[u64]) -> Columns {
+        let half = |slot: usize| words[slot / 2] >> (32 * (slot % 2));
+        let one = |slot| Column { low: half(slot) as u16, high: (half(slot) >> 16) as u16 };
+        Columns { ring: std::array::from_fn(one) }
+    }
+}
+
+const SENDER_TAG: u64 = 0x5345_4e44_5f30_3031;
+const RECEIVER_TAG: u64 = 0x5245_4356_5f30_3031;
+const SENDER_WORDS: usize = 5;
+/// Tag; open, width, window, turn, taken, slot, pending; sums; words of the ring; memory.
+const RECEIVER_WORDS: usize = 24 + 256 + MEMORY_WORDS;
+
+// ---- the sender
+
+struct Sender {
+    open: bool,
+    u: u32,
+    turn: u32,
+    state: u32,
+}
+
+const NO_SENDER: Sender = Sender { open: false, u: 0, turn: 0, state: 0 };
+
+fn load_sender(state: &[u64]) -> Option<Sender> {
+    if state.len() < SENDER_WORDS || state[0] != SENDER_TAG {
+        return None;
+    }
+    let sound = state[1] == 1 && state[2] <= 8 && state[3] < 4 && state[4] < 16;
+    sound.then(|| Sender { open: true, u: state[2] as u32, turn: state[3] as u32, state: state[4] as u32 })
+}
+
+fn store_sender(s: &Sender, state: &mut [u64]) {
+    let words = [SENDER_TAG, s.open as u64, s.u as u64, s.turn as u64, s.state as u64];
+    state[..SENDER_WORDS].copy_from_slice(&words);
+}
+
+static A_POINTS: [(i32, i32); 256] = fast::A_POINTS;
+
+/// The point with this label and number.
+fn point(label: u32, number: u32) -> (i32, i32) {
+    (0..label).fold(A_POINTS[number as usize], |(x, y), _| (y, -x))
+}
+
+fn send(s: &mut Sender, word: u32, out: &mut [i32]) -> u32 {
+    if word >> (3 + 2 * s.u) != 0 {
+        return 4;
+    }
+    if out.len() < 4 {
+        return 8;
+    }
+    let (i1, low, y0) = (word & 1, (1 << s.u) - 1, s.state & 1);
+    s.turn = (s.turn + (word >> 1 & 3)) & 3;
+    let first = point(s.turn, word >> 3 & low);
+    let second = point((s.turn + y0 + 2 * i1) & 3, word >> (3 + s.u) & low);
+    out[..4].copy_from_slice(&[first.0, first.1, second.0, second.1]);
+    let (w1, w2, w3) = (s.state >> 3 & 1, s.state >> 2 & 1, s.state >> 1 & 1);
+    s.state = w3 << 3 | y0 << 2 | (w2 ^ s.turn & 1) << 1 | (w1 ^ w3 ^ i1);
+    0
+}
+
+// ---- the receiver's words
+
+fn load(state: &[u64]) -> Option<Held> {
+    if state.len() < RECEIVER_WORDS || state[0] != RECEIVER_TAG {
+        return None;
+    }
+    let [open, u, window, turn, taken, slot, pending] = state[1..8].try_into().unwrap();
+    let sound = open == 1 && u <= 8 && (1..=64).contains(&window) && turn < 4 && taken < 1 << 32;
+    if !sound || slot > 63 || pending > window || state[8..24].iter().any(|&sum| sum >= 1 << 63) {
+        return None;
+    }
+    let (_, mut r) = Held::open(u as u32, window as u32, 16);
+    (r.turn, r.taken, r.slot, r.pending) = (turn as u32, taken as u32, slot as usize, pending as usize);
+    r.sums.copy_from_slice(&state[8..24]);
+    r.words.as_flattened_mut().chunks_mut(2).zip(&state[24..280]).for_each(|(two, &w)| {
+        two.copy_from_slice(&[w as u32, (w >> 32) as u32]);
+    });
+    r.memory = get(&state[280..RECEIVER_WORDS]);
+    Some(r)
+}
+
+fn store(r: &Held, state: &mut [u64]) {
+    let head = [r.open as u64, r.u as u64, r.window as u64, r.turn as u64, r.taken as u64];
+    state[0] = RECEIVER_TAG;
+    state[1..6].copy_from_slice(&head);
+    state[6..8].copy_from_slice(&[r.slot as u64, r.pending as u64]);
+    state[8..24].copy_from_slice(&r.sums);
+    state[24..280].iter_mut().zip(r.words.as_flattened().chunks(2)).for_each(|(w, two)| {
+        *w = two[0] as u64 | (two[1] as u64) << 32;
+    });
+    put(&r.memory, &mut state[280..RECEIVER_WORDS]);
+}
+
+fn tell(told: &mut [u64], taken: u64, written: u64, place: u64) {
+    told[..3].copy_from_slice(&[taken, written, place]);
+}
+
+fn answer(a: fast::Answer, told: &mut [u64]) -> u32 {
+    tell(told, a.taken, a.written, a.place);
+    a.number
+}
+
+fn closed(told: &mut [u64]) -> u32 {
+    answer(fast::refused(9), told)
+}
+
+// ---- samples
+
+fn coordinate(v: f32) -> Option<i32> {
+    // exact: an f32 times a power of two, in f64
+    let scaled = (v as f64 * 128.0).round_ties_even();
+    (scaled.abs() <= 8192.0).then_some(scaled as i32)
+}
+
+fn sample(x: f32, y: f32) -> Result<(i32, i32), u64> {
+    let x = coordinate(x).ok_or(0u64)?;
+    let y = coordinate(y).ok_or(1u64)?;
+    Ok((x, y))
+}
+
+// ---- the C functions
+
+#[no_mangle]
+pub extern "C" fn demfizagu_version() -> u32 {
+    1
+}
+
+#[no_mangle]
+pub extern "C" fn demfizagu_sender_words() -> usize {
+    SENDER_WORDS
+}
+
+#[no_mangle]
+pub extern "C" fn demfizagu_receiver_words() -> usize {
+    RECEIVER_WORDS
+}
+
+#[no_mangle]
+pub unsafe extern "C" fn demfizagu_is_open(state: *const u64, state_len: usize) -> u32 {
+    let state = from_raw_parts(state, state_len);
+    (load_sender(state).is_some() || load(state).is_some()) as u32
+}
+
+#[no_mangle]
+pub unsafe extern "C" fn demfizagu_pending(state: *const u64, state_len: usize) -> u32 {
+    load(from_raw_parts(state, state_len)).map_or(0, |r| r.pending as u32)
+}
+
+#[no_mangle]
+pub unsafe extern "C" fn demfizagu_sender_open(state: *mut u64, state_len: usize, u: u32) -> u32 {
+    let state = from_raw_parts_mut(state, state_len);
+    if state.len() < SENDER_WORDS {
+        return 8;
+    }
+    if u > 8 {
+        store_sender(&NO_SENDER, state);
+        return 1;
+    }
+    store_sender(&Sender { open: true, u, ..NO_SENDER }, state);
+    0
+}
+
+#[no_mangle]
+pub unsafe extern "C" fn demfizagu_send(
+    state: *mut u64,
+    state_len: usize,
+    word: u32,
+    out: *mut i32,
+    out_len: usize,
+) -> u32 {
+    let (state, out) = (from_raw_parts_mut(state, state_len), from_raw_parts_mut(out, out_len));
+    let Some(mut s) = load_sender(state) else { return 9 };
+    let number = send(&mut s, word, out);
+    if number == 0 {
+        store_sender(&s, state);
+    }
+    number
+}
+
+#[no_mangle]
+pub unsafe extern "C" fn demfizagu_receiver_open(
+    state: *mut u64,
+    state_len: usize,
+    u: u32,
+    window: u32,
+    start: u32,
+) -> u32 {
+    let state = from_raw_parts_mut(state, state_len);
+    if state.len() < RECEIVER_WORDS {
+        return 8;
+    }
+    let (number, r) = Held::open(u, window, start);
+    store(&r, state);
+    number
+}
+
+#[no_mangle]
+pub unsafe extern "C" fn demfizagu_receiver_open_plain(state: *mut u64, state_len: usize, u: u32) -> u32 {
+    demfizagu_receiver_open(state, state_len, u, 64, 16)
+}
+
+#[no_mangle]
+pub unsafe extern "C" fn demfizagu_hear(
+    state: *mut u64,
+    state_len: usize,
+    piece: *const i32,
+    piece_len: usize,
+    out: *mut u32,
+    out_len: usize,
+    told: *mut u64,
+    told_len: usize,
+) -> u32 {
+    let (state, piece) = (from_raw_parts_mut(state, state_len), from_raw_parts(piece, piece_len));
+    let (out, told) = (from_raw_parts_mut(out, out_len), from_raw_parts_mut(told, told_len));
+    if told.len() < 3 {
+        return 8;
+    }
+    let Some(mut r) = load(state) else { return closed(told) };
+    let a = r.hear(piece, out);
+    store(&r, state);
+    answer(a, told)
+}
+
+#[no_mangle]
+pub unsafe extern "C" fn demfizagu_finish(
+    state: *mut u64,
+    state_len: usize,
+    out: *mut u32,
+    out_len: usize,
+    told: *mut u64,
+    told_len: usize,
+) -> u32 {
+    let (state, out) = (from_raw_parts_mut(state, state_len), from_raw_parts_mut(out, out_len));
+    let told = from_raw_parts_mut(told, told_len);
+    if told.len() < 3 {
+        return 8;
+    }
+    let Some(mut last) = load(state) else { return closed(told) };
+    let a = last.finish(out);
+    store(&last, state);
+    answer(a, told)
+}
+
+#[no_mangle]
+pub unsafe extern "C" fn demfizagu_sample(x: f32, y: f32, out: *mut i32, out_len: usize) -> u32 {
+    let out = from_raw_parts_mut(out, out_len);
+    if out.len() < 3 {
+        return 8;
+    }
+    let (number, given) = match sample(x, y) {
+        Ok((x, y)) => (0, [x, y, 0]),
+        Err(place) => (5, [0, 0, place as i32]),
+    };
+    out[..3].copy_from_slice(&given);
+    number
+}
+
+#[no_mangle]
+pub unsafe extern "C" fn demfizagu_samples(
+    floats: *const f32,
+    floats_len: usize,
+    out: *mut i32,
+    out_len: usize,
+    told: *mut u64,
+    told_len: usize,
+) -> u32 {
+    let (floats, out) = (from_raw_parts(floats, floats_len), from_raw_parts_mut(out, out_len));
+    let told = from_raw_parts_mut(told, told_len);
+    if told.len() < 3 {
+        return 8;
+    }
+    if floats.len() % 2 != 0 {
+        tell(told, 0, 0, 0);
+        return 10;
+    }
+    let mut done = 0;
+    for pair in floats.chunks(2) {
+        let (number, place) = match sample(pair[0], pair[1]) {
+            Err(place) => (5, done as u64 + place),
+            Ok(_) if out.len() - done < 2 => (8, 0),
+            Ok((x, y)) => {
+                out[done] = x;
+                out[done + 1] = y;
+                (0, 0)
+            }
+        };
+        if number != 0 {
+            tell(told, done as u64, done as u64, place);
+            return number;
+        }
+        done += 2;
+    }
+    tell(told, done as u64, done as u64, 0);
+    0
+}

@@ -1,0 +1,386 @@
+//! Both ends of the line, written from the scope's words and for reading, not for speed.
+//!
+//! It leans on nothing but the standard library and shares no line with the proved code: the point table is made by its
+//! rule, the receiver keeps whole sequences and compares their points. A number is the scope's number (0 done, 1 width,
+//! 2 window, 3 start, 4 word, 5 coordinate, 6 window full, 7 too many symbols, 8 output, 9 closed, 10 piece length).
+
+/// The start that names no state.
+pub const FREE: u32 = 16;
+/// The greatest coordinate that is heard.
+pub const REACH: i64 = 8192;
+/// Line units to one unit of a point's coordinate.
+pub const SCALE: i64 = 128;
+
+pub type Point = (i32, i32);
+
+/// A points: both coordinates 1 modulo 4, in order of x² + y², equal sums in order of falling y. The first 256.
+pub fn a_points() -> Vec<Point> {
+    let odd = || (-83..=85).step_by(4);
+    let mut all: Vec<Point> = odd().flat_map(|x| odd().map(move |y| (x, y))).collect();
+    all.sort_by_key(|&(x, y)| (x * x + y * y, -y));
+    all.truncate(256);
+    all
+}
+
+/// A quarter turn clockwise.
+pub fn turned((x, y): Point) -> Point {
+    (y, -x)
+}
+
+/// The points of each label: `points[label][number]`.
+pub struct Map {
+    points: [Vec<Point>; 4],
+}
+
+impl Map {
+    pub fn new() -> Map {
+        let a = a_points();
+        let c: Vec<Point> = a.iter().map(|&p| turned(p)).collect();
+        let b: Vec<Point> = c.iter().map(|&p| turned(p)).collect();
+        let d: Vec<Point> = b.iter().map(|&p| turned(p)).collect();
+        Map { points: [a, c, b, d] }
+    }
+
+    pub fn point(&self, label: u32, number: u32) -> Point {
+        self.points[label as usize][number as usize]
+    }
+}
+
+/// The state after `state`, by the rule for W1 W2 W3 W4.
+pub fn next_state(state: u32, i1: u32, i2t: u32) -> u32 {
+    let (w1, w2, w3, w4) = (state >> 3 & 1, state >> 2 & 1, state >> 1 & 1, state & 1);
+    8 * w3 + 4 * w4 + 2 * ((w2 + i2t) % 2) + (w1 + w3 + i1) % 2
+}
+
+/// The two labels of a symbol with turn q.
+pub fn labels(q: u32, y0: u32, i1: u32) -> (u32, u32) {
+    (q, (q + y0 + 2 * i1) % 4)
+}
+
+/// A symbol: the parts that its word, its turn and its state gave it, and the two points that go over the line.
+#[derive(Clone, Copy, Debug)]
+pub struct Symbol {
+    pub i1: u32,
+    pub turn: u32,
+    pub w1: u32,
+    pub w2: u32,
+    pub points: (Point, Point),
+}
+
+pub fn symbol(map: &Map, y0: u32, i1: u32, turn: u32, w1: u32, w2: u32) -> Symbol {
+    let (first, second) = labels(turn, y0, i1);
+    Symbol { i1, turn, w1, w2, points: (map.point(first, w1), map.point(second, w2)) }
+}
+
+/// The word of a symbol that follows one with turn `before`.
+pub fn word_of(u: u32, before: u32, s: &Symbol) -> u32 {
+    let turned_by = (s.turn + 4 - before) % 4;
+    s.i1 | turned_by << 1 | s.w1 << 3 | s.w2 << (3 + u)
+}
+
+// ---- the sender
+
+#[derive(Clone, Debug)]
+pub struct Sender {
+    open: bool,
+    u: u32,
+    turn: u32,
+    state: u32,
+}
+
+impl Sender {
+    pub fn closed() -> Sender {
+        Sender { open: false, u: 0, turn: 0, state: 0 }
+    }
+
+    pub fn open(u: u32) -> (u32, Sender) {
+        if u > 8 {
+            return (1, Sender::closed());
+        }
+        (0, Sender { open: true, u, turn: 0, state: 0 })
+    }
+
+    pub fn is_open(&self) -> bool {
+        self.open
+    }
+
+    pub fn send(&mut self, map: &Map, word: u32, out: &mut [i32]) -> u32 {
+        if !self.open {
+            return 9;
+        }
+        if word >> (3 + 2 * self.u) != 0 {
+            return 4;
+        }
+        if out.len() < 4 {
+            return 8;
+        }
+        let low = (1 << self.u) - 1;
+        let (i1, turned_by) = (word & 1, word >> 1 & 3);
+        self.turn = (self.turn + turned_by) % 4;
+        let s = symbol(map, self.state & 1, i1, self.turn, word >> 3 & low, word >> (3 + self.u) & low);
+        self.state = next_state(self.state, i1, self.turn % 2);
+        let ((x1, y1), (x2, y2)) = s.points;
+        out[..4].copy_from_slice(&[x1, y1, x2, y2]);
+        0
+    }
+}
+
+// ---- samples
+
+/// The whole number nearest to 128·v, halves to even, from the bits of v; none if v is refused.
+pub fn coordinate(bits: u32) -> Option<i32> {
+    let exponent = bits >> 23 & 255;
+    if exponent == 255 {
+        return None;
+    }
+    let fraction = (bits & 0x7f_ffff) as u64;
+    // |v| = mantissa · 2^(power - 150), so 128·|v| = mantissa · 2^(power - 143).
+    let (mantissa, power) = if exponent == 0 { (fraction, 1) } else { (fraction | 0x80_0000, exponent) };
+    let whole = if power >= 143 {
+        // mantissa is 2^23 or more here
+        return None;
+    } else if 143 - power > 40 {
+        0
+    } else {
+        let below = 143 - power;
+        let (floor, rest, half) = (mantissa >> below, mantissa & ((1 << below) - 1), 1u64 << (below - 1));
+        floor + (rest > half || (rest == half && floor % 2 == 1)) as u64
+    };
+    let signed = if bits >> 31 == 1 { -(whole as i64) } else { whole as i64 };
+    (-REACH..=REACH).contains(&signed).then_some(signed as i32)
+}
+
+/// A sample: its two coordinates, or the place of the first at fault.
+pub fn sample(x: u32, y: u32) -> Result<(i32, i32), u64> {
+    let a = coordinate(x).ok_or(0u64)?;
+    let b = coordinate(y).ok_or(1u64)?;
+    Ok((a, b))
+}
+
+/// A list of coordinates, two to a sample. It gives the number, how many coordinates were written and the place for a 5.
+/// A list of odd length is a 10; then sample by sample 5, 8, stopping at the first refusal.
+pub fn samples(list: &[u32], out: &mut [i32]) -> (u32, u64, u64) {
+    if list.len() % 2 != 0 {
+        return (10, 0, 0);
+    }
+    let mut written = 0;
+    for pair in list.chunks(2) {
+        let (x, y) = match sample(pair[0], pair[1]) {
+            Ok(both) => both,
+            Err(place) => return (5, written as u64, written as u64 + place),
+        };
+        if out.len() - written < 2 {
+            return (8, written as u64, 0);
+        }
+        out[written] = x;
+        out[written + 1] = y;
+        written += 2;
+    }
+    (0, written as u64, 0)
+}
+
+// ---- the receiver
+
+/// The best sequence into a state: its sum, and its symbols that are not yet released, oldest first.
+#[derive(Clone, Debug)]
+struct Reading {
+    sum: u64,
+    pending: Vec<Symbol>,
+}
+
+#[derive(Clone, Debug)]
+pub struct Receiver {
+    open: bool,
+    u: u32,
+    window: u32,
+    taken: u64,
+    /// The turn that the next released word is measured against.
+    turn: u32,
+    /// For each state the best sequence into it; none where it cannot be reached.
+    best: Vec<Option<Reading>>,
+}
+
+#[derive(Clone, Copy, Debug, PartialEq, Eq)]
+pub struct Answer {
+    pub number: u32,
+    pub taken: u64,
+    pub written: u64,
+    /// The coordinate first at fault if the number is 5, else 0.
+    pub place: u64,
+}
+
+fn refused(number: u32) -> Answer {
+    Answer { number, taken: 0, written: 0, place: 0 }
+}
+
+/// Squared distance of a heard point from a point of the table.
+pub fn distance(heard: Point, p: Point) -> u64 {
+    let dx = heard.0 as i64 - SCALE * p.0 as i64;
+    let dy = heard.1 as i64 - SCALE * p.1 as i64;
+    (dx * dx + dy * dy) as u64
+}
+
+/// The nearest number of a label, the smaller of equals, with its squared distance.
+fn nearest(map: &Map, u: u32, label: u32, heard: Point) -> (u64, u32) {
+    (0..1u32 << u).map(|w| (distance(heard, map.point(label, w)), w)).min().unwrap()
+}
+
+/// For each subset 4·Y0 + 2·I1 + I2' the best symbol and its squared distance.
+fn best_of_subsets(map: &Map, u: u32, heard: (Point, Point)) -> Vec<(u64, Symbol)> {
+    let first: Vec<(u64, u32)> = (0..4).map(|l| nearest(map, u, l, heard.0)).collect();
+    let second: Vec<(u64, u32)> = (0..4).map(|l| nearest(map, u, l, heard.1)).collect();
+    let of_type = |y0: u32, i1: u32, turn: u32| {
+        let (a, b) = labels(turn, y0, i1);
+        let ((d1, w1), (d2, w2)) = (first[a as usize], second[b as usize]);
+        (d1 + d2, symbol(map, y0, i1, turn, w1, w2))
+    };
+    (0..8)
+        .map(|subset| {
+            let (y0, i1, i2t) = (subset >> 2, subset >> 1 & 1, subset & 1);
+            let (zero, one) = (of_type(y0, i1, i2t), of_type(y0, i1, 2 + i2t));
+            if one.0 < zero.0 {
+                one
+            } else {
+                zero
+            }
+        })
+        .collect()
+}
+
+/// How many symbols all these sequences begin with: both points equal.
+fn agreed(best: &[Option<Reading>]) -> usize {
+    let mut live = best.iter().flatten();
+    let first = &live.next().expect("some state is always reached").pending;
+    live.fold(first.len(), |most, other| {
+        (0..most).find(|&k| other.pending[k].points != first[k].points).unwrap_or(most)
+    })
+}
+
+impl Receiver {
+    pub fn closed() -> Receiver {
+        Receiver { open: false, u: 0, window: 0, taken: 0, turn: 0, best: vec![] }
+    }
+
+    pub fn open(u: u32, window: u32, start: u32) -> (u32, Receiver) {
+        let number = if u > 8 {
+            1
+        } else if !(1..=64).contains(&window) {
+            2
+        } else if start > FREE {
+            3
+        } else {
+            0
+        };
+        if number != 0 {
+            return (number, Receiver::closed());
+        }
+        let nothing = || Reading { sum: 0, pending: vec![] };
+        let best = (0..16).map(|s| (start == FREE || start == s).then(nothing)).collect();
+        (0, Receiver { open: true, u, window, taken: 0, turn: 0, best })
+    }
+
+    pub fn open_plain(u: u32) -> (u32, Receiver) {
+        Receiver::open(u, 64, FREE)
+    }
+
+    pub fn is_open(&self) -> bool {
+        self.open
+    }
+
+    pub fn pending(&self) -> usize {
+        self.best.iter().flatten().next().map_or(0, |r| r.pending.len())
+    }
+
+    /// The best sequences after one more symbol. A state's predecessors are tried in rising order and a later one must be
+    /// strictly better: ties go to the smaller state.
+    fn after(&self, map: &Map, heard: (Point, Point)) -> Vec<Option<Reading>> {
+        let choices = best_of_subsets(map, self.u, heard);
+        let mut found: Vec<Option<(u64, usize, Symbol)>> = vec![None; 16];
+        for (before, reading) in self.best.iter().enumerate() {
+            let Some(reading) = reading else { continue };
+            for input in 0..4u32 {
+                let (i1, i2t) = (input >> 1, input & 1);
+                let into = next_state(before as u32, i1, i2t) as usize;
+                let (cost, symbol) = choices[4 * (before & 1) + 2 * i1 as usize + i2t as usize];
+                let sum = reading.sum + cost;
+                if found[into].is_none_or(|(least, ..)| sum < least) {
+                    found[into] = Some((sum, before, symbol));
+                }
+            }
+        }
+        let longer = |(sum, before, symbol): (u64, usize, Symbol)| {
+            let mut pending = self.best[before].as_ref().unwrap().pending.clone();
+            pending.push(symbol);
+            Reading { sum, pending }
+        };
+        found.into_iter().map(|f| f.map(longer)).collect()
+    }
+
+    /// Writes the words of these symbols, and remembers the last one's turn.
+    fn speak(&mut self, symbols: &[Symbol], out: &mut [u32]) {
+        for (place, s) in out.iter_mut().zip(symbols) {
+            *place = word_of(self.u, self.turn, s);
+            self.turn = s.turn;
+        }
+    }
+
+    /// One symbol: how many words it wrote, or the number and place of its refusal.
+    fn hear_one(&mut self, map: &Map, c: &[i32], out: &mut [u32]) -> Result<usize, (u32, u64)> {
+        if let Some(place) = c.iter().position(|&c| (c as i64) < -REACH || c as i64 > REACH) {
+            return Err((5, place as u64));
+        }
+        if self.taken == 4_294_967_295 {
+            return Err((7, 0));
+        }
+        let mut best = self.after(map, ((c[0], c[1]), (c[2], c[3])));
+        let released = agreed(&best);
+        let kept = self.pending() + 1 - released;
+        if kept > self.window as usize {
+            return Err((6, 0));
+        }
+        if out.len() < released {
+            return Err((8, 0));
+        }
+        let common = best.iter().flatten().next().unwrap().pending[..released].to_vec();
+        self.speak(&common, out);
+        best.iter_mut().flatten().for_each(|r| drop(r.pending.drain(..released)));
+        self.best = best;
+        self.taken += 1;
+        Ok(released)
+    }
+
+    pub fn hear(&mut self, map: &Map, piece: &[i32], out: &mut [u32]) -> Answer {
+        if !self.open {
+            return refused(9);
+        }
+        if piece.len() % 4 != 0 {
+            return refused(10);
+        }
+        let mut answer = refused(0);
+        for c in piece.chunks(4) {
+            match self.hear_one(map, c, &mut out[answer.written as usize..]) {
+                Ok(words) => {
+                    answer.taken += 1;
+                    answer.written += words as u64;
+                }
+                Err((number, place)) => return Answer { number, place, ..answer },
+            }
+        }
+        answer
+    }
+
+    pub fn finish(&mut self, out: &mut [u32]) -> Answer {
+        if !self.open {
+            return refused(9);
+        }
+        let pending = self.pending();
+        if out.len() < pending {
+            return refused(8);
+        }
+        // min_by_key gives the first of equals: the smaller state.
+        let answer = self.best.iter().flatten().min_by_key(|r| r.sum).unwrap().pending.clone();
+        self.speak(&answer, out);
+        *self = Receiver::closed();
+        Answer { number: 0, taken: 0, written: pending as u64, place: 0 }
+    }
+}

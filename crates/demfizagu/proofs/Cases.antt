@@ -155,27 +155,31 @@ module _ (state : List ℕ) (piece : List ℤ) (out told : List ℕ) where
   unfolding hearCall
   hear-short h = rw (lt-ltb (length told) 3 h) (record { number = refl; state-is = refl; reads = refl; out-is = refl; told-is = refl })
 
-  module _ (enough : 3 ≤ length told) (a : Answer) (o t : List ℕ) (n : ℕ) (is : receives.Hears (receiverIn state) piece out a o) (number : n ≡ givenOf (a .why) .number)
+  module _ (enough : 3 ≤ length told) (rx : Receiver) (loaded : rx ≡ receiverIn state) (a : Answer) (o t : List ℕ) (n : ℕ) (was : receives.Is (hearing rx piece (length out)) out a o) (number : n ≡ givenOf (a .why) .number)
       (tells : t ≡ toldOf (a .taken) (a .written) (givenOf (a .why) .place) told) where
     ran : Ran
     ran = hearing (receiverIn state) piece (length out)
 
+    is : receives.Is ran out a o
+    unfolding ran
+    is = subst (λ (q : Receiver). receives.Is (hearing q piece (length out)) out a o) loaded was
+
     pub hear-kept : a .taken ≡ 0 → Answers (hearCall state piece out told) n state o t
-    unfolding hearCall ran
+    unfolding hearCall ran is
     hear-kept h =
         rw (le-ltb (length told) 3 enough)
-        (answered-kept ran state out told a o t n (is .always) number tells (ltb 0 (ran .taken)) (rw (sym (is .always .taken) ∙ h)) (hearing-keeps (receiverIn state) piece (length out) (sym (is .always .taken) ∙ h)))
+        (answered-kept ran state out told a o t n is number tells (ltb 0 (ran .taken)) (rw (sym (is .taken) ∙ h)) (hearing-keeps (receiverIn state) piece (length out) (sym (is .taken) ∙ h)))
 
     pub hear-written : (l : List ℕ) → (a .taken ≡ 0 → ⊥) → ReceiverStored (a .receiver) state l → Answers (hearCall state piece out told) n l o t
-    unfolding hearCall ran
+    unfolding hearCall ran is
     hear-written l h f =
-        let e = is .always .taken in
+        let e = is .taken in
         rw (le-ltb (length told) 3 enough)
-        (answered-written ran state out told a o t n (is .always) number tells (ltb 0 (ran .taken)) l (lt-ltb 0 (ran .taken) (omega arith)) f (hearing-reads (receiverIn state) piece (length out) (λ z. h (e ∙ z))))
+        (answered-written ran state out told a o t n is number tells (ltb 0 (ran .taken)) l (lt-ltb 0 (ran .taken) (omega arith)) f (hearing-reads (receiverIn state) piece (length out) (λ z. h (e ∙ z))))
 
     pub hear-long : (a .taken ≡ 0 → ⊥) → receiverLength ≤ length state
-    unfolding ran
-    hear-long h = receiver-long state (heard-open (receiverIn state) piece (length out) (λ z. h (is .always .taken ∙ z)))
+    unfolding ran is
+    hear-long h = receiver-long state (heard-open (receiverIn state) piece (length out) (λ z. h (is .taken ∙ z)))
 
 module _ (state out told : List ℕ) where
   pub finish-short : length told < 3 → Answers (finishCall state out told) 8 state out told

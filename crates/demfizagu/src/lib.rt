@@ -12,6 +12,7 @@ use crate::state::store_sender;
 use receiver::Start;
 use samples::Pair;
 use samples::Sample;
+use walk::Receiver;
 ghost use mathlib.Core.Path.{_≡_};
 ghost use mathlib.Core.List.{[]};
 ghost use Prim.Native.Nat.{_+_, _%_, _≤_};
@@ -115,7 +116,7 @@ fn tell(told: &mut [u64], taken: usize, written: usize, place: usize)
     told[2] = place as u64;
 }
 
-// The state is written back where a symbol was taken.
+// The receiver is heard in its parts, so that a call copies it in and out once. The state is written back where a symbol was taken.
 #[no_mangle]
 pub extern "C" fn demfizagu_hear(
     state: &mut [u64],
@@ -128,7 +129,13 @@ pub extern "C" fn demfizagu_hear(
     if told.len() < 3 {
         return 8;
     }
-    let a = receiver::hear(load_receiver(state), piece, out);
+    let rx = load_receiver(state);
+    let live = rx.live;
+    let core = rx.core;
+    let mut sums = rx.sums;
+    let mut steps = rx.steps;
+    let mut picks = rx.picks;
+    let a = receiver::hear_lent(live, core, piece, &mut sums, &mut steps, &mut picks, out);
     let why = a.why;
     let n = receiver::number(why);
     let place = receiver::place(why);
@@ -136,8 +143,17 @@ pub extern "C" fn demfizagu_hear(
     if a.taken == 0 {
         return n;
     }
-    let rx = a.receiver;
-    store_receiver(rx, state);
+    let after = a.core;
+    store_receiver(
+        Receiver {
+            live: live,
+            core: after,
+            sums: sums,
+            steps: steps,
+            picks: picks,
+        },
+        state,
+    );
     n
 }
 

@@ -14,7 +14,6 @@ use borrow.Author.Tests.{lt-ltb, le-ltb, le-leb}
 use lib.Dec.{ltb}
 use lib.IntN.{ℤ, pos}
 use lib.ListN.{getD, length, take, replicate, length-replicate}
-use lib.Seq.{ext-getD}
 use Rattle.wei.specs.State.{before, carryI1, carryI2, between}
 use Rattle.wei.specs.Label.{secondLabel}
 use Rattle.wei.proofs.Finite.{equal1}
@@ -36,7 +35,7 @@ use Rattle.walk.specs.Column.{Column, prevIn, picksOf, placed, heldOf, columnsO
 use Rattle.walk.specs.Back.{allSubset, oneSubset, agreedFrom}
 use Rattle.walk.specs.Machine.{freshSums, opened, nextSums, nextSteps, pendingOf, agreedOf, keptOf, grown}
 use Rattle.walk.specs.Told.{Told, reason, givenOf, pendingAfter, Fine, FineList, machineAfter, machineOf, withHeard}
-use Rattle.walk.proofs.Lists.{sixteen-at}
+use Rattle.walk.proofs.Lists.{sixteen-at, sixteen-same}
 use Rattle.walk.proofs.Slots.{held-placed}
 use Rattle.walk.proofs.Owes.{owes}
 use Rattle.walk.proofs.Owed.{width-told, kept-told, fine-told, grown-told, fine-opened, fresh-most}
@@ -82,9 +81,6 @@ least-flat f c (suc n) h =
 -- the steps of the first way into each state
 abbrev steps : List ℕ
 steps = sixteen (λ t. 8 * before t 0 + between (before t 0) t)
-
-sixteen-same : (f g : ℕ → ℕ) → ((s : ℕ) → s < 16 → f s ≡ g s) → sixteen f ≡ sixteen g
-sixteen-same f g h = ext-getD 0 (sixteen f) (sixteen g) refl (λ s k. sixteen-at f s k ∙ h s k ∙ sym (sixteen-at g s k))
 
 module _ (v : ℕ) (small : v + 65536 < limit) where
   abbrev flat : List ℕ

@@ -13,6 +13,7 @@ use lib.IntN.{ℤ}
 use lib.ListN.{length, take, drop}
 use Rattle.calls.specs.Calls.{rest}
 use Rattle.trellis.specs.Words.{wordsFrom}
+use Rattle.walk.specs.declared.Core.{Core}
 use Rattle.walk.specs.declared.Receiver.{Receiver}
 use Rattle.walk.specs.declared.Why.the-variants.{Done, NoRoom, Closed, Uneven}
 use Rattle.walk.specs.Machine.{shut, endOf, lastWords, sound}
@@ -20,10 +21,12 @@ use Rattle.walk.specs.Taken.{wayFrom}
 use Rattle.walk.specs.Told.{Told, Reason, reason, speakerOf, Fine, machineOf, givenOf, withHeard}
 use Rattle.walk.proofs.Owed.{machine-same, sound-told, last-told, rest-many}
 use Rattle.walk.proofs.Finish.{last-many, last-from}
+use Rattle.walk.proofs.Sound.{sound-live}
 use Rattle.receiver.specs.declared.Answer.{Answer}
+use Rattle.receiver.specs.declared.Heard.{Heard}
 use Rattle.receiver.specs.Doors.{symbolsOf, Ran, stopped, running, hearing, finishing, End, heard, finished}
 use Rattle.receiver.specs.Meaning.{Owed, endedOf, pieceOwed, FinishOwed, finishOwed}
-use Rattle.receiver.specs.Promise.{Is, Owes, Hears, EndOwes, Finishes}
+use Rattle.receiver.specs.Promise.{Is, partsOf, answerOf, Owes, Hears, EndOwes, Finishes}
 use Rattle.receiver.proofs.Pieces.{walked, RunsAs, runs}
 
 -- ---- a piece
@@ -139,3 +142,11 @@ module _ (rx : Receiver) (out : List ℕ) where
   pub hear-is : (xs : List ℤ) → sound rx ≡ true → length xs % 4 ≡ 0 → (r : Answer) (o : List ℕ) → Is (running (symbolsOf xs) rx 0 [] (length out)) out r o → Is (hearing rx xs (length out)) out r o
   unfolding hearing
   hear-is xs e z r o is = rw (e, eq-eqb (length xs % 4) 0 z) is
+
+-- an open receiver is live
+pub hear-parts : (live : Bool) (core : Core) (sums steps picks out : List ℕ) (xs : List ℤ) (e : sound (partsOf live core sums steps picks) ≡ true) → length xs % 4 ≡ 0 → (h : Heard) (sums₁ steps₁ picks₁ o : List ℕ)
+    → Is (running (symbolsOf xs) (partsOf true core sums steps picks) 0 [] (length out)) out (answerOf true h sums₁ steps₁ picks₁) o
+    → Is (hearing (partsOf live core sums steps picks) xs (length out)) out (answerOf live h sums₁ steps₁ picks₁) o
+hear-parts live core sums steps picks out xs e z h sums₁ steps₁ picks₁ o is =
+    hear-is (partsOf live core sums steps picks) out xs e z (answerOf live h sums₁ steps₁ picks₁) o
+    (subst (λ (b : Bool). Is (running (symbolsOf xs) (partsOf b core sums steps picks) 0 [] (length out)) out (answerOf b h sums₁ steps₁ picks₁) o) (sym (sound-live (partsOf live core sums steps picks) e)) is)

@@ -1,7 +1,7 @@
 -- A piece under way: where the loop stands after some symbols, one turn of it, and its two ends.
 --   Going     what was taken and written so far leads to the same end as the whole piece
---   start, go-on, stop, end, of-whole
-use mathlib.Core.Path.{_≡_, refl, sym, ap, subst, _∙_}
+--   start, go-on, stop, end
+use mathlib.Core.Path.{_≡_, refl, sym, ap, _∙_}
 use mathlib.Core.Bool.{Bool, true, false, cond}
 use mathlib.Core.List.{List, [], _∷_, _++_, append-nil}
 use Prim.Native.Nat.{ℕ, suc, _+_, _-_, _%_, _<_, _≤_}
@@ -20,11 +20,10 @@ use Rattle.walk.specs.declared.Why.{Why}
 use Rattle.walk.specs.declared.Why.the-variants.{Done}
 use Rattle.walk.specs.Machine.{Outcome, sound}
 use Rattle.walk.specs.Told.{reason, givenOf}
-use Rattle.receiver.specs.declared.Answer.{Answer}
 use Rattle.receiver.specs.Doors.{symbolFrom, symbolsOf, symbolAt, Ran, isDone, running}
 use Rattle.receiver.specs.Promise.{Is}
 use Rattle.walk.specs.Taken.{whole, TookIs}
-use Rattle.receiver.proofs.Kept.{symbol-refused, symbol-sound, open-whole, done-given}
+use Rattle.receiver.proofs.Kept.{symbol-refused, symbol-sound, done-given}
 use Rattle.receiver.proofs.Lent.{part, back-is, front, lent-fits, back-take, back-drop, back-length}
 
 pub record Going (xs : List ℤ) (out₀ : List ℕ) (rx₀ : Receiver) (out : List ℕ) (rx : Receiver) (taken written : ℕ) (why : Why) (i : ℕ) : Type 0 where
@@ -143,8 +142,3 @@ module _ (xs : List ℤ) (out : List ℕ) (rx : Receiver) where
       let ran : running (symbolsOf xs) rx 0 [] (length out) ≡ record { receiver = rx′; taken = taken; words = take w out′; why = Done } =
       g .same ∙ ap (λ (zs : List ℤ). running (symbolsOf zs) rx′ taken (take w out′) (length out)) (drop-of-length-le xs {i = i} past) in
       rw ran (record { receiver = refl; taken = refl; written = sym l; given = g .going; output = rw (l, ← g .rest) (sym (take-append-drop w out′)) })
-
--- the receiver put together again
-pub of-whole : (rx : Receiver) → sound rx ≡ true → (xs : List ℤ) (out : List ℕ) (r : Answer) (o : List ℕ) →
-    Is (running (symbolsOf xs) (whole (rx .core) (rx .sums) (rx .steps) (rx .picks)) 0 [] (length out)) out r o → Is (running (symbolsOf xs) rx 0 [] (length out)) out r o
-of-whole rx f xs out r o is = subst (λ (q : Receiver). Is (running (symbolsOf xs) q 0 [] (length out)) out r o) (open-whole rx f) is

@@ -1,7 +1,6 @@
 -- What one symbol leaves: refused, nothing written and the receiver as it was; taken, a receiver that is sound again.
 --   symbol-refused   a refused symbol leaves all as it was
 --   symbol-sound     a receiver stays sound
---   open-whole       an open receiver is what its parts make
 --   done-given       only one reason has the number 0
 use mathlib.Core.Path.{_≡_, refl, sym, ap, subst, _∙_}
 use mathlib.Core.Bool.{Bool, true, false, cond}
@@ -22,7 +21,7 @@ use Rattle.walk.specs.declared.Why.the-variants.{Done, BadWidth, BadWindow, Bad
 use Rattle.walk.specs.Machine.{Outcome, taking, agreedOf, keptOf, sound}
 use Rattle.walk.specs.Taken.{whole, TookIs}
 use Rattle.walk.specs.Told.{reason, givenOf, faultOf}
-use Rattle.walk.proofs.Sound.{sound-live, grown-sound}
+use Rattle.walk.proofs.Sound.{grown-sound}
 use Rattle.receiver.specs.Doors.{symbolAt, isDone}
 use Rattle.receiver.proofs.Symbols.{no-fault}
 
@@ -54,10 +53,6 @@ module _ (rx : Receiver) (f : sound rx ≡ true) (y : Two Received) (room : ℕ)
       (λ a. either Fit (eqb (rx .core .taken) 4294967295) _ _ (λ _. f)
       (λ _. either Fit (ltb (rx .core .window) (keptOf rx y)) _ _ (λ _. f)
       (λ c. either Fit (ltb room (agreedOf rx y)) _ _ (λ _. f) (λ _. grown-sound rx y f (no-fault y a) (ltb-false (rx .core .window) (keptOf rx y) c)))))
-
--- an open receiver is what its parts make
-pub open-whole : (rx : Receiver) → sound rx ≡ true → whole (rx .core) (rx .sums) (rx .steps) (rx .picks) ≡ rx
-open-whole rx f = ap (λ (b : Bool). record { live = b; core = rx .core; sums = rx .sums; steps = rx .steps; picks = rx .picks }) (sym (sound-live rx f))
 
 -- a call that stops at a refusal takes nothing else for done
 pub done-given : (w : Why) → isDone w ≡ true → givenOf w ≡ reason 0

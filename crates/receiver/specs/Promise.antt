@@ -1,15 +1,17 @@
 -- The promises of the receiver's doors. `always` fixes result and output for every record, so any two results are equal (proofs/Settled);
 -- `owed` says, for whatever the receiver has been told, what that is in the words of 01; `again` hands ends on.
 --   Written words out o      o is the output `out` with the words in its first places, and all else unchanged
+--   partsOf, answerOf        a receiver, and an answer, put together from their parts
 --   Opens u w b r            the promise of `open_receiver`
 --   Hears rx xs out r o      the promise of `hear`, where the output holds `out` before the call and `o` after it
 --   Finishes rx out r o      the promise of `finish`
 use Prim.Native.Nat.{ℕ}
 use mathlib.Core.Path.{_≡_}
-use mathlib.Core.Bool.{cond}
+use mathlib.Core.Bool.{Bool, cond}
 use mathlib.Core.List.{List, _++_}
 use lib.IntN.{ℤ}
 use lib.ListN.{length, drop}
+use Rattle.walk.specs.declared.Core.{Core}
 use Rattle.walk.specs.declared.Receiver.{Receiver}
 use Rattle.walk.specs.declared.Why.{Why}
 use Rattle.walk.specs.Machine.{shut}
@@ -17,6 +19,7 @@ use Rattle.walk.specs.Told.{Told, Fine, machineOf, givenOf}
 use Rattle.receiver.specs.declared.Start.{Start}
 use Rattle.receiver.specs.declared.Opened.{Opened}
 use Rattle.receiver.specs.declared.Answer.{Answer}
+use Rattle.receiver.specs.declared.Heard.{Heard}
 use Rattle.receiver.specs.Given.{startOf}
 use Rattle.receiver.specs.Doors.{Opening, opening, Ran, hearing, finishing, End}
 use Rattle.receiver.specs.Meaning.{Owed, pieceOwed, FinishOwed, finishOwed, openingOwed}
@@ -43,6 +46,13 @@ pub record Is (ran : Ran) (out : List ℕ) (r : Answer) (o : List ℕ) : Type 0 
   pub written : r .written ≡ length (ran .words)
   pub given : givenOf (r .why) ≡ givenOf (ran .why)
   pub output : Written (ran .words) out o
+
+-- a receiver from its parts, and the answer of a call to which they were lent
+abbrev pub partsOf : Bool → Core → List ℕ → List ℕ → List ℕ → Receiver
+partsOf live core sums steps picks = record { live = live; core = core; sums = sums; steps = steps; picks = picks }
+
+abbrev pub answerOf : Bool → Heard → List ℕ → List ℕ → List ℕ → Answer
+answerOf live r sums steps picks = record { receiver = partsOf live (r .core) sums steps picks; taken = r .taken; written = r .written; why = r .why }
 
 -- the answer is what is owed for what the receiver has been told
 pub record Owes (d : Owed) (out : List ℕ) (r : Answer) (o : List ℕ) : Type 0 where

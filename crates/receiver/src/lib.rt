@@ -11,7 +11,7 @@ use walk::Receiver;
 use walk::Took;
 use walk::Why;
 ghost use mathlib.Core.Path.{_≡_};
-ghost use mathlib.Core.Bool.{true, cond};
+ghost use mathlib.Core.Bool.{true, cond, _&&_};
 ghost use mathlib.Core.List.{[]};
 ghost use Prim.Native.Nat.{_%_};
 ghost use lib.ListN.{length};
@@ -21,8 +21,8 @@ ghost use Rattle.walk.specs.Machine.{core, freshSums, shut, allUpTo, topSum, so
 ghost use Rattle.walk.specs.Taken.{whole, TookIs};
 ghost use Rattle.walk.specs.Told.{faultOf, givenOf};
 ghost use Rattle.receiver.specs.Given.{startOf, startFits};
-ghost use Rattle.receiver.specs.Doors.{symbolsOf, symbolFrom, symbolAt, isDone, running};
-ghost use Rattle.receiver.specs.Promise.{Opens, Is, Hears, Finishes};
+ghost use Rattle.receiver.specs.Doors.{symbolsOf, symbolFrom, symbolAt, isDone, running, hearing};
+ghost use Rattle.receiver.specs.Promise.{Opens, Is, partsOf, answerOf, Hears, Finishes};
 
 // Any first state, or the named one.
 pub enum Start {
@@ -202,34 +202,26 @@ fn core_fits(c: Core) -> bool
     c.pending <= c.window
 }
 
-// Whether no sum is above what so many symbols can make.
-fn sums_fit(sums: [u64; 16], taken: u32) -> bool
-    ensures { λ r. ⌜ r ≡ allUpTo (topSum taken) sums ⌝ }
+// Whether a receiver of these parts is open and in range: no sum is above what so many symbols can make.
+fn parts_fit(live: bool, c: Core, sums: &[u64; 16]) -> bool
+    ensures { λ r. ⌜ r ≡ (live && (soundCore c && allUpTo (topSum (c .taken)) (now (sums .entry)))) ⌝ }
 {
-    let top = 4611686018427387904 + (taken as u64) * 1073741824;
-    let mut i: usize = 0;
-    while i < 16 {
-        if sums[i] > top {
-            return false;
-        }
-        i += 1;
+    if !live {
+        return false;
     }
-    true
+    if !core_fits(c) {
+        return false;
+    }
+    walk::all_up_to(sums, 4611686018427387904 + (c.taken as u64) * 1073741824)
 }
 
 // Whether the receiver is open and in range.
 pub fn is_open(rx: Receiver) -> bool
     ensures { λ r. ⌜ r ≡ sound rx ⌝ }
 {
-    if !rx.live {
-        return false;
-    }
     let c = rx.core;
-    if !core_fits(c) {
-        return false;
-    }
     let sums = rx.sums;
-    sums_fit(sums, c.taken)
+    parts_fit(rx.live, c, &sums)
 }
 
 // How many symbols are taken and not released; 0 of a closed receiver.
@@ -302,17 +294,28 @@ fn stopped(rx: Receiver, why: Why) -> Answer
     }
 }
 
-// The symbols of a piece, one after another, up to the first that is refused. The receiver is taken apart once, its arrays are
-// lent to each symbol, and it is put together again at the end.
-fn hear_symbols(rx: Receiver, samples: &[i32], out: &mut [u32]) -> Answer
-    requires { ⌜ (sound rx ≡ true) × (length (now samples) % 4 ≡ 0) ⌝ }
-    ensures { λ r. ⌜ Is (running (symbolsOf (now (samples .entry))) rx 0 [] (length (now (out .entry)))) (now (out .entry)) r (now (out .exit)) ⌝ }
+// How a piece went, where the receiver's arrays are lent: the numbers of the receiver after it stand beside the answer.
+pub struct Heard {
+    pub core: Core,
+    pub taken: usize,
+    pub written: usize,
+    pub why: Why,
+}
+
+// The symbols of a piece, one after another, up to the first that is refused.
+fn hear_symbols(
+    start: Core,
+    samples: &[i32],
+    sums: &mut [u64; 16],
+    steps: &mut [u8; 1024],
+    picks: &mut [u8; 1024],
+    out: &mut [u32],
+) -> Heard
+    requires { ⌜ (sound (whole start (now sums) (now steps) (now picks)) ≡ true) × (length (now samples) % 4 ≡ 0) ⌝ }
+    ensures { λ r. ⌜ Is (running (symbolsOf (now (samples .entry))) (whole start (now (sums .entry)) (now (steps .entry)) (now (picks .entry))) 0 [] (length (now (out .entry)))) (now (out .entry)) (answerOf true r (now (sums .exit)) (now (steps .exit)) (now (picks .exit))) (now (out .exit)) ⌝ }
 {
     let table = points::table::a_points();
-    let mut core = rx.core;
-    let mut sums = rx.sums;
-    let mut steps = rx.steps;
-    let mut picks = rx.picks;
+    let mut core = start;
     let mut taken: usize = 0;
     let mut written: usize = 0;
     let mut why = Why::Done;
@@ -325,9 +328,9 @@ fn hear_symbols(rx: Receiver, samples: &[i32], out: &mut [u32]) -> Answer
             samples[i + 1],
             samples[i + 2],
             samples[i + 3],
-            &mut sums,
-            &mut steps,
-            &mut picks,
+            sums,
+            steps,
+            picks,
             &mut out[written..],
         );
         core = t.core;
@@ -339,31 +342,71 @@ fn hear_symbols(rx: Receiver, samples: &[i32], out: &mut [u32]) -> Answer
         taken += 1;
         i += 4;
     }
-    Answer {
-        receiver: Receiver {
-            live: true,
-            core: core,
-            sums: sums,
-            steps: steps,
-            picks: picks,
-        },
+    Heard {
+        core: core,
         taken: taken,
         written: written,
         why: why,
     }
 }
 
-// A piece of four coordinates to a symbol. Refused as a whole where the receiver is closed or the length is no multiple of 4.
+fn nothing_heard(core: Core, why: Why) -> Heard
+    ensures { λ r. ⌜ r ≡ record { core = core; taken = 0; written = 0; why = why } ⌝ }
+{
+    Heard {
+        core: core,
+        taken: 0,
+        written: 0,
+        why: why,
+    }
+}
+
+// A piece to a receiver in its parts, whose arrays are lent, for a caller that keeps them elsewhere: nothing is copied.
+pub fn hear_lent(
+    live: bool,
+    core: Core,
+    samples: &[i32],
+    sums: &mut [u64; 16],
+    steps: &mut [u8; 1024],
+    picks: &mut [u8; 1024],
+    out: &mut [u32],
+) -> Heard
+    ensures { λ r. ⌜ Is (hearing (partsOf live core (now (sums .entry)) (now (steps .entry)) (now (picks .entry))) (now (samples .entry)) (length (now (out .entry)))) (now (out .entry)) (answerOf live r (now (sums .exit)) (now (steps .exit)) (now (picks .exit))) (now (out .exit)) ⌝ }
+{
+    if !parts_fit(live, core, sums) {
+        return nothing_heard(core, Why::Closed);
+    }
+    if samples.len() % 4 != 0 {
+        return nothing_heard(core, Why::Uneven);
+    }
+    hear_symbols(core, samples, sums, steps, picks, out)
+}
+
+// A piece of four coordinates to a symbol. Refused as a whole where the receiver is closed or the length is no multiple of 4. The
+// receiver is taken apart once, its arrays are lent to each symbol, and it is put together again at the end.
 pub fn hear(rx: Receiver, samples: &[i32], out: &mut [u32]) -> Answer
     ensures { λ r. ⌜ Hears rx (now (samples .entry)) (now (out .entry)) r (now (out .exit)) ⌝ }
 {
-    if !is_open(rx) {
-        return stopped(rx, Why::Closed);
+    let live = rx.live;
+    let core = rx.core;
+    let mut sums = rx.sums;
+    let mut steps = rx.steps;
+    let mut picks = rx.picks;
+    let h = hear_lent(live, core, samples, &mut sums, &mut steps, &mut picks, out);
+    let after = h.core;
+    let why = h.why;
+    Answer {
+        receiver: Receiver {
+            live: live,
+            core: after,
+            sums: sums,
+            steps: steps,
+            picks: picks,
+        },
+        taken: h.taken,
+        written: h.written,
+        why: why,
     }
-    if samples.len() % 4 != 0 {
-        return stopped(rx, Why::Uneven);
-    }
-    hear_symbols(rx, samples, out)
 }
 
 // The pending words of the answer, and a closed receiver. Refused where there is no room for all of them.

@@ -2,14 +2,18 @@
 -- are below `limit`; and no number among the sums, reached or not, is above `topSum`.
 --   room       one more symbol finds room
 --   top-next   the bound after one more symbol
---   all-up-to  a bound on every place of a list, as the machine tests it
-use mathlib.Core.Path.{_≡_, subst}
-use mathlib.Core.Bool.{true}
+--   all-up-to  a bound on every place of a list, as the machine tests it; up-to-all, what the test says of a place
+--   passes, fails, ends   that test from the front on
+use mathlib.Core.Path.{_≡_, refl, ap, subst, _∙_}
+use mathlib.Core.Bool.{true, false}
 use mathlib.Core.List.{List, [], _∷_}
 use Prim.Native.Nat.{ℕ, zero, suc, _+_, _≤_, _<_}
 use native.Mathlib.Omega.{arith}
-use lib.ListN.{length, getD}
-use borrow.Author.Tests.{lt-ltb, le-leb}
+use native.Mathlib.Numerals.{add-one}
+use lib.Dec.{leb}
+use lib.ListN.{length, getD, drop, drop-of-length-le}
+use lib.Seq.{drop-cons}
+use borrow.Author.Tests.{lt-ltb, le-leb, lt-leb, leb-true}
 use Rattle.trellis.specs.Lists.{Every}
 use Rattle.trellis.specs.Best.{alive}
 use Rattle.trellis.specs.Columns.{Off}
@@ -26,6 +30,7 @@ use Rattle.nearest.proofs.Laws.{far-below, costs-below}
 use Rattle.walk.specs.Select.{limit, sixteen, arrive, winner, sumAt, rowOf}
 use Rattle.walk.specs.Machine.{allUpTo, topSum}
 use Rattle.walk.proofs.Lists.{sixteen-most}
+use Rattle.walk.proofs.CodeLists.{and-both}
 use Rattle.walk.proofs.Trellis.{searchOf, pickOf, chooses, cost-at}
 use Rattle.walk.proofs.Arrivals.{Room}
 
@@ -51,5 +56,24 @@ top-next u small y fine n sums top =
 
 pub all-up-to : (m : ℕ) (l : List ℕ) → ((i : ℕ) → getD l i 0 ≤ m) → allUpTo m l ≡ true
 unfolding allUpTo
-all-up-to m [] h = mathlib.Core.Path.refl
+all-up-to m [] h = refl
 all-up-to m (x ∷ l) h = rw (le-leb x m (h zero)) (all-up-to m l (λ i. h (suc i)))
+
+pub up-to-all : (m : ℕ) (l : List ℕ) → allUpTo m l ≡ true → (i : ℕ) → i < length l → getD l i 0 ≤ m
+unfolding allUpTo
+up-to-all m [] e i h = absurd (omega arith)
+up-to-all m (x ∷ l) e zero h = leb-true x m (and-both (leb x m) (allUpTo m l) e .0)
+up-to-all m (x ∷ l) e (suc i) h = up-to-all m l (and-both (leb x m) (allUpTo m l) e .1) i (omega arith)
+
+module _ (m : ℕ) (l : List ℕ) (i : ℕ) where
+  pub passes : i < length l → getD l i 0 ≤ m → allUpTo m (drop i l) ≡ allUpTo m (drop (i + 1) l)
+  unfolding allUpTo
+  passes h k = ap (allUpTo m) (drop-cons l i 0 h) ∙ rw (le-leb (getD l i 0) m k, add-one)
+
+  pub fails : i < length l → m < getD l i 0 → allUpTo m (drop i l) ≡ false
+  unfolding allUpTo
+  fails h k = ap (allUpTo m) (drop-cons l i 0 h) ∙ rw (lt-leb (getD l i 0) m k)
+
+  pub ends : length l ≤ i → allUpTo m (drop i l) ≡ true
+  unfolding allUpTo
+  ends h = ap (allUpTo m) (drop-of-length-le l {i = i} h)

@@ -1,7 +1,7 @@
 -- Walking back sixteen ways at once is the walk over the states before the live ones. Only the steps of the columns matter to it.
 --   turn-below, turn-live, turn-spread   a turn of the loop over a column
 --   agreed-steps                         only the steps matter
---   back-apart, back-same, back-met      one column of the walk: the ways part there, share its symbol, or have met
+--   one-back, all-met                    one column of the walk; the end, where all ways come from one state
 use mathlib.Core.Path.{_≡_, refl, sym, ap, _∙_}
 use mathlib.Core.Bool.{Bool, true, false, cond, _&&_}
 use mathlib.Core.List.{List, [], _∷_, map}
@@ -10,7 +10,7 @@ use Prim.Native.Nat.{ℕ, zero, suc, _+_, _-_, _*_, _/_, _%_, _<_}
 use native.Mathlib.Numerals.{add-one}
 use native.Mathlib.Omega.{arith}
 use lib.Dec.{eqb}
-use lib.Bits.{bitOr, bitXor, or-add-and, xor-add-and, and-le-l, and-le-r, or-mod, xor-mod, xor-self}
+use lib.Bits.{bitOr, bitXor, or-add-and, xor-add-and, and-le-l, and-le-r, or-shr, xor-shr, or-mod, xor-mod, xor-self}
 use lib.ListN.{length, getD, drop, set}
 use lib.Seq.{drop-cons}
 use borrow.Author.Tests.{eq-eqb, ne-eqb, eqb-true, eqb-false}
@@ -42,6 +42,13 @@ low-none d a b = go (eqb (d % 8) 0) (eqb (a % 8) (b % 8)) refl refl
     go true false p q = ne-eqb _ _ (λ z. eqb-false (a % 8) (b % 8) q (xor-none (a % 8) (b % 8) (or-none (d % 8) (bitXor (a % 8) (b % 8)) (sym same ∙ z) .1)))
     go false y p q = ne-eqb _ _ (λ z. eqb-false (d % 8) 0 p (or-none (d % 8) (bitXor (a % 8) (b % 8)) (sym same ∙ z) .0))
 
+-- the four bits above them, each for itself
+high-bits : (d a b : ℕ) → bitOr d (bitXor a b) / 8 % 16 ≡ bitOr (d / 8 % 16) (bitXor (a / 8 % 16) (b / 8 % 16))
+high-bits d a b =
+    ap (λ (n : ℕ). n % 16) (or-shr d (bitXor a b) 3)
+    ∙ or-mod (d / 8) (bitXor a b / 8) 4
+    ∙ ap (bitOr (d / 8 % 16)) (ap (λ (n : ℕ). n % 16) (xor-shr a b 3) ∙ xor-mod (a / 8) (b / 8) 4)
+
 and-assoc : (a b c : Bool) → ((a && b) && c) ≡ (a && (b && c))
 and-assoc true b c = refl
 and-assoc false b c = refl
@@ -65,13 +72,13 @@ module _ (steps : List ℕ) (first : ℕ) where
       ∙ ap (λ (x : Bool). x && allSubset steps (first % 8) l) (low-none d (getD steps s 0) first)
       ∙ and-assoc (eqb (d % 8) 0) k (allSubset steps (first % 8) l)
 
-  no-spread : (d : ℕ) (l : List ℕ) → spreadFrom steps first d l ≡ 0 → (d ≡ 0) × ((s : ℕ) → In s l → getD steps s 0 ≡ first)
+  one-before : (d : ℕ) (l : List ℕ) → spreadFrom steps first d l / 8 % 16 ≡ 0 → (d / 8 % 16 ≡ 0) × ((s : ℕ) → In s l → prevIn steps s ≡ first / 8 % 16)
   unfolding spreadFrom
-  no-spread d [] e = (e, λ s m. absurd m)
-  no-spread d (t ∷ l) e =
-      let r = no-spread (bitOr d (bitXor (getD steps t 0) first)) l e in
-      let z = or-none d (bitXor (getD steps t 0) first) (r .0) in
-      (z .0, λ s m. ⊎-elim (λ q. ap (λ (n : ℕ). getD steps n 0) q ∙ xor-none (getD steps t 0) first (z .1)) (λ k. r .1 s k) m)
+  one-before d [] e = (e, λ s m. absurd m)
+  one-before d (t ∷ l) e =
+      let r = one-before (bitOr d (bitXor (getD steps t 0) first)) l e in
+      let z = or-none (d / 8 % 16) (bitXor (prevIn steps t) (first / 8 % 16)) (sym (high-bits d (getD steps t 0) first) ∙ r .0) in
+      (z .0, λ s m. ⊎-elim (λ q. ap (prevIn steps) q ∙ xor-none (prevIn steps t) (first / 8 % 16) (z .1)) (λ k. r .1 s k) m)
 
 pub spread-one : (steps l : List ℕ) → eqb (spread steps l % 8) 0 ≡ oneSubset steps l
 unfolding spreadFrom oneSubset
@@ -118,23 +125,17 @@ module _ (steps : List ℕ) (a j : ℕ) (l : List ℕ) (d r : ℕ) (more : 0 < j
   abbrev column : List ℕ
   column = part steps ((a + 63) % 64)
 
-  one-back : agreedFrom (columnsOf a j steps []) l d ≡ agreedFrom (columnsOf ((a + 63) % 64) (j - 1) steps []) (map (prevIn column) l) (cond (eqb (r % 8) 0) d (j - 1))
+  pub one-back : agreedFrom (columnsOf a j steps []) l d ≡ agreedFrom (columnsOf ((a + 63) % 64) (j - 1) steps []) (map (prevIn column) l) (cond (eqb (r % 8) 0) d (j - 1))
   one-back =
       let up : j ≡ suc (j - 1) = omega arith in
       ap (λ (n : ℕ). agreedFrom (columnsOf a n steps []) l d) up
       ∙ agreed-step steps [] a (j - 1) l d
       ∙ ap (λ (b : Bool). agreedFrom (columnsOf ((a + 63) % 64) (j - 1) steps []) (map (prevIn column) l) (cond b d (j - 1))) (sym (ap (λ (n : ℕ). eqb (n % 8) 0) is ∙ spread-one column l))
 
-  pub back-apart : (r % 8 ≡ 0 → ⊥) → agreedFrom (columnsOf a j steps []) l d ≡ agreedFrom (columnsOf ((a + 63) % 64) (j - 1) steps []) (map (prevIn column) l) (j - 1)
-  back-apart n = one-back ∙ ap (λ (b : Bool). agreedFrom (columnsOf ((a + 63) % 64) (j - 1) steps []) (map (prevIn column) l) (cond b d (j - 1))) (ne-eqb _ _ n)
-
-  pub back-same : r % 8 ≡ 0 → agreedFrom (columnsOf a j steps []) l d ≡ agreedFrom (columnsOf ((a + 63) % 64) (j - 1) steps []) (map (prevIn column) l) d
-  back-same e = one-back ∙ ap (λ (b : Bool). agreedFrom (columnsOf ((a + 63) % 64) (j - 1) steps []) (map (prevIn column) l) (cond b d (j - 1))) (eq-eqb _ _ e)
-
-  pub back-met : r ≡ 0 → agreedFrom (columnsOf a j steps []) l d ≡ d
-  back-met e =
+  pub all-met : r / 8 % 16 ≡ 0 → agreedFrom (columnsOf a j steps []) l d ≡ cond (eqb (r % 8) 0) d (j - 1)
+  all-met e =
       let first = getD column (headOf l) 0 in
-      let one = no-spread column first 0 l (sym is ∙ e) .1 in
-      back-same (rw e)
-      ∙ agreed-met (columnsOf ((a + 63) % 64) (j - 1) steps []) (map (prevIn column) l) d (first / 8 % 16)
-      (in-map (prevIn column) (λ t. t ≡ first / 8 % 16) l (λ s m. ap (λ (n : ℕ). n / 8 % 16) (one s m)))
+      let one = one-before column first 0 l (ap (λ (n : ℕ). n / 8 % 16) (sym is) ∙ e) .1 in
+      one-back
+      ∙ agreed-met (columnsOf ((a + 63) % 64) (j - 1) steps []) (map (prevIn column) l) (cond (eqb (r % 8) 0) d (j - 1)) (first / 8 % 16)
+      (in-map (prevIn column) (λ t. t ≡ first / 8 % 16) l one)

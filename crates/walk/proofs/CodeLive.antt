@@ -5,7 +5,7 @@
 --   agreed-padded         sixteen states in place of the live ones
 --   past-states, back-states   they are states, and so are those before them
 --   past-head             the first of them
---   past-is               each of them, as the code picks it
+--   past-is, kept-one     each of them, and each step, as the code picks it
 --   head-here, head-later the first live state, searched one by one
 use mathlib.Core.Path.{_≡_, refl, sym, ap, subst, _∙_}
 use mathlib.Core.Bool.{Bool, true, false, cond}
@@ -17,13 +17,14 @@ use native.Mathlib.Omega.{arith}
 use lib.Dec.{eqb, ltb}
 use lib.ListN.{length, getD, length-map}
 use borrow.Author.Tests.{eq-eqb, eqb-true, lt-ltb, le-ltb}
+use Rattle.wei.specs.State.{between}
 use Rattle.trellis.specs.Lists.{In}
 use Rattle.trellis.specs.Search.{range}
 use Rattle.walk.specs.Select.{limit, reachedOf, liveOf}
 use Rattle.walk.specs.Column.{Column, prevIn, subsetIn}
 use Rattle.walk.specs.Back.{allSubset, oneSubset, agreedFrom}
 use Rattle.walk.specs.Machine.{headOf}
-use Rattle.walk.specs.Ways.{States, pastAt, pastLive}
+use Rattle.walk.specs.Ways.{States, keptStep, pastAt, pastLive}
 use Rattle.walk.proofs.CodeLists.{map-each, and-both}
 
 pub record Like (l m : List ℕ) : Type 0 where
@@ -174,13 +175,17 @@ past-head sums steps = go (ltb (getD sums 0 0) limit)
     go true = refl
     go false = refl
 
-pub past-is : (sums steps : List ℕ) (s h x : ℕ) → h ≡ headOf (liveOf sums) → x ≡ cond (ltb (getD sums s 0) limit) (getD steps s 0) (getD steps h 0) / 8 % 16 → x ≡ pastAt sums steps s
+pub past-is : (sums steps : List ℕ) (s h x : ℕ) → h ≡ headOf (liveOf sums) → x ≡ cond (ltb (getD sums s 0) limit) (getD steps s 0) (getD steps h 0) → x / 8 % 16 ≡ pastAt sums steps s
 unfolding pastAt
-past-is sums steps s h x e q = q ∙ go (ltb (getD sums s 0) limit)
+past-is sums steps s h x e q = ap (λ (n : ℕ). n / 8 % 16) q ∙ go (ltb (getD sums s 0) limit)
   where
     go : (b : Bool) → cond b (getD steps s 0) (getD steps h 0) / 8 % 16 ≡ prevIn steps (cond b s (headOf (liveOf sums)))
     go true = refl
     go false = ap (prevIn steps) e
+
+pub kept-one : (sums steps : List ℕ) (s k x : ℕ) → k ≡ between 0 s → x ≡ cond (ltb (getD sums s 0) limit) (getD steps s 0) k → x ≡ keptStep sums steps s
+unfolding keptStep
+kept-one sums steps s k x e q = q ∙ ap (cond (ltb (getD sums s 0) limit) (getD steps s 0)) e
 
 -- the first live state from s on
 module _ (sums : List ℕ) (s : ℕ) (more : s < 16) where

@@ -1,20 +1,27 @@
 -- Add, compare and select: the best of the four ways, found one by one, is the way that the definition names.
---   step-fits            a step is a number below 128
---   reached, unreached   what the code makes of the best of four
-use mathlib.Core.Path.{_≡_, refl, sym, ap, _∙_}
-use mathlib.Core.Bool.{Bool, true, false}
+--   best                 the best of four
+--   kept-is              the steps as they are kept
+--   all-kept, all-past   where all states are reached; all-arrived, both
+use mathlib.Core.Path.{_≡_, refl, sym, ap, ap₂, _∙_}
+use mathlib.Core.Bool.{Bool, true, false, cond}
 use mathlib.Core.List.{List}
 use Prim.Native.Nat.{ℕ, suc, _+_, _-_, _*_, _≤_, _<_}
 use native.Mathlib.Omega.{arith}
 use lib.Dec.{ltb}
+use lib.ListN.{length, getD}
 use borrow.Author.Tests.{lt-ltb, le-ltb}
-use Rattle.wei.specs.State.{between}
+use Rattle.wei.specs.State.{before, between}
 use Rattle.trellis.specs.Pick.{keepN, least}
 use Rattle.walk.specs.declared.ways.Way.{Way}
 use Rattle.walk.specs.declared.ways.Four.{Four}
 use Rattle.walk.specs.declared.ways.Selected.{Selected}
 use Rattle.walk.specs.Select.{limit, sixteen, arrive, winner, sumAt, fromAt, stepAt}
-use Rattle.walk.specs.Ways.{wayBy, keepWay, nearerOf, wayAt, sumsOf, stepsOf}
+use Rattle.walk.specs.Column.{prevIn}
+use Rattle.walk.specs.Ways.{wayBy, keepWay, nearerOf, firstStep, wayAt, sumsOf, stepsOf, keptStep, keptSteps, pastAt, pastLive, arrivedBy}
+use Rattle.walk.specs.Machine.{allUpTo}
+use Rattle.walk.proofs.Bounds.{up-to-all}
+use Rattle.walk.proofs.Lists.{sixteen-at, sixteen-same}
+use Rattle.walk.proofs.CodeLists.{all-listed}
 
 module _ (sums costs : List ℕ) (t : ℕ) where
   kept : (b : Bool) (i j : ℕ) → keepWay b (wayBy sums costs t i) (wayBy sums costs t j) ≡ wayBy sums costs t (keepN b i j)
@@ -27,24 +34,46 @@ module _ (sums costs : List ℕ) (t : ℕ) where
 
   module _ (w0 w1 w2 w3 v1 v2 v3 : Way) (e0 : w0 ≡ wayBy sums costs t 0) (f1 : v1 ≡ wayBy sums costs t 1) (f2 : v2 ≡ wayBy sums costs t 2) (f3 : v3 ≡ wayBy sums costs t 3)
       (e1 : w1 ≡ nearerOf w0 v1) (e2 : w2 ≡ nearerOf w1 v2) (e3 : w3 ≡ nearerOf w2 v3) where
-    best : w3 ≡ wayBy sums costs t (winner sums costs t)
-    unfolding winner least
+    pub best : w3 ≡ wayAt sums costs t
+    unfolding wayAt wayBy firstStep sumAt winner least
     best = e3 ∙ rw (f3, e2, f2, e1, f1, e0) (ap (λ (w : Way). nearerOf (nearerOf w (wayBy sums costs t 2)) (wayBy sums costs t 3)) (one-more 0) ∙ ap (λ (w : Way). nearerOf w (wayBy sums costs t 3)) (one-more 1) ∙ one-more 2)
 
-    pub reached : w3 .sum < limit → w3 ≡ wayAt sums costs t
-    unfolding wayAt wayBy sumAt stepAt fromAt
-    reached h =
-        let e : w3 .sum ≡ arrive sums costs t (winner sums costs t) = ap (λ (w : Way). w .sum) best in
-        let l : arrive sums costs t (winner sums costs t) < limit = omega arith in
-        best ∙ rw (lt-ltb _ _ l)
+-- the steps as they are kept
+module _ (sums costs : List ℕ) where
+  kept-each : (s : ℕ) → s < 16 → keptStep (sixteen (sumAt sums costs)) (sixteen (firstStep sums costs)) s ≡ stepAt sums costs s
+  unfolding keptStep stepAt fromAt firstStep
+  kept-each s h = ap₂ (λ (x y : ℕ). cond (ltb x limit) y (between 0 s)) (sixteen-at (sumAt sums costs) s h) (sixteen-at (firstStep sums costs) s h) ∙ go (ltb (sumAt sums costs s) limit)
+    where
+      go : (b : Bool) → cond b (8 * before s (winner sums costs s) + between (before s (winner sums costs s)) s) (between 0 s) ≡ 8 * cond b (before s (winner sums costs s)) 0 + between (cond b (before s (winner sums costs s)) 0) s
+      go true = refl
+      go false = let e : between 0 s ≡ 8 * 0 + between 0 s = omega arith in e
 
-    pub unreached : limit ≤ w3 .sum → (k : ℕ) → k ≡ between 0 t → record { sum = w3 .sum; step = k } ≡ wayAt sums costs t
-    unfolding wayAt wayBy sumAt stepAt fromAt
-    unreached h k f =
-        let e : w3 .sum ≡ arrive sums costs t (winner sums costs t) = ap (λ (w : Way). w .sum) best in
-        let l : limit ≤ arrive sums costs t (winner sums costs t) = omega arith in
-        let z : between 0 t ≡ 8 * 0 + between 0 t = omega arith in
-        rw (f, e, le-ltb _ _ l) (ap (λ (n : ℕ). record { sum = arrive sums costs t (winner sums costs t); step = n }) z)
+  pub kept-is : keptSteps (sixteen (sumAt sums costs)) (sixteen (firstStep sums costs)) ≡ sixteen (stepAt sums costs)
+  kept-is = sixteen-same (keptStep (sixteen (sumAt sums costs)) (sixteen (firstStep sums costs))) (stepAt sums costs) kept-each
+
+-- where all states are reached
+module _ (sums steps : List ℕ) (all : (s : ℕ) → s < 16 → getD sums s 0 < limit) where
+  kept-there : (s : ℕ) → s < 16 → getD steps s 0 ≡ keptStep sums steps s
+  unfolding keptStep
+  kept-there s h = rw (lt-ltb _ _ (all s h))
+
+  past-there : (s : ℕ) → s < 16 → prevIn steps s ≡ pastAt sums steps s
+  unfolding pastAt
+  past-there s h = rw (lt-ltb _ _ (all s h))
+
+  pub all-kept : length steps ≡ 16 → steps ≡ keptSteps sums steps
+  all-kept e = sym (all-listed steps 16 e) ∙ sixteen-same (λ s. getD steps s 0) (keptStep sums steps) kept-there
+
+  pub all-past : sixteen (prevIn steps) ≡ pastLive sums steps
+  all-past = sixteen-same (prevIn steps) (pastAt sums steps) past-there
+
+pub all-arrived : (sums steps before : List ℕ) → length sums ≡ 16 → length steps ≡ 16 → allUpTo (limit - 1) sums ≡ true → before ≡ sixteen (prevIn steps)
+    → record { steps = steps; before = before } ≡ arrivedBy sums steps
+all-arrived sums steps before m n e b =
+    let all : (s : ℕ) → s < 16 → getD sums s 0 < limit = λ s h. omega (arith, up-to-all (limit - 1) sums e s (omega arith)) in
+    let k = all-kept sums steps all n in
+    let p = b ∙ all-past sums steps all ∙ ap (pastLive sums) k in
+    λ i. record { steps = k i; before = p i }
 
 -- four ways, and all sixteen laid out
 module _ (f : ℕ → Way) where

@@ -22,6 +22,7 @@ use Rattle.nearest.specs.declared.Weighed.{Weighed}
 use Rattle.nearest.specs.Line.{InRange}
 use Rattle.nearest.specs.Found.{heardAs, weighedOf}
 use Rattle.nearest.proofs.Laws.{costs-below}
+use Rattle.walk.specs.declared.columns.Arrived.{Arrived}
 use Rattle.walk.specs.declared.ways.Selected.{Selected}
 use Rattle.walk.specs.declared.Core.{Core}
 use Rattle.walk.specs.declared.Receiver.{Receiver}
@@ -29,15 +30,16 @@ use Rattle.walk.specs.declared.Outlook.{Outlook}
 use Rattle.walk.specs.declared.Took.{Took}
 use Rattle.walk.specs.declared.Why.{Why}
 use Rattle.walk.specs.declared.Why.the-variants.{Done, TooMany, Full, NoRoom}
-use Rattle.walk.specs.Select.{sixteen, sumAt, stepAt, liveOf}
+use Rattle.walk.specs.Select.{sixteen, sumAt, liveOf}
 use Rattle.walk.specs.Column.{Column, prevIn, picksOf, placed, columnsOf}
 use Rattle.walk.specs.Back.{agreedFrom, oneSubset}
 use Rattle.walk.specs.Machine.{nextSums, nextSteps, headOf, agreedOf, releasedOf, grown, refused, taking}
 use Rattle.walk.specs.Taken.{Ready, wayFrom, whole, outlookOf, TookIs}
-use Rattle.walk.specs.Ways.{Summable, pastLive}
+use Rattle.walk.specs.Ways.{Summable, firstStep, keptSteps, pastLive, arrivedBy}
 use Rattle.walk.proofs.CodeRing.{columns-length}
 use Rattle.walk.proofs.CodeLive.{agreed-padded, past-head}
 use Rattle.walk.proofs.CodeBack.{agreed-steps}
+use Rattle.walk.proofs.CodeSelect.{kept-is}
 use Rattle.walk.proofs.CodeWords.{trail-length}
 
 -- ---- how many are agreed
@@ -62,25 +64,26 @@ summable core sums g h w r few a b e =
       costs-below = rw e (costs-below (core .u) (heardAs g h) (r .core-fits .width) (record { first-in = a; second-in = b }));
     }
 
-pub looked : (core : Core) (sums steps : List ℕ) (y : Two Received) (w : Weighed) (next : Selected) (picks live : List ℕ) (n : ℕ)
+pub looked : (core : Core) (sums steps : List ℕ) (y : Two Received) (w : Weighed) (next : Selected) (arrived : Arrived) (picks : List ℕ) (n : ℕ)
     → w ≡ weighedOf (core .u) y
     → picks ≡ w .i3 ++ (w .w1 ++ w .w2)
-    → next ≡ record { sums = sixteen (sumAt sums (w .costs)); steps = sixteen (stepAt sums (w .costs)) }
-    → live ≡ pastLive (next .sums) (next .steps)
-    → n ≡ agreedFrom (columnsOf (core .slot) (core .pending) steps []) live (core .pending)
-    → record { sums = next .sums; steps = next .steps; picks = picks; state = getD live 0 0; agreed = n } ≡ outlookOf (whole core sums steps []) y
+    → next ≡ record { sums = sixteen (sumAt sums (w .costs)); steps = sixteen (firstStep sums (w .costs)) }
+    → arrived ≡ arrivedBy (next .sums) (next .steps)
+    → n ≡ agreedFrom (columnsOf (core .slot) (core .pending) steps []) (arrived .before) (core .pending)
+    → record { sums = next .sums; steps = arrived .steps; picks = picks; state = getD (arrived .before) 0 0; agreed = n } ≡ outlookOf (whole core sums steps []) y
 unfolding agreedOf
-looked core sums steps y w next picks live n ew ep es el en =
+looked core sums steps y w next arrived picks n ew ep es ea en =
     let rx = whole core sums steps [] in
     let cs = columnsOf (core .slot) (core .pending) steps [] in
     let a : next .sums ≡ nextSums rx y = ap (λ (x : Selected). x .sums) es ∙ rw ew in
-    let b : next .steps ≡ nextSteps rx y = ap (λ (x : Selected). x .steps) es ∙ rw ew in
+    let b : keptSteps (next .sums) (next .steps) ≡ nextSteps rx y = ap (λ (x : Selected). keptSteps (x .sums) (x .steps)) es ∙ kept-is sums (w .costs) ∙ rw ew in
+    let f : arrived .steps ≡ nextSteps rx y = ap (λ (x : Arrived). x .steps) ea ∙ b in
     let c : picks ≡ picksOf (weighedOf (core .u) y) = ep ∙ rw ew in
-    let l : live ≡ pastLive (nextSums rx y) (nextSteps rx y) = el ∙ ap₂ pastLive a b in
-    let s : getD live 0 0 ≡ prevIn (nextSteps rx y) (headOf (liveOf (nextSums rx y))) = ap (λ (m : List ℕ). getD m 0 0) l ∙ past-head (nextSums rx y) (nextSteps rx y) in
+    let l : arrived .before ≡ pastLive (nextSums rx y) (nextSteps rx y) = ap (λ (x : Arrived). x .before) ea ∙ ap₂ pastLive a b in
+    let s : getD (arrived .before) 0 0 ≡ prevIn (nextSteps rx y) (headOf (liveOf (nextSums rx y))) = ap (λ (m : List ℕ). getD m 0 0) l ∙ past-head (nextSums rx y) (nextSteps rx y) in
     let m : n ≡ agreedFrom cs (map (prevIn (nextSteps rx y)) (liveOf (nextSums rx y))) (core .pending) =
     en ∙ ap (λ (k : List ℕ). agreedFrom cs k (core .pending)) l ∙ agreed-padded cs (nextSums rx y) (nextSteps rx y) (core .pending) in
-    λ i. record { sums = a i; steps = b i; picks = c i; state = s i; agreed = m i }
+    λ i. record { sums = a i; steps = f i; picks = c i; state = s i; agreed = m i }
 
 -- ---- the outcome
 module _ (core : Core) (sums steps picks : List ℕ) (y : Two Received) (out : List ℕ) where

@@ -1,6 +1,7 @@
 -- Lists, and tests over the states, that know nothing of a receiver.
 --   range-length, range-at     f at the n numbers from a on: how many, and what stands at a place
---   sixteen-at, sixteen-most   f at the states; a bound that also holds past them
+--   sixteen-at, sixteen-same   f at the states; two that are equal there
+--   sixteen-most               a bound that also holds past them
 --   every-drop                 what holds of all holds of all but the first
 --   any-in, any-out, both      a number at which a test holds, into `any` and out of it
 --   map-in, map-out            what stands in a list, and in the list of its images
@@ -13,6 +14,7 @@ use native.Mathlib.Omega.{arith}
 use native.Mathlib.Decide.{ℕ-discrete, decLt}
 use lib.Dec.{T}
 use lib.ListN.{length, getD, drop, List·getD-eq-default}
+use lib.Seq.{ext-getD}
 use Rattle.trellis.specs.Lists.{In, Every}
 use Rattle.trellis.specs.Search.{range}
 use Rattle.trellis.specs.Walk.{any}
@@ -34,6 +36,9 @@ module _ {A : Type 0} (f : ℕ → A) where
 pub sixteen-at : (f : ℕ → ℕ) (s : ℕ) → s < 16 → getD (sixteen f) s 0 ≡ f s
 unfolding range
 sixteen-at f s h = range-at f 0 16 s 0 h ∙ ap f (let e : 0 + s ≡ s = omega arith in e)
+
+pub sixteen-same : (f g : ℕ → ℕ) → ((s : ℕ) → s < 16 → f s ≡ g s) → sixteen f ≡ sixteen g
+sixteen-same f g h = ext-getD 0 (sixteen f) (sixteen g) refl (λ s k. sixteen-at f s k ∙ h s k ∙ sym (sixteen-at g s k))
 
 -- 0 past them
 pub sixteen-most : (f : ℕ → ℕ) (m : ℕ) → ((s : ℕ) → f s ≤ m) → (s : ℕ) → getD (sixteen f) s 0 ≤ m

@@ -20,7 +20,7 @@ ghost use Rattle.trellis.specs.Words.{wordsFrom, turnAfter};
 ghost use Rattle.points.specs.Points.{coordinates};
 ghost use Rattle.nearest.specs.Line.{InRange};
 ghost use Rattle.nearest.specs.Found.{heardAs};
-ghost use Rattle.walk.specs.Machine.{endOf, taking};
+ghost use Rattle.walk.specs.Machine.{endOf, allUpTo, taking};
 ghost use Rattle.walk.specs.Taken.{CoreFits, Ready, wayFrom, whole, outlookOf, TookIs};
 
 // Where the sums of states begin that nothing reaches: 2^62. The sums of reached states stay below.
@@ -120,6 +120,22 @@ pub fn end_state(sums: &[u64; 16]) -> usize
     best
 }
 
+// Whether no sum is above `top`.
+pub fn all_up_to(sums: &[u64; 16], top: u64) -> bool
+    ensures { λ r. ⌜ r ≡ allUpTo top (now (sums .entry)) ⌝ }
+{
+    // as a slice the array shows its length
+    let all: &[u64] = sums;
+    let mut s: usize = 0;
+    while s < 16 {
+        if sums[s] > top {
+            return false;
+        }
+        s += 1;
+    }
+    true
+}
+
 // What is kept of a weighed symbol: I3' of each subset, then the numbers of the first and of the second point by label.
 fn picks_of(i3: [u8; 8], w1: [u8; 4], w2: [u8; 4]) -> [u8; 16]
     ensures { λ r. ⌜ r ≡ i3 ++ (w1 ++ w2) ⌝ }
@@ -165,8 +181,10 @@ fn look_ahead(
     let picks = picks_of(i3, w1, w2);
     let next = ways::select(sums, &costs);
     let new_sums = next.sums;
-    let new_steps = next.steps;
-    let live = columns::before_live(&new_sums, &new_steps);
+    let chosen = next.steps;
+    let arrived = columns::arrivals(new_sums, chosen);
+    let new_steps = arrived.steps;
+    let live = arrived.before;
     let agreed = columns::walk_back(steps, core.slot, core.pending, live);
     Outlook {
         sums: new_sums,

@@ -2,12 +2,12 @@
 //
 // `best_into` is called with each state as a constant, so that all places are known when the program is compiled: the four states
 // of a group share the sums of the four states before them, and nothing is looked up. A state that nothing reaches has a sum of
-// LIMIT or more, which no reached state has: it loses every comparison, and no flag is kept.
-use crate::LIMIT;
+// LIMIT or more, which no reached state has: it loses every comparison, and no flag is kept. A state that only such states
+// lead to is mended afterwards, in `columns`: no line has one after its second symbol.
 ghost use mathlib.Core.Path.{_≡_};
 ghost use Prim.Native.Nat.{_<_};
-ghost use Rattle.walk.specs.Select.{sixteen, sumAt, stepAt};
-ghost use Rattle.walk.specs.Ways.{Summable, wayBy, wayAt, nearerOf, sumsOf, stepsOf};
+ghost use Rattle.walk.specs.Select.{sixteen, sumAt};
+ghost use Rattle.walk.specs.Ways.{Summable, wayBy, firstStep, wayAt, nearerOf, sumsOf, stepsOf};
 
 // A way into a state: its sum, and its last step as 8 times the state before and the 4D subset.
 pub struct Way {
@@ -51,7 +51,7 @@ fn nearer(a: Way, b: Way) -> Way
     if b.sum < a.sum { b } else { a }
 }
 
-// The best way into t. Where nothing reaches t, its step is the one from state 0.
+// The best way into t, of equals the one from the first state before it.
 fn best_into(sums: &[u64; 16], costs: &[u32; 8], t: u32) -> Way
     requires { ⌜ Summable (now sums) (now costs) × (t < 16) ⌝ }
     ensures { λ r. ⌜ r ≡ wayAt (now (sums .entry)) (now (costs .entry)) t ⌝ }
@@ -59,14 +59,7 @@ fn best_into(sums: &[u64; 16], costs: &[u32; 8], t: u32) -> Way
     let w0 = way_by(sums, costs, t, 0);
     let w1 = nearer(w0, way_by(sums, costs, t, 1));
     let w2 = nearer(w1, way_by(sums, costs, t, 2));
-    let w3 = nearer(w2, way_by(sums, costs, t, 3));
-    if w3.sum < LIMIT {
-        return w3;
-    }
-    Way {
-        sum: w3.sum,
-        step: wei::state::subset_between(0, t) as u8,
-    }
+    nearer(w2, way_by(sums, costs, t, 3))
 }
 
 // The sums of all sixteen ways, by state.
@@ -120,7 +113,7 @@ fn steps_of(a: Four, b: Four, c: Four, d: Four) -> [u8; 16]
 // All sixteen states.
 pub fn select(sums: &[u64; 16], costs: &[u32; 8]) -> Selected
     requires { ⌜ Summable (now sums) (now costs) ⌝ }
-    ensures { λ r. ⌜ r ≡ record { sums = sixteen (sumAt (now (sums .entry)) (now (costs .entry))); steps = sixteen (stepAt (now (sums .entry)) (now (costs .entry))) } ⌝ }
+    ensures { λ r. ⌜ r ≡ record { sums = sixteen (sumAt (now (sums .entry)) (now (costs .entry))); steps = sixteen (firstStep (now (sums .entry)) (now (costs .entry))) } ⌝ }
 {
     let a = Four {
         a: best_into(sums, costs, 0),

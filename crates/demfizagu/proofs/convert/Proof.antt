@@ -1,5 +1,5 @@
-use borrow.Author.Needs.{needs}
 -- `convert`: the loop goes on, or ends in one of three ways.
+use borrow.Author.Needs.{needs}
 use Prim.Native.Nat.{_-_}
 use native.Mathlib.Omega.{arith}
 use denote.Ref.{now}

@@ -11,8 +11,8 @@ returns c = let s = c .before .before .before .before in hear-short (now (s .arg
 load-receiver-requires : tie.Need-load-receiver-requires
 load-receiver-requires c κs = search needs
 
-hear-requires : tie.Need-hear-requires
-hear-requires c κs = search needs
+hear-lent-requires : tie.Need-hear-lent-requires
+hear-lent-requires c κs = search needs
 
 number-requires : tie.Need-number-requires
 number-requires c κs = search needs
@@ -37,17 +37,27 @@ same-length-3 c = search needs
 
 returns-2 : tie.Need-returns-2
 returns-2 c =
-    let s = c .before .before .before .before .before .before .before .before .before .before .before .before .before .before .before .before .before .before in
-    let is = rw (c .before .before .before .before .before .before .before .before .before .before .before .before .load-receiver .ensures) at (c .before .before .before .before .before .before .before .before .before .before .hear .ensures) in
-    let tells = rw (c .before .before .before .before .before .before .place .ensures) at (c .before .before .before .before .tell .ensures) in
-    hear-kept (now (s .args .state)) (now (s .args .piece)) (now (s .args .out)) (now (s .args .told)) (c .before .before .before .before .before .before .before .before .before .before .before .before .before .before .if1 .left) _ _ _ _ is (c .before .before .before .before .before .before .before .number .ensures) tells (c .if2 .taken)
+    let t = c .before .before .before .before in
+    let p = t .before .before in
+    let n = p .before in
+    let h = n .before .before .before in
+    let l = h .before .before .before .before .before .before .before .before .before in
+    let e = l .before .before in
+    let a = e .before .before .before .before .args in
+    let tells = rw (p .place .ensures) at (t .tell .ensures) in
+    hear-kept (now (a .state)) (now (a .piece)) (now (a .out)) (now (a .told)) (e .if1 .left) (l .load-receiver .result) (l .load-receiver .ensures) _ _ _ _ (h .hear-lent .ensures) (n .number .ensures) tells (c .if2 .taken)
 
 store-receiver-requires : tie.Need-store-receiver-requires
 store-receiver-requires c κs =
-    let s = c .before .before .before .before .before .before .before .before .before .before .before .before .before .before .before .before .before .before .before .before in
-    let is = rw (c .before .before .before .before .before .before .before .before .before .before .before .before .before .before .load-receiver .ensures) at (c .before .before .before .before .before .before .before .before .before .before .before .before .hear .ensures) in
-    let tells = rw (c .before .before .before .before .before .before .before .before .place .ensures) at (c .before .before .before .before .before .before .tell .ensures) in
-    hear-long (now (s .args .state)) (now (s .args .piece)) (now (s .args .out)) (now (s .args .told)) (c .before .before .before .before .before .before .before .before .before .before .before .before .before .before .before .before .if1 .left) _ _ _ _ is (c .before .before .before .before .before .before .before .before .before .number .ensures) tells (c .before .before .if2 .left)
+    let t = c .before .before .before .before .before .before in
+    let p = t .before .before in
+    let n = p .before in
+    let h = n .before .before .before in
+    let l = h .before .before .before .before .before .before .before .before .before in
+    let e = l .before .before in
+    let a = e .before .before .before .before .args in
+    let tells = rw (p .place .ensures) at (t .tell .ensures) in
+    hear-long (now (a .state)) (now (a .piece)) (now (a .out)) (now (a .told)) (e .if1 .left) (l .load-receiver .result) (l .load-receiver .ensures) _ _ _ _ (h .hear-lent .ensures) (n .number .ensures) tells (c .before .before .if2 .left)
 
 same-length-4 : tie.Need-same-length-4
 same-length-4 c = search needs
@@ -60,10 +70,15 @@ same-length-6 c = search needs
 
 returns-3 : tie.Need-returns-3
 returns-3 c =
-    let s = c .before .before .before .before .before .before .before .before .before .before .before .before .before .before .before .before .before .before .before .before .before .before .before in
-    let is = rw (c .before .before .before .before .before .before .before .before .before .before .before .before .before .before .before .before .before .load-receiver .ensures) at (c .before .before .before .before .before .before .before .before .before .before .before .before .before .before .before .hear .ensures) in
-    let tells = rw (c .before .before .before .before .before .before .before .before .before .before .before .place .ensures) at (c .before .before .before .before .before .before .before .before .before .tell .ensures) in
-    hear-written (now (s .args .state)) (now (s .args .piece)) (now (s .args .out)) (now (s .args .told)) (c .before .before .before .before .before .before .before .before .before .before .before .before .before .before .before .before .before .before .before .if1 .left) _ _ _ _ is (c .before .before .before .before .before .before .before .before .before .before .before .before .number .ensures) tells _ (c .before .before .before .before .before .if2 .left) (c .before .before .store-receiver .ensures)
+    let t = c .before .before .before .before .before .before .before .before .before in
+    let p = t .before .before in
+    let n = p .before in
+    let h = n .before .before .before in
+    let l = h .before .before .before .before .before .before .before .before .before in
+    let e = l .before .before in
+    let a = e .before .before .before .before .args in
+    let tells = rw (p .place .ensures) at (t .tell .ensures) in
+    hear-written (now (a .state)) (now (a .piece)) (now (a .out)) (now (a .told)) (e .if1 .left) (l .load-receiver .result) (l .load-receiver .ensures) _ _ _ _ (h .hear-lent .ensures) (n .number .ensures) tells _ (c .before .before .before .before .before .if2 .left) (c .before .before .store-receiver .ensures)
 
 pub demfizagu-hear-spec : {M : Type 1} → statement M
 demfizagu-hear-spec =
@@ -71,7 +86,7 @@ demfizagu-hear-spec =
     (tie.spec
     returns
     load-receiver-requires
-    hear-requires
+    hear-lent-requires
     number-requires
     place-requires
     cast-tell

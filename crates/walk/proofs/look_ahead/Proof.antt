@@ -19,27 +19,28 @@ select-requires c κs =
     let s = w .before in
     summable (s .args .core) (s .args .sums .now) (s .args .first) (s .args .second) (w .weigh .result) (s .pre .1 .0) (s .pre .1 .1) (s .pre .0 .1) (s .pre .0 .2) (w .weigh .ensures)
 
-before-live-requires : tie.Need-before-live-requires
-before-live-requires c κs = search needs
+arrivals-requires : tie.Need-arrivals-requires
+arrivals-requires c κs = search needs
 
 walk-back-requires : tie.Need-walk-back-requires
 walk-back-requires c κs =
     let f = c .before .before .before .before .before .before .before .before .before .before .before .before .before .pre .1 .0 .core-fits in
-    (f .slot-below, omega (arith, f .held, f .small-window), rw (c .before-live .ensures) (past-states _ _))
+    (f .slot-below, omega (arith, f .held, f .small-window), rw (c .before .before .arrivals .ensures) (past-states _ _))
 
-array-read-t25 : tie.Need-array-read-t25
-array-read-t25 c = search needs
+array-read-t24 : tie.Need-array-read-t24
+array-read-t24 c = search needs
 
-cast-t26 : tie.Need-cast-t26
-cast-t26 c = search needs
+cast-t25 : tie.Need-cast-t25
+cast-t25 c = search needs
 
 returns : tie.Need-returns
 returns c =
-    let n = c .before .before .before .before .before .before in
+    let r = c .before .before .before in
+    let n = r .before .before .before in
     let w = n .before .before .before .before .before .before .before in
     let a = w .before .args in
-    looked (a .core) (a .sums .now) (a .steps .now) (heardAs (a .first) (a .second)) (w .weigh .result) (n .select .result) (n .before .before .picks-of .result) (c .before .before-live .result) (c .walk-back .result)
-    (w .weigh .ensures) (n .before .before .picks-of .ensures) (n .select .ensures) (c .before .before-live .ensures) (c .walk-back .ensures)
+    looked (a .core) (a .sums .now) (a .steps .now) (heardAs (a .first) (a .second)) (w .weigh .result) (n .select .result) (r .arrivals .result) (n .before .before .picks-of .result) (c .walk-back .result)
+    (w .weigh .ensures) (n .before .before .picks-of .ensures) (n .select .ensures) (r .arrivals .ensures) (c .walk-back .ensures)
 
 pub look-ahead-spec : {M : Type 1} → statement M
 look-ahead-spec =
@@ -48,8 +49,8 @@ look-ahead-spec =
     weigh-requires
     picks-of-requires
     select-requires
-    before-live-requires
+    arrivals-requires
     walk-back-requires
-    array-read-t25
-    cast-t26
+    array-read-t24
+    cast-t25
     returns)

@@ -1,3 +1,4 @@
+-- `bytes_in`: so many words unpacked stand at the front, and the rest is still to be written.
 use mathlib.Core.Path.{_≡_, refl, sym, ap, _∙_}
 use mathlib.Core.List.{append-nil}
 use Prim.Native.Nat.{_*_, _-_, _≤_}

@@ -1,3 +1,4 @@
+-- `put_eight`: each byte is the one that the definition names.
 use native.Mathlib.Omega.{arith}
 use lib.ListN.{length-set}
 use Rattle.demfizagu.specs.State.{eight}

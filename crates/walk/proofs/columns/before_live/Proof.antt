@@ -26,17 +26,17 @@ element-copy-out-other c = c .first-live .ensures .1
 loop-holds : tie.Need-loop-holds Inv-loop μ-loop
 loop-holds c = (omega arith, refl, refl)
 
-mul-state-before : tie.Need-mul-state-before Inv-loop μ-loop
-mul-state-before c = omega arith
+mul-step-if-reached : tie.Need-mul-step-if-reached Inv-loop μ-loop
+mul-step-if-reached c = omega arith
 
-element-copy-out-state-before : tie.Need-element-copy-out-state-before Inv-loop μ-loop
-element-copy-out-state-before c = omega arith
+element-copy-out-step-if-reached : tie.Need-element-copy-out-step-if-reached Inv-loop μ-loop
+element-copy-out-step-if-reached c = omega arith
 
-element-copy-out-state-before-2 : tie.Need-element-copy-out-state-before-2 Inv-loop μ-loop
-element-copy-out-state-before-2 c = omega arith
+element-copy-out-step-if-reached-2 : tie.Need-element-copy-out-step-if-reached-2 Inv-loop μ-loop
+element-copy-out-step-if-reached-2 c = omega arith
 
-state-before-requires : tie.Need-state-before-requires Inv-loop μ-loop
-state-before-requires c κs = tt
+step-if-reached-requires : tie.Need-step-if-reached-requires Inv-loop μ-loop
+step-if-reached-requires c κs = tt
 
 array-write-live : tie.Need-array-write-live Inv-loop μ-loop
 array-write-live c = omega arith
@@ -52,7 +52,7 @@ loop-again c =
     let at = c .before .before .before .before in
     let first = at .before .before in
     let a = first .before .args in
-    let x = past-is (a .sums .now) (a .steps .now) (at .loop .s) (first .first-live .result) (c .state-before .result) (first .first-live .ensures .0) (c .state-before .ensures) in
+    let x = past-is (a .sums .now) (a .steps .now) (at .loop .s) (first .first-live .result) (c .step-if-reached .result) (first .first-live .ensures .0) (c .step-if-reached .ensures) in
     (omega arith, at .loop .inv .1, rw (at .loop .inv .2, x, add-one (at .loop .s)) (tabled-more (pastAt (a .sums .now) (a .steps .now)) (at .loop .s) _ (omega arith)))
 
 returns : tie.Need-returns Inv-loop μ-loop
@@ -70,10 +70,10 @@ before-live-spec =
     first-live-requires
     element-copy-out-other
     loop-holds
-    mul-state-before
-    element-copy-out-state-before
-    element-copy-out-state-before-2
-    state-before-requires
+    mul-step-if-reached
+    element-copy-out-step-if-reached
+    element-copy-out-step-if-reached-2
+    step-if-reached-requires
     array-write-live
     add-s
     loop-less

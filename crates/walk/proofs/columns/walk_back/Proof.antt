@@ -8,7 +8,7 @@ use Rattle.walk.specs.Column.{columnsOf, part}
 use Rattle.walk.specs.Back.{agreedFrom}
 use Rattle.walk.specs.Ways.{States}
 use Rattle.walk.proofs.CodeLive.{back-states}
-use Rattle.walk.proofs.CodeBack.{back-apart, back-same, back-met}
+use Rattle.walk.proofs.CodeBack.{one-back, all-met}
 use Rattle.walk.proofs.columns.walk_back.Statement.{statement}
 use Rattle.walk.proofs.columns.walk_back.Tie as tie
 
@@ -34,36 +34,26 @@ add-a c = omega arith
 step-back-requires : tie.Need-step-back-requires Inv-loop μ-loop
 step-back-requires c κs = (omega arith, c .before .before .loop .inv .2)
 
+still-shared-requires : tie.Need-still-shared-requires Inv-loop μ-loop
+still-shared-requires c κs = tt
+
 returns : tie.Need-returns Inv-loop μ-loop
 returns c =
-    let at = c .before .before .before .before in
-    let s = c .before .step-back in
-    sym (at .loop .inv .3 ∙ back-met (at .before .args .steps .now) (at .loop .a) (at .loop .j) (at .loop .ways) (at .loop .shared) (s .result) (c .before .before .before .loop-test .taken) (s .ensures .0) (c .if1 .taken))
+    let s = c .before .before .step-back in
+    let at = c .before .before .before .before .before in
+    c .before .still-shared .ensures ∙ sym (at .loop .inv .3 ∙ all-met (at .before .args .steps .now) (at .loop .a) (at .loop .j) (at .loop .ways) (at .loop .shared) (s .result) (c .before .before .before .before .loop-test .taken) (s .ensures .0) (c .if1 .taken))
 
 loop-less : tie.Need-loop-less Inv-loop μ-loop
 loop-less c = omega arith
 
 loop-again : tie.Need-loop-again Inv-loop μ-loop
 loop-again c =
-    let s = c .before .before in
-    let at = s .before .before .before in (
+    let s = c .before .before .step-back in
+    let at = c .before .before .before .before .before in (
       omega arith,
       omega arith,
-      rw (s .step-back .ensures .1) (back-states (part (at .before .args .steps .now) ((at .loop .a + 63) % 64)) (at .loop .ways) (at .loop .inv .2)),
-      rw (s .step-back .ensures .1) (at .loop .inv .3 ∙ back-apart (at .before .args .steps .now) (at .loop .a) (at .loop .j) (at .loop .ways) (at .loop .shared) (s .step-back .result) (s .before .before .loop-test .taken) (s .step-back .ensures .0) (c .if2 .taken)),
-    )
-
-loop-less-2 : tie.Need-loop-less-2 Inv-loop μ-loop
-loop-less-2 c = omega arith
-
-loop-again-2 : tie.Need-loop-again-2 Inv-loop μ-loop
-loop-again-2 c =
-    let s = c .before .before in
-    let at = s .before .before .before in (
-      omega arith,
-      omega arith,
-      rw (s .step-back .ensures .1) (back-states (part (at .before .args .steps .now) ((at .loop .a + 63) % 64)) (at .loop .ways) (at .loop .inv .2)),
-      rw (s .step-back .ensures .1) (at .loop .inv .3 ∙ back-same (at .before .args .steps .now) (at .loop .a) (at .loop .j) (at .loop .ways) (at .loop .shared) (s .step-back .result) (s .before .before .loop-test .taken) (s .step-back .ensures .0) (c .if2 .left)),
+      rw (s .ensures .1) (back-states (part (at .before .args .steps .now) ((at .loop .a + 63) % 64)) (at .loop .ways) (at .loop .inv .2)),
+      rw (s .ensures .1, c .before .still-shared .ensures) (at .loop .inv .3 ∙ one-back (at .before .args .steps .now) (at .loop .a) (at .loop .j) (at .loop .ways) (at .loop .shared) (s .result) (c .before .before .before .before .loop-test .taken) (s .ensures .0)),
     )
 
 returns-2 : tie.Need-returns-2 Inv-loop μ-loop
@@ -83,9 +73,8 @@ walk-back-spec =
     sub-j
     add-a
     step-back-requires
+    still-shared-requires
     returns
     loop-less
     loop-again
-    loop-less-2
-    loop-again-2
     returns-2)

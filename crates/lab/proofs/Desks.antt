@@ -1,82 +1,122 @@
--- Laws of what a request does, by its kind: one that answers nothing, one that is unread, one that leaves both ends, one that may change them.
+-- Laws of what a request does: what a call gave, made into a desk and an answer, and the request that was read.
 use Prim.Native.Nat.{ℕ, _+_, _≤_}
 use mathlib.Core.Path.{_≡_, refl, sym, ap, subst, _∙_}
-use mathlib.Core.Bool.{Bool, true, false}
-use mathlib.Core.List.{List}
+use mathlib.Core.Bool.{Bool, true, false, cond}
+use mathlib.Core.List.{List, [], _∷_, _++_, map}
 use native.Mathlib.Omega.{arith}
+use borrow.Author.Tests.{le-leb}
+use lib.Dec.{leb}
+use lib.Ieee.{Float}
 use lib.IntN.{ℤ}
-use lib.ListN.{length, take, length-take}
+use lib.ListN.{length, take, drop, length-append, length-take, length-drop, length-replicate}
+use lib.Seq.{take-at}
 use Rattle.text.specs.Bytes.{bytes}
 use Rattle.text.specs.Page.{Puts}
 use Rattle.protocol.specs.declared.Request.{Request}
 use Rattle.protocol.specs.declared.Request.the-variants as request
+use Rattle.protocol.specs.Request.{Sizes, Fit}
+use Rattle.samples.specs.declared.Pair.{Pair}
+use Rattle.samples.specs.Given.{sampleGiven}
+use Rattle.samples.specs.Heard.{heardCoordinate, heardBits, bothOrFault, heardSample}
+use Rattle.sender.specs.declared.Sender.{Sender}
+use Rattle.sender.specs.Send.{sound, after, symbolFor, four, sending, Given}
+use Rattle.wei.specs.Word.{isWord}
+use Rattle.walk.specs.Told.{givenOf}
+use Rattle.receiver.specs.declared.Answer.{Answer}
+use Rattle.receiver.specs.Doors.{Ran}
+use Rattle.receiver.specs.Promise.{Is}
 use Rattle.lab.specs.declared.desk.Desk.{Desk}
 use Rattle.lab.specs.declared.desk.Done.{Done}
-use Rattle.protocol.specs.Request.{Sizes, Fit}
-use Rattle.lab.specs.Room.{answerRoom, Lent, Ready, leaves, Acts}
-use Rattle.lab.proofs.Gathering.{clash}
+use Rattle.lab.specs.Room.{answerRoom, Lent, Ready}
+use Rattle.lab.specs.Answer.{decimal, whole, afterSpaces, firstFour, sentLine, heardLine, sampleLine}
+use Rattle.lab.specs.Desk.{Result, says, withSender, sendGives, lent, acting, Does}
+use Rattle.lab.proofs.Answers.{puts-as}
 
--- whether a request has an answer other than `?`
-abbrev speaks : Request → Bool
-speaks request.Nothing = false
-speaks request.Unread = false
-speaks (request.Sample x y) = true
-speaks request.Pending = true
-speaks (request.Sender u) = true
-speaks (request.Send w c) = true
-speaks (request.Plain u) = true
-speaks (request.Free u w) = true
-speaks (request.At u w s) = true
-speaks (request.Piece c n) = true
-speaks (request.Finish c) = true
+-- ---- what was done
 
--- no request is both
-not-both : {A : Type 0} (asked : Request) → asked ≡ request.Nothing → asked ≡ request.Unread → A
-not-both asked e f = let z : _≡_ {A = ℕ} 0 1 = cc in absurd (omega arith)
+-- the desk e and the text t, which are those of g
+pub does : {g : Result} {most : ℕ} {page : List ℕ} {at : ℕ} {r : Done} {page' : List ℕ} {e : Desk} {t : List ℕ} {q : ℕ}
+    → r ≡ record { desk = e; at = q } → e ≡ g .desk → t ≡ g .text → q ≤ at + most → Puts page at t q page' → Does g most page at r page'
+does {g} {most} {page} {at} {r} {page'} is d s h p =
+    let place : r .at ≡ _ = ap (λ (x : Done). x .at) is in
+    record {
+      desk = ap (λ (x : Done). x .desk) is ∙ d;
+      puts = subst (λ (k : ℕ). Puts page at (g .text) k page') (sym place) (puts-as s p);
+      near = omega arith;
+    }
 
-module _ {desk : Desk} {asked : Request} {page : List ℕ} {at : ℕ} {r : Done} {page' : List ℕ} where
-  pub says-nothing : asked ≡ request.Nothing → r ≡ record { desk = desk; at = at } → page' ≡ page → Acts desk asked page at r page'
-  says-nothing e f g =
-      record {
-        near = omega (arith, ap (λ (d : Done). d .at) f);
-        left = λ _. ap (λ (d : Done). d .desk) f;
-        nothing = λ _. (ap (λ (d : Done). d .at) f, g);
-        unread = λ h. not-both asked e h;
-      }
+-- the request is k
+pub acts : (d : Desk) (cs : List ℤ) {asked k : Request} {most : ℕ} {page : List ℕ} {at : ℕ} {r : Done} {page' : List ℕ}
+    → asked ≡ k → most ≤ answerRoom → Does (acting d k cs) most page at r page' → Does (acting d asked cs) answerRoom page at r page'
+acts d cs {asked} {k} {most} {page} {at} {r} {page'} e h g =
+    subst (λ (a : Request). Does (acting d a cs) answerRoom page at r page') (sym e)
+    (record { desk = g .desk; puts = g .puts; near = omega (arith, g .near) })
 
-  pub is-unread : asked ≡ request.Unread → r .desk ≡ desk → Puts page at (bytes "?\n") (r .at) page' → Acts desk asked page at r page'
-  is-unread e d p =
-      record {
-        near = omega (arith, p .next);
-        left = λ _. d;
-        nothing = λ h. not-both asked h e;
-        unread = λ _. p;
-      }
+-- the size n that a call was lent is the one that the request names
+pub at-cap : (f : ℕ → Result) {n cap most : ℕ} {page : List ℕ} {at : ℕ} {r : Done} {page' : List ℕ} → n ≡ cap → Does (f n) most page at r page' → Does (f cap) most page at r page'
+at-cap f {n} {cap} {most} {page} {at} {r} {page'} e g = subst (λ (k : ℕ). Does (f k) most page at r page') e g
 
-  module _ {k : Request} (e : asked ≡ k) (s : speaks k ≡ true) (near : r .at ≤ at + answerRoom) where
-    pub stays : r .desk ≡ desk → Acts desk asked page at r page'
-    stays d =
-        record {
-          near = near;
-          left = λ _. d;
-          nothing = λ f. clash (speaks asked) (ap speaks e ∙ s) (ap speaks f);
-          unread = λ f. clash (speaks asked) (ap speaks e ∙ s) (ap speaks f);
-        }
+-- ---- a send
 
-    pub changes : leaves k ≡ false → Acts desk asked page at r page'
-    changes l =
-        record {
-          near = near;
-          left = λ f. clash (leaves asked) f (ap leaves e ∙ l);
-          nothing = λ f. clash (speaks asked) (ap speaks e ∙ s) (ap speaks f);
-          unread = λ f. clash (speaks asked) (ap speaks e ∙ s) (ap speaks f);
-        }
+first-four : (a b c d : ℤ) (out : List ℤ) → firstFour (a ∷ b ∷ c ∷ d ∷ out) ≡ a ∷ b ∷ c ∷ d ∷ []
+first-four a b c d out = rw (le-leb 4 (length (a ∷ b ∷ c ∷ d ∷ out)) (omega arith))
+
+-- what the output held before makes no difference
+send-same : (d : Desk) (s : Sender) (w : ℕ) (out out' : List ℤ) → length out ≡ length out' → sendGives d (sending s w out) ≡ sendGives d (sending s w out')
+unfolding sending sentLine four
+send-same d s w out out' e = rw (← e) (by (sound s) (isWord (s .u) w) (leb 4 (length out))) where
+  gives : Bool → Bool → Bool → List ℤ → Given
+  gives a b c o =
+      cond a
+      (cond b (cond c (record { number = 0; sender = after s w; output = four (symbolFor s w) ++ drop 4 o }) (record { number = 8; sender = s; output = o })) (record { number = 4; sender = s; output = o }))
+      (record { number = 9; sender = s; output = o })
+
+  by : (a b c : Bool) → sendGives d (gives a b c out) ≡ sendGives d (gives a b c out')
+  by true true true =
+      ap (λ (zs : List ℤ). says (withSender d (after s w)) (decimal 0 ++ afterSpaces (map whole zs) ++ bytes "\n"))
+      (first-four _ _ _ _ (drop 4 out) ∙ sym (first-four _ _ _ _ (drop 4 out')))
+  by true true false = refl
+  by true false c = refl
+  by false b c = refl
+
+module _ (d : Desk) (s : Sender) (w : ℕ) (out : List ℤ) where
+  abbrev sent : Result
+  sent = sendGives d (sending s w (lent (length out)))
+
+  same : sendGives d (sending s w out) ≡ sent
+  same = send-same d s w out (lent (length out)) (sym (length-replicate (length out) _))
+
+  pub sent-desk : {s' : Sender} → s' ≡ sending s w out .sender → withSender d s' ≡ sent .desk
+  sent-desk e = ap (withSender d) e ∙ ap (λ (g : Result). g .desk) same
+
+  pub sent-text : {n : ℕ} {o : List ℤ} → n ≡ sending s w out .number → o ≡ sending s w out .output → sentLine n o ≡ sent .text
+  sent-text e f = rw (e, f) (ap (λ (g : Result). g .text) same)
+
+-- ---- a piece and a finish
+
+module _ {ran : Ran} {out : List ℕ} {a : Answer} {o : List ℕ} (is : Is ran out a o) where
+  pub written-words : take (a .written) o ≡ ran .words
+  written-words = rw (is .written, is .output) (take-at (ran .words) (drop (length (ran .words)) out) (length (ran .words)) refl)
+
+  pub heard-text : heardLine (a .taken) (givenOf (a .why)) (take (a .written) o) ≡ heardLine (ran .taken) (givenOf (ran .why)) (ran .words)
+  heard-text = rw (is .taken, is .given, written-words)
+
+-- ---- a sample
+
+pub sample-text : (fx fy : Float) {p q : Pair} (x y : ℕ) → p ≡ q → sampleGiven p ≡ heardSample fx fy → heardCoordinate fx ≡ heardBits x → heardCoordinate fy ≡ heardBits y
+    → sampleLine (sampleGiven q) ≡ sampleLine (bothOrFault (heardBits x) (heardBits y))
+unfolding heardSample
+sample-text fx fy x y e g hx hy =
+    ap sampleLine
+    (ap sampleGiven (sym e) ∙ g ∙ ap (λ a. bothOrFault a (heardCoordinate fy)) hx ∙ ap (λ b. bothOrFault (heardBits x) b) hy)
+
+-- ---- sizes
 
 -- the sizes that a request which turned out to be k names
 pub sizes-of : {room : ℕ} {asked : Request} (k : Request) → asked ≡ k → Fit room asked → Sizes room k
 sizes-of {room} k e f = (subst (Fit room) e f) .sizes
 
-pub short : (n : ℕ) (words : List ℕ) → n ≤ 4096 → length (take n words) ≤ 4096
+pub short : (n : ℕ) (words : List ℕ) {m : ℕ} → n ≤ m → length (take n words) ≤ m
 short n words h = rw length-take (omega arith)
 
 -- a request that was read into the list of coordinates can be answered, where the page is filled to a quarter at most

@@ -1,2 +1,4 @@
+pub mod Answer
+pub mod Desk
 pub mod Room
 pub mod Line

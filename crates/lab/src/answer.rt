@@ -1,46 +1,44 @@
-// The answers, a line each, put into the page.
+// The answers, a line each, put into the page: what each one says is in specs/Answer.antt. Every function asks for the room that
+// its text can take, and answers with the place after it.
 use text::page;
 use walk::Why;
+ghost use mathlib.Core.List.{_++_};
+ghost use mathlib.Core.Path.{_≡_};
 ghost use Prim.Native.Nat.{_+_, _≤_};
 ghost use lib.ListN.{length};
 ghost use Rattle.text.specs.Bytes.{bytes};
 ghost use Rattle.text.specs.Page.{Puts};
+ghost use Rattle.walk.specs.Told.{givenOf};
+ghost use Rattle.lab.specs.Answer.{decimal, whole, afterSpaces, numberLine, sentLine, placeText, reasonText, saidText, heardLine, pairLine, refusedLine, unreadLine};
 ghost use Rattle.lab.specs.Room.{wordsRoom};
+ghost use mathlib.Core.List.{map};
 
 fn end(page: &mut [u8], at: usize) -> usize
     requires { ⌜ at + 1 ≤ length (now page) ⌝ }
-    ensures { λ r. ⌜ r ≤ at + 1 ⌝ }
+    ensures { λ r. ⌜ Puts (now (page .entry)) at (bytes "\n") r (now (page .exit)) ⌝ }
 {
     page::put_byte(page, at, b'\n')
 }
 
 pub fn unread(page: &mut [u8], at: usize) -> usize
     requires { ⌜ at + 2 ≤ length (now page) ⌝ }
-    ensures { λ r. ⌜ Puts (now (page .entry)) at (bytes "?\n") r (now (page .exit)) ⌝ }
+    ensures { λ r. ⌜ Puts (now (page .entry)) at unreadLine r (now (page .exit)) ⌝ }
 {
     page::put_text(page, at, b"?\n")
 }
 
-pub fn number(page: &mut [u8], at: usize, n: u32) -> usize
+pub fn number(page: &mut [u8], at: usize, n: u64) -> usize
     requires { ⌜ at + 21 ≤ length (now page) ⌝ }
-    ensures { λ r. ⌜ r ≤ at + 21 ⌝ }
+    ensures { λ r. ⌜ Puts (now (page .entry)) at (numberLine n) r (now (page .exit)) ⌝ }
 {
-    let p = page::put_number(page, at, n as u64);
-    end(page, p)
-}
-
-pub fn count(page: &mut [u8], at: usize, n: usize) -> usize
-    requires { ⌜ at + 21 ≤ length (now page) ⌝ }
-    ensures { λ r. ⌜ r ≤ at + 21 ⌝ }
-{
-    let p = page::put_number(page, at, n as u64);
+    let p = page::put_number(page, at, n);
     end(page, p)
 }
 
 // A space and a whole number.
 fn next_whole(page: &mut [u8], at: usize, x: i32) -> usize
     requires { ⌜ at + 22 ≤ length (now page) ⌝ }
-    ensures { λ r. ⌜ r ≤ at + 22 ⌝ }
+    ensures { λ r. ⌜ Puts (now (page .entry)) at (bytes " " ++ whole x) r (now (page .exit)) ⌝ }
 {
     let p = page::put_byte(page, at, b' ');
     page::put_whole(page, p, x)
@@ -49,7 +47,7 @@ fn next_whole(page: &mut [u8], at: usize, x: i32) -> usize
 // The number, and the four coordinates where it is 0.
 pub fn sent(page: &mut [u8], at: usize, n: u32, out: &[i32]) -> usize
     requires { ⌜ at + 109 ≤ length (now page) ⌝ }
-    ensures { λ r. ⌜ r ≤ at + 109 ⌝ }
+    ensures { λ r. ⌜ Puts (now (page .entry)) at (sentLine n (now (out .entry))) r (now (page .exit)) ⌝ }
 {
     let p = page::put_number(page, at, n as u64);
     if n != 0 {
@@ -67,7 +65,7 @@ pub fn sent(page: &mut [u8], at: usize, n: u32, out: &[i32]) -> usize
 
 pub fn pair(page: &mut [u8], at: usize, x: i32, y: i32) -> usize
     requires { ⌜ at + 44 ≤ length (now page) ⌝ }
-    ensures { λ r. ⌜ r ≤ at + 44 ⌝ }
+    ensures { λ r. ⌜ Puts (now (page .entry)) at (pairLine x y) r (now (page .exit)) ⌝ }
 {
     let p = page::put_whole(page, at, x);
     let p = next_whole(page, p, y);
@@ -76,7 +74,7 @@ pub fn pair(page: &mut [u8], at: usize, x: i32, y: i32) -> usize
 
 fn place(page: &mut [u8], at: usize, n: u64) -> usize
     requires { ⌜ at + 27 ≤ length (now page) ⌝ }
-    ensures { λ r. ⌜ r ≤ at + 27 ⌝ }
+    ensures { λ r. ⌜ Puts (now (page .entry)) at (placeText n) r (now (page .exit)) ⌝ }
 {
     let p = page::put_text(page, at, b" place ");
     page::put_number(page, p, n)
@@ -84,21 +82,23 @@ fn place(page: &mut [u8], at: usize, n: u64) -> usize
 
 pub fn refused(page: &mut [u8], at: usize, k: u8) -> usize
     requires { ⌜ at + 29 ≤ length (now page) ⌝ }
-    ensures { λ r. ⌜ r ≤ at + 29 ⌝ }
+    ensures { λ r. ⌜ Puts (now (page .entry)) at (refusedLine k) r (now (page .exit)) ⌝ }
 {
     let p = page::put_byte(page, at, b'5');
     let p = place(page, p, k as u64);
     end(page, p)
 }
 
-fn wide(w: u32) -> u64 {
+fn wide(w: u32) -> u64
+    ensures { λ r. ⌜ r ≡ w ⌝ }
+{
     w as u64
 }
 
 // A space and a word, for each of the words.
 fn words(page: &mut [u8], at: usize, words: &[u32]) -> usize
     requires { ⌜ at + wordsRoom (length (now words)) ≤ length (now page) ⌝ }
-    ensures { λ r. ⌜ r ≤ at + wordsRoom (length (now (words .entry))) ⌝ }
+    ensures { λ r. ⌜ Puts (now (page .entry)) at (afterSpaces (map decimal (now (words .entry)))) r (now (page .exit)) ⌝ }
 {
     let mut p = at;
     let mut i = 0;
@@ -113,7 +113,7 @@ fn words(page: &mut [u8], at: usize, words: &[u32]) -> usize
 // The number, and for a 5 the place of the coordinate that was first at fault.
 fn reason(page: &mut [u8], at: usize, why: Why) -> usize
     requires { ⌜ at + 47 ≤ length (now page) ⌝ }
-    ensures { λ r. ⌜ r ≤ at + 47 ⌝ }
+    ensures { λ r. ⌜ Puts (now (page .entry)) at (reasonText (givenOf why)) r (now (page .exit)) ⌝ }
 {
     let n = receiver::number(why);
     let p = page::put_number(page, at, n as u64);
@@ -126,7 +126,7 @@ fn reason(page: &mut [u8], at: usize, why: Why) -> usize
 // Symbols taken and words written, a space after each.
 fn counts(page: &mut [u8], at: usize, taken: usize, written: usize) -> usize
     requires { ⌜ at + 42 ≤ length (now page) ⌝ }
-    ensures { λ r. ⌜ r ≤ at + 42 ⌝ }
+    ensures { λ r. ⌜ Puts (now (page .entry)) at (decimal taken ++ bytes " " ++ decimal written ++ bytes " ") r (now (page .exit)) ⌝ }
 {
     let p = page::put_number(page, at, taken as u64);
     let p = page::put_byte(page, p, b' ');
@@ -135,34 +135,24 @@ fn counts(page: &mut [u8], at: usize, taken: usize, written: usize) -> usize
 }
 
 // The words that were written, if any.
-fn said(page: &mut [u8], at: usize, written: usize, out: &[u32]) -> usize
-    requires { ⌜ at + 2 + wordsRoom (length (now out)) ≤ length (now page) ⌝ }
-    ensures { λ r. ⌜ r ≤ at + 2 + wordsRoom (length (now (out .entry))) ⌝ }
+fn said(page: &mut [u8], at: usize, written: &[u32]) -> usize
+    requires { ⌜ at + 2 + wordsRoom (length (now written)) ≤ length (now page) ⌝ }
+    ensures { λ r. ⌜ Puts (now (page .entry)) at (saidText (now (written .entry))) r (now (page .exit)) ⌝ }
 {
-    if written == 0 {
-        return at;
-    }
-    if out.len() < written {
+    if written.len() == 0 {
         return at;
     }
     let p = page::put_text(page, at, b" :");
-    words(page, p, &out[..written])
+    words(page, p, written)
 }
 
-// The answer to a piece or a finish.
-pub fn heard(
-    page: &mut [u8],
-    at: usize,
-    taken: usize,
-    written: usize,
-    why: Why,
-    out: &[u32],
-) -> usize
-    requires { ⌜ at + 92 + wordsRoom (length (now out)) ≤ length (now page) ⌝ }
-    ensures { λ r. ⌜ r ≤ at + 92 + wordsRoom (length (now (out .entry))) ⌝ }
+// The answer to a piece or a finish that wrote these words.
+pub fn heard(page: &mut [u8], at: usize, taken: usize, why: Why, written: &[u32]) -> usize
+    requires { ⌜ at + 92 + wordsRoom (length (now written)) ≤ length (now page) ⌝ }
+    ensures { λ r. ⌜ Puts (now (page .entry)) at (heardLine taken (givenOf why) (now (written .entry))) r (now (page .exit)) ⌝ }
 {
-    let p = counts(page, at, taken, written);
+    let p = counts(page, at, taken, written.len());
     let p = reason(page, p, why);
-    let p = said(page, p, written, out);
+    let p = said(page, p, written);
     end(page, p)
 }

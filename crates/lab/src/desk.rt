@@ -1,4 +1,5 @@
-// The desk: one sender and one receiver, and what each request does to them. Every function answers into the page.
+// The desk: one sender and one receiver, and what each request does to them. Every function answers into the page; the desk
+// after it and the answer are those of specs/Desk.antt.
 use crate::answer;
 use protocol::Request;
 use receiver::Start;
@@ -7,10 +8,15 @@ use samples::Sample;
 use sender::Sender;
 use walk::Receiver;
 ghost use mathlib.Core.Path.{_≡_};
+ghost use mathlib.Core.List.{[]};
 ghost use Prim.Native.Nat.{_+_, _≤_};
 ghost use lib.ListN.{length};
-ghost use Rattle.samples.specs.Heard.{heardCoordinate, heardBits};
-ghost use Rattle.lab.specs.Room.{wordsRoom, Ready, Acts};
+ghost use Rattle.samples.specs.Heard.{heardCoordinate, heardBits, bothOrFault};
+ghost use Rattle.receiver.specs.Doors.{opening, plainOpening, hearing, finishing};
+ghost use Rattle.text.specs.Page.{Puts};
+ghost use Rattle.lab.specs.Answer.{numberLine, sampleLine};
+ghost use Rattle.lab.specs.Desk.{closedDesk, withSender, withReceiver, openingGives, ranGives, pendingOf, acting, Does, Acts};
+ghost use Rattle.lab.specs.Room.{wordsRoom, Ready};
 
 pub struct Desk {
     pub sender: Sender,
@@ -23,7 +29,9 @@ pub struct Done {
     pub at: usize,
 }
 
-pub fn closed() -> Desk {
+pub fn closed() -> Desk
+    ensures { λ r. ⌜ r ≡ closedDesk ⌝ }
+{
     Desk {
         sender: sender::closed_sender(),
         receiver: receiver::closed_receiver(),
@@ -31,7 +39,7 @@ pub fn closed() -> Desk {
 }
 
 fn with_sender(desk: Desk, sender: Sender, at: usize) -> Done
-    ensures { λ r. ⌜ r .at ≡ at ⌝ }
+    ensures { λ r. ⌜ r ≡ record { desk = withSender desk sender; at = at } ⌝ }
 {
     let receiver = desk.receiver;
     Done {
@@ -41,7 +49,7 @@ fn with_sender(desk: Desk, sender: Sender, at: usize) -> Done
 }
 
 fn with_receiver(desk: Desk, receiver: Receiver, at: usize) -> Done
-    ensures { λ r. ⌜ r .at ≡ at ⌝ }
+    ensures { λ r. ⌜ r ≡ record { desk = withReceiver desk receiver; at = at } ⌝ }
 {
     let sender = desk.sender;
     Done {
@@ -52,18 +60,18 @@ fn with_receiver(desk: Desk, receiver: Receiver, at: usize) -> Done
 
 fn open_sender(desk: Desk, u: u32, page: &mut [u8], at: usize) -> Done
     requires { ⌜ at + 21 ≤ length (now page) ⌝ }
-    ensures { λ r. ⌜ r .at ≤ at + 21 ⌝ }
+    ensures { λ r. ⌜ Does (acting desk (Request.Sender u) []) 21 (now (page .entry)) at r (now (page .exit)) ⌝ }
 {
     let opened = sender::open_sender(u);
     let why = opened.why;
-    let p = answer::number(page, at, sender::number(why));
+    let p = answer::number(page, at, sender::number(why) as u64);
     let sender = opened.sender;
     with_sender(desk, sender, p)
 }
 
 fn send(desk: Desk, word: u32, out: &mut [i32], page: &mut [u8], at: usize) -> Done
     requires { ⌜ at + 109 ≤ length (now page) ⌝ }
-    ensures { λ r. ⌜ r .at ≤ at + 109 ⌝ }
+    ensures { λ r. ⌜ Does (acting desk (Request.Send word (length (now (out .entry)))) []) 109 (now (page .entry)) at r (now (page .exit)) ⌝ }
 {
     let old = desk.sender;
     let sent = sender::send(old, word, out);
@@ -75,46 +83,48 @@ fn send(desk: Desk, word: u32, out: &mut [i32], page: &mut [u8], at: usize) -> D
 
 fn open_plain(desk: Desk, u: u32, page: &mut [u8], at: usize) -> Done
     requires { ⌜ at + 21 ≤ length (now page) ⌝ }
-    ensures { λ r. ⌜ r .at ≤ at + 21 ⌝ }
+    ensures { λ r. ⌜ Does (openingGives desk (plainOpening u)) 21 (now (page .entry)) at r (now (page .exit)) ⌝ }
 {
     let opened = receiver::open_plain(u);
     let why = opened.why;
-    let p = answer::number(page, at, receiver::number(why));
+    let p = answer::number(page, at, receiver::number(why) as u64);
     let receiver = opened.receiver;
     with_receiver(desk, receiver, p)
 }
 
 fn open_receiver(desk: Desk, u: u32, window: u32, start: Start, page: &mut [u8], at: usize) -> Done
     requires { ⌜ at + 21 ≤ length (now page) ⌝ }
-    ensures { λ r. ⌜ r .at ≤ at + 21 ⌝ }
+    ensures { λ r. ⌜ Does (openingGives desk (opening u window start)) 21 (now (page .entry)) at r (now (page .exit)) ⌝ }
 {
     let opened = receiver::open_receiver(u, window, start);
     let why = opened.why;
-    let p = answer::number(page, at, receiver::number(why));
+    let p = answer::number(page, at, receiver::number(why) as u64);
     let receiver = opened.receiver;
     with_receiver(desk, receiver, p)
 }
 
 fn hear(desk: Desk, piece: &[i32], out: &mut [u32], page: &mut [u8], at: usize) -> Done
     requires { ⌜ at + 92 + wordsRoom (length (now out)) ≤ length (now page) ⌝ }
-    ensures { λ r. ⌜ r .at ≤ at + 92 + wordsRoom (length (now (out .entry))) ⌝ }
+    ensures { λ r. ⌜ Does (ranGives desk (hearing (desk .receiver) (now (piece .entry)) (length (now (out .entry))))) (92 + wordsRoom (length (now (out .entry)))) (now (page .entry)) at r (now (page .exit)) ⌝ }
 {
     let old = desk.receiver;
     let heard = receiver::hear(old, piece, out);
     let why = heard.why;
-    let p = answer::heard(page, at, heard.taken, heard.written, why, out);
+    let n = heard.written;
+    let p = answer::heard(page, at, heard.taken, why, &out[..n]);
     let receiver = heard.receiver;
     with_receiver(desk, receiver, p)
 }
 
 fn finish(desk: Desk, out: &mut [u32], page: &mut [u8], at: usize) -> Done
     requires { ⌜ at + 92 + wordsRoom (length (now out)) ≤ length (now page) ⌝ }
-    ensures { λ r. ⌜ r .at ≤ at + 92 + wordsRoom (length (now (out .entry))) ⌝ }
+    ensures { λ r. ⌜ Does (ranGives desk (finishing (desk .receiver) (length (now (out .entry))))) (92 + wordsRoom (length (now (out .entry)))) (now (page .entry)) at r (now (page .exit)) ⌝ }
 {
     let old = desk.receiver;
     let heard = receiver::finish(old, out);
     let why = heard.why;
-    let p = answer::heard(page, at, heard.taken, heard.written, why, out);
+    let n = heard.written;
+    let p = answer::heard(page, at, heard.taken, why, &out[..n]);
     let receiver = heard.receiver;
     with_receiver(desk, receiver, p)
 }
@@ -133,7 +143,7 @@ fn float_of(bits: u32) -> f32
 
 fn sample(x: u32, y: u32, page: &mut [u8], at: usize) -> usize
     requires { ⌜ at + 44 ≤ length (now page) ⌝ }
-    ensures { λ r. ⌜ r ≤ at + 44 ⌝ }
+    ensures { λ r. ⌜ Puts (now (page .entry)) at (sampleLine (bothOrFault (heardBits x) (heardBits y))) r (now (page .exit)) ⌝ }
 {
     let heard = samples::hear_sample(Sample {
         x: float_of(x),
@@ -147,11 +157,11 @@ fn sample(x: u32, y: u32, page: &mut [u8], at: usize) -> usize
 
 fn pending(desk: Desk, page: &mut [u8], at: usize) -> usize
     requires { ⌜ at + 21 ≤ length (now page) ⌝ }
-    ensures { λ r. ⌜ r ≤ at + 21 ⌝ }
+    ensures { λ r. ⌜ Puts (now (page .entry)) at (numberLine (pendingOf (desk .receiver))) r (now (page .exit)) ⌝ }
 {
     let receiver = desk.receiver;
     let n = receiver::pending(receiver);
-    answer::count(page, at, n)
+    answer::number(page, at, n as u64)
 }
 
 pub fn act(
@@ -163,7 +173,7 @@ pub fn act(
     words: &mut [u32],
 ) -> Done
     requires { ⌜ Ready asked (now page) at (now coordinates) (now words) ⌝ }
-    ensures { λ r. ⌜ Acts desk asked (now (page .entry)) at r (now (page .exit)) ⌝ }
+    ensures { λ r. ⌜ Acts desk asked (now (coordinates .entry)) (now (page .entry)) at r (now (page .exit)) ⌝ }
 {
     match asked {
         Request::Nothing => Done { desk, at },

@@ -1,20 +1,27 @@
--- `answer::words`: each word takes 21 bytes at most.
+-- `answer::words`: word after word, each takes 21 bytes at most.
 use Prim.Native.Nat.{_+_, _-_, _*_, _≤_}
+use mathlib.Core.Path.{_≡_, refl, ap}
+use mathlib.Core.List.{map}
 use mathlib.Core.Path.{_≡_}
 use native.Mathlib.Omega.{arith}
+use lib.ListN.{length, take}
 use lib.ListN.{length}
+use Rattle.text.specs.Page.{Puts}
+use Rattle.text.proofs.Pages.{joined}
+use Rattle.lab.specs.Answer.{decimal, afterSpaces}
+use Rattle.lab.proofs.Answers.{says-number, nothing-put, puts-as, one-word, all-words}
 use borrow.Author.Needs.{needs}
 use Rattle.lab.proofs.answer.words.Statement.{statement}
 use Rattle.lab.proofs.answer.words.Tie as tie
 
 abbrev Inv-loop : tie.InvT-loop
-Inv-loop page₀ at words p₀ i₀ page p i = (i ≤ length words) × (p ≤ at + i * 21) × (length page ≡ length page₀)
+Inv-loop page₀ at words p₀ i₀ page p i = (i ≤ length words) × (p ≤ at + i * 21) × (length page ≡ length page₀) × Puts page₀ at (afterSpaces (map decimal (take i words))) p page
 
 abbrev μ-loop : tie.MeasureT-loop
 μ-loop page₀ at words p₀ i₀ page p i = length words - i
 
 loop-holds : tie.Need-loop-holds Inv-loop μ-loop
-loop-holds c = search needs
+loop-holds c = (omega arith, omega arith, refl, nothing-put _ _)
 
 put-byte-requires : tie.Need-put-byte-requires Inv-loop μ-loop
 put-byte-requires c κs = search needs
@@ -38,13 +45,19 @@ loop-less : tie.Need-loop-less Inv-loop μ-loop
 loop-less c = search needs
 
 loop-again : tie.Need-loop-again Inv-loop μ-loop
-loop-again c = search needs
+loop-again c = (
+  omega arith,
+  omega arith,
+  search needs,
+  puts-as (one-word _ _ (c .before .before .before .before .before .before .before .before .before .before .loop-test .taken))
+      (joined (omega arith) (joined (omega arith) (c .before .before .before .before .before .before .before .before .before .before .before .loop .inv .3) (c .before .before .before .before .before .before .before .before .put-byte .ensures)) (puts-as (ap decimal (c .before .before .before .wide .ensures)) (says-number (c .before .before .put-number .ensures)))),
+)
 
 same-length : tie.Need-same-length Inv-loop μ-loop
 same-length c = search needs
 
 returns : tie.Need-returns Inv-loop μ-loop
-returns c = search needs
+returns c = puts-as (all-words _ _ (c .loop-test .left)) (c .before .loop .inv .3)
 
 pub words-spec : {M : Type 1} → statement M
 words-spec =

@@ -1,8 +1,14 @@
 -- `desk::act`: by the kind of the request.
 use mathlib.Core.Path.{refl, sym}
+use mathlib.Core.List.{[]}
 use native.Mathlib.Omega.{arith}
+use lib.ListN.{take}
 use lib.Seq.{length-take-le}
-use Rattle.lab.proofs.Desks.{says-nothing, is-unread, stays, changes, sizes-of, short}
+use Rattle.protocol.specs.declared.Request.the-variants as request
+use Rattle.receiver.specs.Doors.{hearing, finishing}
+use Rattle.lab.specs.Desk.{ranGives, acting}
+use Rattle.lab.proofs.Answers.{nothing-put, number-near, sample-near}
+use Rattle.lab.proofs.Desks.{does, acts, at-cap, sizes-of, short}
 use borrow.Author.Needs.{needs}
 use Rattle.lab.proofs.desk.act.Statement.{statement}
 use Rattle.lab.proofs.desk.act.Tie as tie
@@ -104,19 +110,29 @@ pending-requires : tie.Need-pending-requires
 pending-requires c κs = search needs
 
 returns : tie.Need-returns
-returns c = says-nothing (c .enum-told .given .1) refl refl
+unfolding acting
+returns c =
+    let start = c .before .before .before .before .args in
+    acts (start .desk) (start .coordinates .now) (c .enum-told .given .1) (omega arith) (does {most = 0} refl refl refl (omega arith) (nothing-put _ _))
 
 same-length : tie.Need-same-length
 same-length c = search needs
 
 returns-2 : tie.Need-returns-2
-returns-2 c = is-unread (c .before .before .before .before .enum-told2 .given .1) refl (c .before .before .unread .ensures)
+unfolding acting
+returns-2 c =
+    let start = c .before .before .before .before .before .before .before .before .args in
+    let put = c .before .before .unread .ensures in
+    acts (start .desk) (start .coordinates .now) (c .before .before .before .before .enum-told2 .given .1) (omega arith) (does {most = 2} refl refl refl (omega (arith, put .next)) put)
 
 same-length-2 : tie.Need-same-length-2
 same-length-2 c = search needs
 
 returns-3 : tie.Need-returns-3
-returns-3 c = changes (c .before .before .before .before .before .asked .given .1) refl (omega (arith, c .before .before .open-sender .ensures)) refl
+unfolding acting
+returns-3 c =
+    let start = c .before .before .before .before .before .before .before .before .before .args in
+    acts (start .desk) (start .coordinates .now) (c .before .before .before .before .before .asked .given .1) (omega arith) (c .before .before .open-sender .ensures)
 
 same-length-3 : tie.Need-same-length-3
 same-length-3 c = search needs
@@ -125,25 +141,39 @@ same-length-4 : tie.Need-same-length-4
 same-length-4 c = search needs
 
 returns-4 : tie.Need-returns-4
-returns-4 c = changes (c .before .before .before .before .before .before .before .asked2 .given .1) refl (omega (arith, c .before .before .before .send .ensures)) refl
+unfolding acting
+returns-4 c =
+    let start = c .before .before .before .before .before .before .before .before .before .before .before .args in
+    let asked = c .before .before .before .before .before .before .before .asked2 .given in
+    let fits = length-take-le (asked .0 .1 .0) (start .coordinates .now) (omega (arith, sizes-of _ (asked .1) (c .before .before .before .before .before .before .before .before .before .before .before .pre .fit), c .before .before .before .before .before .before .before .before .before .before .before .pre .coordinates-long)) in
+    acts (start .desk) (start .coordinates .now) (asked .1) (omega arith) (at-cap (λ n. acting (start .desk) (request.Send (asked .0 .0) n) []) fits (c .before .before .before .send .ensures))
 
 same-length-5 : tie.Need-same-length-5
 same-length-5 c = search needs
 
 returns-5 : tie.Need-returns-5
-returns-5 c = changes (c .before .before .before .before .before .asked3 .given .1) refl (omega (arith, c .before .before .open-plain .ensures)) refl
+unfolding acting
+returns-5 c =
+    let start = c .before .before .before .before .before .before .before .before .before .args in
+    acts (start .desk) (start .coordinates .now) (c .before .before .before .before .before .asked3 .given .1) (omega arith) (c .before .before .open-plain .ensures)
 
 same-length-6 : tie.Need-same-length-6
 same-length-6 c = search needs
 
 returns-6 : tie.Need-returns-6
-returns-6 c = changes (c .before .before .before .before .before .asked4 .given .1) refl (omega (arith, c .before .before .open-receiver .ensures)) refl
+unfolding acting
+returns-6 c =
+    let start = c .before .before .before .before .before .before .before .before .before .args in
+    acts (start .desk) (start .coordinates .now) (c .before .before .before .before .before .asked4 .given .1) (omega arith) (c .before .before .open-receiver .ensures)
 
 same-length-7 : tie.Need-same-length-7
 same-length-7 c = search needs
 
 returns-7 : tie.Need-returns-7
-returns-7 c = changes (c .before .before .before .before .before .asked5 .given .1) refl (omega (arith, c .before .before .open-receiver2 .ensures)) refl
+unfolding acting
+returns-7 c =
+    let start = c .before .before .before .before .before .before .before .before .before .args in
+    acts (start .desk) (start .coordinates .now) (c .before .before .before .before .before .asked5 .given .1) (omega arith) (c .before .before .open-receiver2 .ensures)
 
 same-length-8 : tie.Need-same-length-8
 same-length-8 c = search needs
@@ -155,7 +185,14 @@ same-length-10 : tie.Need-same-length-10
 same-length-10 c = search needs
 
 returns-8 : tie.Need-returns-8
-returns-8 c = changes (c .before .before .before .before .before .before .before .before .before .asked6 .given .1) refl (omega (arith, short _ (c .before .before .before .before .before .before .before .before .before .before .before .before .before .args .words .now) ((sizes-of _ (c .before .before .before .before .before .before .before .before .before .asked6 .given .1) (c .before .before .before .before .before .before .before .before .before .before .before .before .before .pre .fit)) .0), c .before .before .before .before .hear .ensures)) refl
+unfolding acting
+returns-8 c =
+    let start = c .before .before .before .before .before .before .before .before .before .before .before .before .before .args in
+    let asked = c .before .before .before .before .before .before .before .before .before .asked6 .given in
+    let sizes = sizes-of _ (asked .1) (c .before .before .before .before .before .before .before .before .before .before .before .before .before .pre .fit) in
+    let fits = length-take-le (asked .0 .0) (start .words .now) (omega (arith, sizes .0, c .before .before .before .before .before .before .before .before .before .before .before .before .before .pre .words-long)) in
+    acts (start .desk) (start .coordinates .now) (asked .1) (omega (arith, short (asked .0 .0) (start .words .now) (sizes .0)))
+    (at-cap (λ n. ranGives (start .desk) (hearing (start .desk .receiver) (take (asked .0 .1 .0) (start .coordinates .now)) n)) fits (c .before .before .before .before .hear .ensures))
 
 same-length-11 : tie.Need-same-length-11
 same-length-11 c = search needs
@@ -164,19 +201,34 @@ same-length-12 : tie.Need-same-length-12
 same-length-12 c = search needs
 
 returns-9 : tie.Need-returns-9
-returns-9 c = changes (c .before .before .before .before .before .before .before .before .asked7 .given .1) refl (omega (arith, short _ (c .before .before .before .before .before .before .before .before .before .before .before .before .args .words .now) (sizes-of _ (c .before .before .before .before .before .before .before .before .asked7 .given .1) (c .before .before .before .before .before .before .before .before .before .before .before .before .pre .fit)), c .before .before .before .before .finish .ensures)) refl
+unfolding acting
+returns-9 c =
+    let start = c .before .before .before .before .before .before .before .before .before .before .before .before .args in
+    let asked = c .before .before .before .before .before .before .before .before .asked7 .given in
+    let sizes = sizes-of _ (asked .1) (c .before .before .before .before .before .before .before .before .before .before .before .before .pre .fit) in
+    let fits = length-take-le (asked .0 .0) (start .words .now) (omega (arith, sizes, c .before .before .before .before .before .before .before .before .before .before .before .before .pre .words-long)) in
+    acts (start .desk) (start .coordinates .now) (asked .1) (omega (arith, short (asked .0 .0) (start .words .now) sizes))
+    (at-cap (λ n. ranGives (start .desk) (finishing (start .desk .receiver) n)) fits (c .before .before .before .before .finish .ensures))
 
 same-length-13 : tie.Need-same-length-13
 same-length-13 c = search needs
 
 returns-10 : tie.Need-returns-10
-returns-10 c = stays (c .before .before .before .before .before .asked8 .given .1) refl (omega (arith, c .before .before .sample .ensures)) refl
+unfolding acting
+returns-10 c =
+    let start = c .before .before .before .before .before .before .before .before .before .args in
+    let put = c .before .before .sample .ensures in
+    acts (start .desk) (start .coordinates .now) (c .before .before .before .before .before .asked8 .given .1) (omega arith) (does {most = 44} refl refl refl (sample-near _ put) put)
 
 same-length-14 : tie.Need-same-length-14
 same-length-14 c = search needs
 
 returns-11 : tie.Need-returns-11
-returns-11 c = stays (c .before .before .before .before .enum-told3 .given .1) refl (omega (arith, c .before .before .pending .ensures)) refl
+unfolding acting
+returns-11 c =
+    let start = c .before .before .before .before .before .before .before .before .args in
+    let put = c .before .before .pending .ensures in
+    acts (start .desk) (start .coordinates .now) (c .before .before .before .before .enum-told3 .given .1) (omega arith) (does {most = 21} refl refl refl (number-near _ put) put)
 
 pub act-spec : {M : Type 1} → statement M
 act-spec =

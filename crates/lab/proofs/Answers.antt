@@ -1,0 +1,216 @@
+-- Laws of the answers: the numbers that `text` puts are the decimal ones, how long each part of a line is at most, and how the words grow.
+use Prim.Native.Nat.{ℕ, zero, suc, _+_, _-_, _*_, _/_, _%_, _^_, _≤_, _<_}
+use mathlib.Core.Path.{_≡_, refl, sym, ap, subst, _∙_}
+use mathlib.Core.Bool.{Bool, true, false, cond}
+use mathlib.Core.List.{List, [], _∷_, _++_, map, map-append, append-assoc, append-nil}
+use mathlib.Core.Option.{Option, none, some}
+use native.Mathlib.Omega.{arith}
+use native.Mathlib.Nat.{pow-succ', one-le-pow}
+use native.Mathlib.Numerals.{add-one}
+use borrow.Author.Tests.{lt-ltb, le-ltb, eq-eqb, ne-eqb, le-leb, lt-leb}
+use mir.Syntax.{w32}
+use mir.Val.{SFits, toZ, ofZ}
+use mir.ValLaws.{toZ-ofZ}
+use lib.Dec.{eqb, leb, ltb}
+use lib.IntN.{ℤ, natAbs, pos, negsuc}
+use lib.ListN.{length, take, drop, getD, length-append, length-take, take-append-drop}
+use lib.Seq.{take-suc, take-all}
+use Rattle.io.specs.Digits.{glyph, digits, Fewest}
+use Rattle.text.specs.Bytes.{bytes}
+use Rattle.text.specs.Page.{Puts, Numeral, PutsNumber, PutsWhole, signText}
+use Rattle.text.proofs.Pages.{few, joined}
+use Rattle.samples.specs.Given.{GivenSample}
+use Rattle.walk.specs.Told.{Reason}
+use Rattle.lab.specs.Answer.{decimalIn, decimal, whole, afterSpaces, numberLine, sentLine, placeText, reasonText, saidText, heardLine, pairLine, lineBy, sampleLine}
+
+-- ---- numbers
+
+digit : (n : ℕ) → glyph (n % 10) ≡ 48 + n % 10
+digit n = rw (lt-ltb (n % 10) 10 (omega arith))
+
+less-one : (j : ℕ) → suc j - 1 ≡ j
+less-one j = omega arith
+
+-- digits that are as few as hold n are the decimal ones
+fewest-digits : (k j n : ℕ) → j ≤ k → Fewest 10 1 n j → digits 10 j n ≡ decimalIn k n
+fewest-digits k zero n h f = absurd (omega (arith, f .0))
+fewest-digits zero (suc j) n h f = absurd (omega arith)
+fewest-digits (suc k) (suc zero) n h f = rw (digit n, lt-ltb n 10 (omega (arith, f .1)))
+fewest-digits (suc k) (suc (suc j)) n h f =
+    let low : 10 ^ suc j ≤ n = rw (less-one (suc j)) at (f .2 (omega arith)) in
+    let large : 10 ≤ n = omega (arith, pow-succ' 10 j, one-le-pow j 10 (omega arith)) in
+    let below : n / 10 < 10 ^ suc j = omega (arith, f .1, pow-succ' 10 (suc j)) in
+    let above : 10 ^ j ≤ n / 10 = omega (arith, pow-succ' 10 j) in
+    rw (digit n, le-ltb n 10 large, fewest-digits k (suc j) (n / 10) (omega arith) (omega arith, below, λ _. rw (less-one j) above))
+
+numeral-decimal : {n : ℕ} {t : List ℕ} → Numeral n t → length t ≤ 20 → t ≡ decimal n
+unfolding decimal
+numeral-decimal {n} {t} a h = a .spelt ∙ fewest-digits 20 (length t) n h (a .fewest)
+
+small : (x : ℤ) → SFits w32 x → natAbs x < 2 ^ 64
+small (pos n) f = omega (arith, f .sfits)
+small (negsuc n) f = omega (arith, f .sfits)
+
+module _ {page : List ℕ} {at : ℕ} {r : ℕ} {page' : List ℕ} where
+  pub says-number : {n : ℕ} → PutsNumber page at n r page' → Puts page at (decimal n) r page'
+  says-number p =
+      subst (λ (t : List ℕ). Puts page at t r page') (numeral-decimal (p .numeral) (omega (arith, p .near, p .puts .next))) (p .puts)
+
+  -- x as the machine hands it on
+  pub says-whole : (x : ℤ) → SFits w32 x → PutsWhole page at (toZ w32 (ofZ w32 x)) r page' → Puts page at (whole x) r page'
+  unfolding whole
+  says-whole x f q =
+      let p : PutsWhole page at x r page' = rw (toZ-ofZ w32 x f) at q in
+      subst (λ (t : List ℕ). Puts page at (signText x ++ t) r page') (numeral-decimal (p .numeral) (few (small x f) (p .numeral .fewest))) (p .puts)
+
+  pub says-next : (x : ℤ) → SFits w32 x → Puts page at (bytes " " ++ whole (toZ w32 (ofZ w32 x))) r page' → Puts page at (bytes " " ++ whole x) r page'
+  says-next x f p = rw (toZ-ofZ w32 x f) at p
+
+pub pair-back : (x y : ℤ) → SFits w32 x → SFits w32 y → pairLine (toZ w32 (ofZ w32 x)) (toZ w32 (ofZ w32 y)) ≡ pairLine x y
+pair-back x y f g = rw (toZ-ofZ w32 x f, toZ-ofZ w32 y g)
+
+-- ---- lengths
+
+short : (k n : ℕ) → length (decimalIn k n) ≤ k
+short zero n = omega arith
+short (suc k) n = rw length-append (by (ltb n 10) (short k (n / 10))) where
+  by : (b : Bool) → length (decimalIn k (n / 10)) ≤ k → length (cond b [] (decimalIn k (n / 10))) + 1 ≤ suc k
+  by true h = omega arith
+  by false h = omega arith
+
+pub decimal-short : (n : ℕ) → length (decimal n) ≤ 20
+unfolding decimal
+decimal-short n = short 20 n
+
+whole-short : (x : ℤ) → length (whole x) ≤ 21
+unfolding whole
+whole-short (pos n) = omega (arith, decimal-short n)
+whole-short (negsuc n) = omega (arith, decimal-short (suc n))
+
+reason-short : (r : Reason) → length (reasonText r) ≤ 47
+unfolding reasonText
+reason-short r = rw length-append (by (eqb (r .number) 5)) where
+  by : (b : Bool) → length (decimal (r .number)) + length (cond b (placeText (r .place)) []) ≤ 47
+  by true = omega (arith, decimal-short (r .number), decimal-short (r .place))
+  by false = omega (arith, decimal-short (r .number))
+
+words-short : (ws : List ℕ) → length (afterSpaces (map decimal ws)) ≤ length ws * 21
+words-short [] = omega arith
+words-short (w ∷ ws) = rw length-append (omega (arith, words-short ws, decimal-short w))
+
+said-short : (ws : List ℕ) → length (saidText ws) ≤ 2 + length ws * 21
+unfolding saidText
+said-short [] = omega arith
+said-short (w ∷ ws) = omega (arith, words-short (w ∷ ws))
+
+wholes-short : (zs : List ℤ) → length (afterSpaces (map whole zs)) ≤ length zs * 22
+wholes-short [] = omega arith
+wholes-short (z ∷ zs) = rw length-append (omega (arith, wholes-short zs, whole-short z))
+
+sent-short : (n : ℕ) (out : List ℤ) → length (sentLine n out) ≤ 109
+unfolding sentLine
+sent-short n out = simp length-append (by (eqb n 0) (leb 4 (length out))) where
+  by : (a b : Bool) → length (decimal n) + length (cond a (afterSpaces (map whole (cond b (take 4 out) []))) []) + 1 ≤ 109
+  by true true = omega (arith, decimal-short n, wholes-short (take 4 out), length-take 4 out)
+  by true false = omega (arith, decimal-short n)
+  by false b = omega (arith, decimal-short n)
+
+heard-short : (n : ℕ) (g : Reason) (ws : List ℕ) → length (heardLine n g ws) ≤ 92 + length ws * 21
+unfolding heardLine
+heard-short n g ws = simp length-append (omega (arith, decimal-short n, decimal-short (length ws), reason-short g, said-short ws))
+
+sample-short : (g : GivenSample) → length (sampleLine g) ≤ 44
+unfolding sampleLine
+sample-short g = by (g .place) where
+  by : (o : Option ℕ) → length (lineBy o (g .x) (g .y)) ≤ 44
+  by none = simp length-append (omega (arith, whole-short (g .x), whole-short (g .y)))
+  by (some p) = simp length-append (omega (arith, decimal-short p))
+
+-- the place after each part
+module _ {page : List ℕ} {at : ℕ} {r : ℕ} {page' : List ℕ} where
+  pub number-near : (n : ℕ) → Puts page at (numberLine n) r page' → r ≤ at + 21
+  number-near n p = omega (arith, p .next, length-append (decimal n) (bytes "\n"), decimal-short n)
+
+  pub next-near : (x : ℤ) → Puts page at (bytes " " ++ whole x) r page' → r ≤ at + 22
+  next-near x p = omega (arith, p .next, whole-short x)
+
+  pub counts-near : (m n : ℕ) → Puts page at (decimal m ++ bytes " " ++ decimal n ++ bytes " ") r page' → r ≤ at + 42
+  counts-near m n p = omega (arith, simp length-append at (p .next), decimal-short m, decimal-short n)
+
+  pub reason-near : (g : Reason) → Puts page at (reasonText g) r page' → r ≤ at + 47
+  reason-near g p = omega (arith, p .next, reason-short g)
+
+  pub said-near : (ws : List ℕ) → Puts page at (saidText ws) r page' → r ≤ at + 2 + length ws * 21
+  said-near ws p = omega (arith, p .next, said-short ws)
+
+  pub sent-near : (n : ℕ) (out : List ℤ) → Puts page at (sentLine n out) r page' → r ≤ at + 109
+  sent-near n out p = omega (arith, p .next, sent-short n out)
+
+  pub heard-near : (n : ℕ) (g : Reason) (ws : List ℕ) → Puts page at (heardLine n g ws) r page' → r ≤ at + (92 + length ws * 21)
+  heard-near n g ws p = omega (arith, p .next, heard-short n g ws)
+
+  pub sample-near : (g : GivenSample) → Puts page at (sampleLine g) r page' → r ≤ at + 44
+  sample-near g p = omega (arith, p .next, sample-short g)
+
+-- ---- parts of a line
+
+pub nothing-put : (page : List ℕ) (at : ℕ) → Puts page at [] at page
+nothing-put page at = record { next = omega arith; said = sym (rw (append-nil (take at page)) (take-append-drop at page)) }
+
+spaces-snoc : (ts : List (List ℕ)) (t : List ℕ) → afterSpaces (ts ++ t ∷ []) ≡ afterSpaces ts ++ (32 ∷ []) ++ t
+spaces-snoc [] t = append-nil (32 ∷ t)
+spaces-snoc (s ∷ ts) t = rw (spaces-snoc ts t) (simp append-assoc)
+
+pub puts-as : {page : List ℕ} {at : ℕ} {s t : List ℕ} {r : ℕ} {page' : List ℕ} → s ≡ t → Puts page at s r page' → Puts page at t r page'
+puts-as {page} {at} {s} {t} {r} {page'} e p = subst (λ (x : List ℕ). Puts page at x r page') e p
+
+-- a word more
+pub one-word : (ws : List ℕ) (i : ℕ) → i < length ws → afterSpaces (map decimal (take i ws)) ++ bytes " " ++ decimal (getD ws i 0) ≡ afterSpaces (map decimal (take (i + 1) ws))
+one-word ws i h = sym (rw (add-one, take-suc ws i 0 h, map-append decimal (take i ws), spaces-snoc))
+
+pub all-words : (ws : List ℕ) (i : ℕ) → length ws ≤ i → afterSpaces (map decimal (take i ws)) ≡ afterSpaces (map decimal ws)
+all-words ws i h = rw (take-all i ws h)
+
+pub some-said : (ws : List ℕ) → (length ws ≡ 0 → ⊥) → bytes " :" ++ afterSpaces (map decimal ws) ≡ saidText ws
+unfolding saidText
+some-said [] h = absurd (h refl)
+some-said (w ∷ ws) h = refl
+
+pub none-said : (ws : List ℕ) → length ws ≡ 0 → [] ≡ saidText ws
+unfolding saidText
+none-said [] h = refl
+none-said (w ∷ ws) h = absurd (omega arith)
+
+-- n is the number of a reason
+module _ (g : Reason) (n : ℕ) (is : n ≡ g .number) where
+  pub no-place : (n ≡ 5 → ⊥) → decimal n ≡ reasonText g
+  unfolding reasonText
+  no-place h = sym (rw (← is, ne-eqb n 5 h) (append-nil (decimal n)))
+
+  pub with-place : (p : ℕ) → n ≡ 5 → p ≡ g .place → decimal n ++ placeText p ≡ reasonText g
+  unfolding reasonText
+  with-place p h e = sym (rw (← is, ← e, eq-eqb n 5 h))
+
+module _ (n : ℕ) (out : List ℤ) where
+  pub not-sent : (n ≡ 0 → ⊥) → numberLine n ≡ sentLine n out
+  unfolding sentLine
+  not-sent h = sym (rw (ne-eqb n 0 h) (ap (λ (t : List ℕ). t ++ bytes "\n") (append-nil (decimal n))))
+
+  pub few-sent : n ≡ 0 → length out < 4 → numberLine n ≡ sentLine n out
+  unfolding sentLine
+  few-sent e h = sym (rw (eq-eqb n 0 e, lt-leb 4 (length out) h) (ap (λ (t : List ℕ). t ++ bytes "\n") (append-nil (decimal n))))
+
+four-of : (out : List ℤ) → 4 ≤ length out → take 4 out ≡ getD out 0 (pos 0) ∷ getD out 1 (pos 0) ∷ getD out 2 (pos 0) ∷ getD out 3 (pos 0) ∷ []
+four-of [] h = absurd (omega arith)
+four-of (a ∷ []) h = absurd (omega arith)
+four-of (a ∷ b ∷ []) h = absurd (omega arith)
+four-of (a ∷ b ∷ c ∷ []) h = absurd (omega arith)
+four-of (a ∷ b ∷ c ∷ d ∷ out) h = refl
+
+regroup : (s n a b c d e : List ℕ) → n ++ (s ++ a ++ (s ++ b ++ (s ++ c ++ (s ++ d ++ [])))) ++ e ≡ n ++ (s ++ a) ++ (s ++ b) ++ (s ++ c) ++ (s ++ d) ++ e
+regroup s n a b c d e = simp (append-assoc, append-nil)
+
+pub all-sent : (n : ℕ) (out : List ℤ) → n ≡ 0 → 4 ≤ length out
+    → decimal n ++ (bytes " " ++ whole (getD out 0 (pos 0))) ++ (bytes " " ++ whole (getD out 1 (pos 0))) ++ (bytes " " ++ whole (getD out 2 (pos 0))) ++ (bytes " " ++ whole (getD out 3 (pos 0))) ++ bytes "\n" ≡ sentLine n out
+unfolding sentLine
+all-sent n out e h = sym (rw (eq-eqb n 0 e, le-leb 4 (length out) h, four-of out h) (regroup (bytes " ") (decimal n) _ _ _ _ (bytes "\n")))

@@ -1,0 +1,22 @@
+-- `answer::number`: the number, and the end of the line.
+use native.Mathlib.Omega.{arith}
+use Rattle.text.proofs.Pages.{joined}
+use Rattle.lab.proofs.Answers.{says-number}
+use borrow.Author.Needs.{needs}
+use Rattle.lab.proofs.answer.number.Statement.{statement}
+use Rattle.lab.proofs.answer.number.Tie as tie
+
+put-number-requires : tie.Need-put-number-requires
+put-number-requires c κs = search needs
+
+end-requires : tie.Need-end-requires
+end-requires c κs = search needs
+
+same-length : tie.Need-same-length
+same-length c = search needs
+
+returns : tie.Need-returns
+returns c = joined (omega arith) (says-number (c .before .before .before .before .before .before .put-number .ensures)) (c .before .before .end .ensures)
+
+pub number-spec : {M : Type 1} → statement M
+number-spec = tie.close (tie.spec put-number-requires end-requires same-length returns)

@@ -2,3 +2,4 @@ pub mod Answers
 pub mod Desks
 pub mod Floats
 pub mod Gathering
+pub mod Named

@@ -25,7 +25,7 @@ same-length-3 : tie.Need-same-length-3
 same-length-3 c = search needs
 
 returns-2 : tie.Need-returns-2
-returns-2 c = (omega (arith, c .flush .ensures .2), omega (arith, ap (λ (p : Part). p .held) (c .flush .ensures .1), c .before .before .before .before .before .before .before .reply .ensures .1))
+returns-2 c = (omega (arith, c .flush .ensures .2), omega (arith, ap (λ (p : Part). p .held) (c .flush .ensures .1), c .before .before .before .before .before .before .before .reply .ensures .0 .1))
 
 pub hear-end-spec : {M : Type 1} → statement M
 hear-end-spec =

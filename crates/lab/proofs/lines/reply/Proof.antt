@@ -1,7 +1,8 @@
--- `lines::reply`: the line is within its buffer, and there is room for any answer.
-use mathlib.Core.Path.{sym}
+-- `lines::reply`: the line is within its buffer, there is room for any answer, and the answer is that of the line.
+use mathlib.Core.Path.{refl, sym}
 use lib.Seq.{length-take-le}
 use Rattle.lab.proofs.Desks.{ready}
+use Rattle.lab.proofs.Named.{long-answered, line-answered, replied}
 use borrow.Author.Needs.{needs}
 use Rattle.lab.proofs.lines.reply.Statement.{statement}
 use Rattle.lab.proofs.lines.reply.Tie as tie
@@ -16,7 +17,7 @@ same-length : tie.Need-same-length
 same-length c = search needs
 
 returns : tie.Need-returns
-returns c = search needs
+returns c = (search needs, λ s g. replied refl (c .before .before .unread .ensures) (long-answered g (c .before .before .before .before .before .before .before .before .before .before .before .args .lab .desk) (c .before .before .before .before .before .if1 .taken)) (c .before .before .before .before .fresh .ensures .1))
 
 slice-aggregate-read : tie.Need-slice-aggregate-read
 slice-aggregate-read c = sym (length-take-le _ _ (c .before .before .before .before .before .before .before .pre .1 .1))
@@ -40,7 +41,10 @@ same-length-4 : tie.Need-same-length-4
 same-length-4 c = search needs
 
 returns-2 : tie.Need-returns-2
-returns-2 c = search needs
+returns-2 c = (
+  search needs,
+  λ s g. replied (c .before .before .before .before .before .before .before .act .ensures .desk) (c .before .before .before .before .before .before .before .act .ensures .puts) (line-answered g (c .before .before .before .before .before .before .before .before .before .before .before .before .before .before .before .before .before .before .before .before .before .args .lab .desk) (c .before .before .before .before .before .before .before .before .before .before .before .before .before .before .before .if1 .left) (c .before .before .before .before .before .before .before .before .before .before .before .before .before .before .before .before .before .before .before .before .before .pre .0 .coordinates-long) (c .before .before .before .before .before .before .before .before .before .before .before .before .read .ensures)) (c .fresh2 .ensures .1),
+)
 
 pub reply-spec : {M : Type 1} → statement M
 reply-spec =

@@ -3,3 +3,4 @@ pub mod Desks
 pub mod Floats
 pub mod Gathering
 pub mod Named
+pub mod Settled

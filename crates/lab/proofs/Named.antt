@@ -28,7 +28,7 @@ use Rattle.lab.specs.declared.lines.Lab.{Lab}
 use Rattle.lab.specs.declared.lines.Part.{Part}
 use Rattle.lab.specs.Answer.{unreadLine}
 use Rattle.lab.specs.Desk.{Result, says, acting}
-use Rattle.lab.specs.Line.{Gathered, named, answering, Replies}
+use Rattle.lab.specs.Line.{Gathered, noPart, named, answering, Replies}
 use Rattle.lab.proofs.Answers.{puts-as}
 
 -- ---- coordinates
@@ -172,6 +172,6 @@ module _ {line : List ℕ} {part : Part} {s : List ℕ} (g : Gathered line part 
       ∙ ap (λ (l : List ℤ). acting d (requestOf (length list) (take (part .held) line)) l) (r .fills)
       ∙ rw (g .kept f, le-ltb (length line) (length s) few) (read-named d s list h)
 
-pub replied : {g g' : Result} {page : List ℕ} {at : ℕ} {r : Lab} {page' : List ℕ} → r .desk ≡ g .desk → Puts page at (g .text) (r .at) page' → g ≡ g'
-    → ((line : List ℕ) → Gathered line (r .part) []) → Replies g' page at r page'
-replied d p e f = record { desk = d ∙ ap (λ (x : Result). x .desk) e; puts = puts-as (ap (λ (x : Result). x .text) e) p; fresh = f }
+pub replied : {g g' : Result} {lab : Lab} {page : List ℕ} {r : Lab} {page' : List ℕ} → r .desk ≡ g .desk → Puts page (lab .at) (g .text) (r .at) page' → g ≡ g'
+    → r .part ≡ noPart → r .on ≡ lab .on → Replies g' lab page r page'
+replied d p e f o = record { desk = d ∙ ap (λ (x : Result). x .desk) e; puts = puts-as (ap (λ (x : Result). x .text) e) p; part = f; on = o }

@@ -12,7 +12,7 @@ ghost use mathlib.Core.Path.{_≡_};
 ghost use mathlib.Core.List.{List, [], _++_};
 ghost use Prim.Native.Nat.{ℕ, _+_, _≤_};
 ghost use lib.ListN.{length};
-ghost use Rattle.lab.specs.Line.{Gathered, answering, Replies};
+ghost use Rattle.lab.specs.Line.{Gathered, noPart, answering, Replies};
 ghost use Rattle.lab.specs.Room.{answerRoom, Lent};
 
 // The line so far: how many bytes of it are in the buffer, or that it is too long and is skipped.
@@ -52,7 +52,7 @@ fn gather(part: Part, line: &mut [u8], bytes: &[u8]) -> Part
 }
 
 fn fresh() -> Part
-    ensures { λ r. ⌜ (r .held ≡ 0) × ((line : List ℕ) → Gathered line r []) ⌝ }
+    ensures { λ r. ⌜ (r .held ≡ 0) × (r ≡ noPart) ⌝ }
 {
     Part {
         held: 0,
@@ -85,7 +85,7 @@ fn reply(lab: Lab, line: &[u8], page: &mut [u8], coordinates: &mut [i32], words:
     requires { ⌜ Lent (now page) (now coordinates) (now words) ⌝ }
     requires { ⌜ (lab .at ≤ 32768) × (lab .part .held ≤ length (now line)) ⌝ }
     ensures { λ r. ⌜ (r .at ≤ lab .at + answerRoom) × (r .part .held ≡ 0) ⌝ }
-    ensures { λ r. ⌜ ((s : List ℕ) → Gathered (now (line .entry)) (lab .part) s → Replies (answering (length (now (line .entry))) (lab .desk) s) (now (page .entry)) (lab .at) r (now (page .exit))) ⌝ }
+    ensures { λ r. ⌜ ((s : List ℕ) → Gathered (now (line .entry)) (lab .part) s → Replies (answering (length (now (line .entry))) (lab .desk) s) lab (now (page .entry)) r (now (page .exit))) ⌝ }
 {
     let at = lab.at;
     let desk = lab.desk;

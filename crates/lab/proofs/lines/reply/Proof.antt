@@ -17,7 +17,7 @@ same-length : tie.Need-same-length
 same-length c = search needs
 
 returns : tie.Need-returns
-returns c = (search needs, λ s g. replied refl (c .before .before .unread .ensures) (long-answered g (c .before .before .before .before .before .before .before .before .before .before .before .args .lab .desk) (c .before .before .before .before .before .if1 .taken)) (c .before .before .before .before .fresh .ensures .1))
+returns c = (search needs, λ s g. replied refl (c .before .before .unread .ensures) (long-answered g (c .before .before .before .before .before .before .before .before .before .before .before .args .lab .desk) (c .before .before .before .before .before .if1 .taken)) (c .before .before .before .before .fresh .ensures .1) refl)
 
 slice-aggregate-read : tie.Need-slice-aggregate-read
 slice-aggregate-read c = sym (length-take-le _ _ (c .before .before .before .before .before .before .before .pre .1 .1))
@@ -43,7 +43,7 @@ same-length-4 c = search needs
 returns-2 : tie.Need-returns-2
 returns-2 c = (
   search needs,
-  λ s g. replied (c .before .before .before .before .before .before .before .act .ensures .desk) (c .before .before .before .before .before .before .before .act .ensures .puts) (line-answered g (c .before .before .before .before .before .before .before .before .before .before .before .before .before .before .before .before .before .before .before .before .before .args .lab .desk) (c .before .before .before .before .before .before .before .before .before .before .before .before .before .before .before .if1 .left) (c .before .before .before .before .before .before .before .before .before .before .before .before .before .before .before .before .before .before .before .before .before .pre .0 .coordinates-long) (c .before .before .before .before .before .before .before .before .before .before .before .before .read .ensures)) (c .fresh2 .ensures .1),
+  λ s g. replied (c .before .before .before .before .before .before .before .act .ensures .desk) (c .before .before .before .before .before .before .before .act .ensures .puts) (line-answered g (c .before .before .before .before .before .before .before .before .before .before .before .before .before .before .before .before .before .before .before .before .before .args .lab .desk) (c .before .before .before .before .before .before .before .before .before .before .before .before .before .before .before .if1 .left) (c .before .before .before .before .before .before .before .before .before .before .before .before .before .before .before .before .before .before .before .before .before .pre .0 .coordinates-long) (c .before .before .before .before .before .before .before .before .before .before .before .before .read .ensures)) (c .fresh2 .ensures .1) refl,
 )
 
 pub reply-spec : {M : Type 1} → statement M

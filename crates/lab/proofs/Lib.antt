@@ -4,3 +4,4 @@ pub mod Floats
 pub mod Gathering
 pub mod Named
 pub mod Settled
+pub mod Streams

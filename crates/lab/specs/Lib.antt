@@ -2,3 +2,4 @@ pub mod Answer
 pub mod Desk
 pub mod Room
 pub mod Line
+pub mod Stream

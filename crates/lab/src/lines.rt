@@ -14,6 +14,7 @@ ghost use Prim.Native.Nat.{ℕ, _+_, _≤_};
 ghost use lib.ListN.{length};
 ghost use Rattle.lab.specs.Line.{Gathered, noPart, answering, Replies};
 ghost use Rattle.lab.specs.Room.{answerRoom, Lent};
+ghost use Rattle.lab.specs.Stream.{Course, ended, streaming, Stands};
 
 // The line so far: how many bytes of it are in the buffer, or that it is too long and is skipped.
 pub struct Part {
@@ -121,6 +122,7 @@ fn reply_and_flush(
     requires { ⌜ Lent (now page) (now coordinates) (now words) ⌝ }
     requires { ⌜ (lab .at ≤ 32768) × (lab .part .held ≤ length (now line)) ⌝ }
     ensures { λ r. ⌜ (r .at ≤ 32768) × (r .part .held ≡ 0) ⌝ }
+    ensures { λ r. ⌜ ((c : Course) → Stands c (now (line .entry)) lab (now (page .entry)) → Stands (ended (length (now (line .entry))) c) (now (line .entry)) r (now (page .exit))) ⌝ }
 {
     let next = reply(lab, line, page, coordinates, words);
     if next.at < 32768 {
@@ -141,6 +143,7 @@ fn hear_chunk(
     requires { ⌜ Lent (now page) (now coordinates) (now words) ⌝ }
     requires { ⌜ (lab .at ≤ 32768) × (lab .part .held ≤ length (now line)) ⌝ }
     ensures { λ r. ⌜ (r .at ≤ 32768) × (r .part .held ≤ length (now (line .entry))) ⌝ }
+    ensures { λ r. ⌜ ((c : Course) → Stands c (now (line .entry)) lab (now (page .entry)) → Stands (streaming (length (now (line .entry))) c (now (chunk .entry))) (now (line .exit)) r (now (page .exit))) ⌝ }
 {
     let mut now = lab;
     let mut from = 0;

@@ -1,24 +1,29 @@
 -- `lines::hear_chunk`: from line to line the buffers keep their lengths, and the page is filled to a quarter at most.
 use Prim.Native.Nat.{_-_, _≤_}
-use mathlib.Core.Path.{_≡_, _∙_}
+use mathlib.Core.Path.{_≡_, refl, ap, _∙_}
 use native.Mathlib.Omega.{arith}
-use lib.ListN.{length}
+use lib.ListN.{length, take}
+use lib.Seq.{take-all}
 use Rattle.text.proofs.Tokens.{token-end}
 use Rattle.lab.specs.Room.{Lent}
+use Rattle.lab.specs.Stream.{Course, streaming, Stands}
 use Rattle.lab.proofs.Desks.{lent-on}
+use Rattle.lab.proofs.Streams.{to-the-end, to-the-newline, stands-as, after-gather}
 use borrow.Author.Needs.{needs}
 use Rattle.lab.proofs.lines.hear_chunk.Statement.{statement}
 use Rattle.lab.proofs.lines.hear_chunk.Tie as tie
 
 abbrev Inv-loop : tie.InvT-loop
 Inv-loop chunk line₀ page₀ coordinates₀ words₀ now₀ from₀ line page coordinates words now from =
-    ((from ≤ length chunk) × (length line ≡ length line₀) × Lent page coordinates words) × ((now .at ≤ 32768) × (now .part .held ≤ length line))
+    ((from ≤ length chunk) × (length line ≡ length line₀) × Lent page coordinates words)
+    × ((now .at ≤ 32768) × (now .part .held ≤ length line))
+    × ((c : Course) → Stands c line₀ now₀ page₀ → Stands (streaming (length line₀) c (take from chunk)) line now page)
 
 abbrev μ-loop : tie.MeasureT-loop
 μ-loop chunk line₀ page₀ coordinates₀ words₀ now₀ from₀ line page coordinates words now from = length chunk - from
 
 loop-holds : tie.Need-loop-holds Inv-loop μ-loop
-loop-holds c = search needs
+loop-holds c = (search needs, search needs, λ k z. z)
 
 sub-before : tie.Need-sub-before Inv-loop μ-loop
 sub-before c = search needs
@@ -60,7 +65,12 @@ same-length-4 : tie.Need-same-length-4 Inv-loop μ-loop
 same-length-4 c = search needs
 
 returns : tie.Need-returns Inv-loop μ-loop
-returns c = search needs
+returns c = (
+  search needs,
+  λ k z. let l = c .before .before .before .before .before .before .before .before .before .before .loop in
+      let stands = l .inv .2 k z in
+      stands-as (to-the-end _ k (c .before .before .before .before .before .before .before .before .before .before .before .before .before .before .before .args .chunk .now) (l .from) (c .before .before .before .before .before .before .before .before2 .result) (c .before .before .before .before .before .before .before .before2 .ensures) (c .if1 .taken)) (after-gather stands _ refl refl (c .before .before .before .gather .ensures .1 _ (stands .part))),
+)
 
 reply-and-flush-requires : tie.Need-reply-and-flush-requires Inv-loop μ-loop
 reply-and-flush-requires c κs = search needs
@@ -78,7 +88,14 @@ loop-again c = (
     c .before .before .before .before .before .before .before .before .before .before .before .before .before .gather .kept .1 .0 ∙ c .before .before .before .before .before .before .before .before .before .before .before .before .before .before .before .before .before .before .before .before .loop .inv .0 .1,
     lent-on (c .before .before .before .before .before .before .before .before .before .before .before .before .before .before .before .before .before .before .before .before .loop .inv .0 .2) (c .before .before .before .before .before .reply-and-flush .kept .1 .1 .0) (c .before .before .before .before .before .reply-and-flush .kept .1 .1 .1 .0) (c .before .before .before .before .before .reply-and-flush .kept .1 .1 .1 .1 .0),
   ),
-  (c .before .before .before .before .before .reply-and-flush .ensures .0, omega (arith, c .before .before .before .before .before .reply-and-flush .ensures .1)),
+  (c .before .before .before .before .before .reply-and-flush .ensures .0 .0, omega (arith, c .before .before .before .before .before .reply-and-flush .ensures .0 .1)),
+  λ k z. let l = c .before .before .before .before .before .before .before .before .before .before .before .before .before .before .before .before .before .before .before .before .loop in
+      let stands = l .inv .2 k z in
+      let grown = after-gather stands _ refl refl (c .before .before .before .before .before .before .before .before .before .before .before .before .before .gather .ensures .1 _ (stands .part)) in
+      let most = c .before .before .before .before .before .before .before .before .before .before .before .before .before .gather .kept .1 .0 ∙ l .inv .0 .1 in
+      stands-as
+      (to-the-newline _ k (c .before .before .before .before .before .before .before .before .before .before .before .before .before .before .before .before .before .before .before .before .before .before .before .before .before .args .chunk .now) (l .from) (c .before .before .before .before .before .before .before .before .before .before .before .before .before .before .before .before .before .before2 .result) (c .before .before .before .before .before .before .before .before .before .before .before .before .before .before .before .before .before .before2 .ensures) most (omega (arith, token-end (c .before .before .before .before .before .before .before .before .before .before .before .before .before .before .before .before .before .before .before .before .before .before .before .before .before .args .chunk .now) (l .from) (l .inv .0 .0) (c .before .before .before .before .before .before .before .before .before .before .before .before .before .before .before .before .before .before2 .ensures))))
+      (c .before .before .before .before .before .reply-and-flush .ensures .1 _ grown),
 )
 
 same-length-5 : tie.Need-same-length-5 Inv-loop μ-loop
@@ -94,7 +111,10 @@ same-length-8 : tie.Need-same-length-8 Inv-loop μ-loop
 same-length-8 c = search needs
 
 returns-2 : tie.Need-returns-2 Inv-loop μ-loop
-returns-2 c = search needs
+returns-2 c = (
+  search needs,
+  λ k z. stands-as (ap (streaming _ k) (take-all _ _ (c .loop-test .left))) (c .before .loop .inv .2 k z),
+)
 
 pub hear-chunk-spec : {M : Type 1} → statement M
 hear-chunk-spec =

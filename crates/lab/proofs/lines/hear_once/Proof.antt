@@ -49,7 +49,7 @@ hear-chunk-requires : tie.Need-hear-chunk-requires
 hear-chunk-requires c κs = search needs
 
 flush-requires : tie.Need-flush-requires
-flush-requires c κs = omega (arith, c .before .before .before .before .before .before .before .before .hear-chunk .ensures .0, c .before .before .before .before .before .before .before .before .hear-chunk .kept .1 .1 .1 .0, c .before .before .before .before .before .before .before .before .before .before .before .before .before .before .before .before .before .before .before .before .before .before .before .before .before .before .pre .0 .page-long)
+flush-requires c κs = omega (arith, c .before .before .before .before .before .before .before .before .hear-chunk .ensures .0 .0, c .before .before .before .before .before .before .before .before .hear-chunk .kept .1 .1 .1 .0, c .before .before .before .before .before .before .before .before .before .before .before .before .before .before .before .before .before .before .before .before .before .before .before .before .before .before .pre .0 .page-long)
 
 same-length-6 : tie.Need-same-length-6
 same-length-6 c = c .before .before .before .before .before .before .before .before .before .before .before .before .before .before .before .before .before .before .before .before .before .read .kept .1 .0
@@ -67,7 +67,7 @@ same-length-10 : tie.Need-same-length-10
 same-length-10 c = search needs
 
 returns-2 : tie.Need-returns-2
-returns-2 c = (omega (arith, c .flush .ensures .2), omega (arith, ap (λ (p : Part). p .held) (c .flush .ensures .1), c .before .before .before .before .before .before .before .before .before .hear-chunk .ensures .1))
+returns-2 c = (omega (arith, c .flush .ensures .2), omega (arith, ap (λ (p : Part). p .held) (c .flush .ensures .1), c .before .before .before .before .before .before .before .before .before .hear-chunk .ensures .0 .1))
 
 pub hear-once-spec : {M : Type 1} → statement M
 hear-once-spec =

@@ -5,7 +5,7 @@ use mathlib.Core.Bool.{Bool, true, false, cond}
 use mathlib.Core.List.{List, [], _∷_, _++_, append-assoc, append-nil}
 use native.Mathlib.Nat.{add-sub-cancel-left}
 use native.Mathlib.Omega.{arith}
-use borrow.Author.Tests.{eqb-true}
+use borrow.Author.Tests.{eqb-true, eq-eqb, ne-eqb}
 use lib.Dec.{eqb}
 use lib.ListN.{length, take, drop, length-append, length-take, length-drop, take-append-drop}
 use lib.Seq.{take-at, take-all, take-add, length-take-le}
@@ -16,7 +16,7 @@ use Rattle.lab.specs.declared.lines.Lab.{Lab}
 use Rattle.lab.specs.declared.lines.Part.{Part}
 use Rattle.lab.specs.Desk.{Result}
 use Rattle.lab.specs.Line.{Gathered, noPart, answering, Replies}
-use Rattle.lab.specs.Stream.{Course, grown, ended, streaming, Stands}
+use Rattle.lab.specs.Stream.{Course, grown, ended, streaming, lastLine, Stands}
 use Rattle.lab.proofs.Gathering.{none-gathered}
 
 -- ---- bytes
@@ -112,3 +112,20 @@ module _ {c : Course} {line : List ℕ} {lab : Lab} {page : List ℕ} (z : Stand
             ∙ append-assoc (z .written) (take (lab .at) page) (g .text)
             ∙ ap (λ (t : List ℕ). z .written ++ t) (ap (λ (x : Result). take (lab .at) page ++ x .text) (sym same) ∙ sym all);
       }
+
+  -- the input is not to be read on
+  pub switched-off : Stands c line (record { desk = lab .desk; part = lab .part; at = lab .at; on = false }) page
+  switched-off = record { desk = z .desk; part = z .part; written = z .written; text = z .text }
+
+-- ---- the input's end
+
+pub no-last : (most : ℕ) (c : Course) {line : List ℕ} {part : Part} → Gathered line part (c .line) → part .held ≡ 0 → part .long ≡ false → c ≡ lastLine most c
+no-last most c {line} g e f =
+    let none : length (c .line) ≡ 0 = ap length (sym (g .kept f)) ∙ ap (λ (n : ℕ). length (take n line)) e in
+    sym (ap (λ (b : Bool). cond b c (ended most c)) (eq-eqb (length (c .line)) 0 none))
+
+pub some-last : (most : ℕ) (c : Course) {line : List ℕ} {part : Part} → Gathered line part (c .line) → part .held ≤ length line → (part .held ≡ 0 → part .long ≡ false → ⊥) → ended most c ≡ lastLine most c
+some-last most c {line} {part} g h some = sym (ap (λ (b : Bool). cond b c (ended most c)) (ne-eqb (length (c .line)) 0 (by (part .long) refl))) where
+  by : (b : Bool) → part .long ≡ b → length (c .line) ≡ 0 → ⊥
+  by true e z = omega (arith, g .too-long e)
+  by false e z = some (omega (arith, ap length (g .kept e), length-take-le (part .held) line h)) e

@@ -1,5 +1,6 @@
 pub mod Answers
 pub mod Desks
+pub mod Examples
 pub mod Floats
 pub mod Gathering
 pub mod Named

@@ -4,9 +4,17 @@ use mathlib.Core.Path.{_≡_, refl}
 use mathlib.Core.List.{List, [], _∷_}
 use lib.IntN.{pos, negsuc}
 use Rattle.text.specs.Bytes.{bytes}
+use Rattle.text.specs.Number.{digitOf, numberOf, hexOf}
+use Rattle.protocol.specs.Request.{verbOf, requestOf}
 use Rattle.samples.specs.Given.{bothDone, refusedAt}
+use Rattle.samples.specs.Heard.{heardBits}
+use Rattle.sender.specs.Send.{opening}
+use Rattle.walk.specs.Machine.{shut, sound}
 use Rattle.walk.specs.Told.{reason}
 use Rattle.lab.specs.Answer.{decimal, whole, numberLine, sentLine, reasonText, saidText, heardLine, sampleLine}
+use Rattle.lab.specs.Desk.{closedDesk, acting}
+use Rattle.lab.specs.Line.{answering}
+use Rattle.lab.specs.Stream.{streaming, lastLine}
 
 abbrev answers : List (List ℕ)
 answers =
@@ -34,3 +42,8 @@ pub examples : answers
     ∷ []
 unfolding decimal whole sentLine reasonText saidText heardLine sampleLine
 examples = refl
+
+-- a comment, an empty line, and a line that is cut short by the input's end
+pub session : lastLine 65536 (streaming 65536 (record { desk = closedDesk; line = []; text = [] }) (bytes "# a comment\n\nsender 9\npending\nsample 3F800000 7f800000\nsend 5")) .text ≡ bytes "1\n0\n5 place 1\n?\n"
+unfolding answering acting requestOf verbOf numberOf hexOf digitOf opening decimal sampleLine heardBits shut sound
+session = refl

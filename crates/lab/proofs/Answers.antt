@@ -13,12 +13,12 @@ use mir.Val.{SFits, toZ, ofZ}
 use mir.ValLaws.{toZ-ofZ}
 use lib.Dec.{eqb, leb, ltb}
 use lib.IntN.{ℤ, natAbs, pos, negsuc}
-use lib.ListN.{length, take, drop, getD, length-append, length-take, take-append-drop}
+use lib.ListN.{length, take, getD, length-append, length-take, take-append-drop}
 use lib.Seq.{take-suc, take-all}
 use Rattle.io.specs.Digits.{glyph, digits, Fewest}
 use Rattle.text.specs.Bytes.{bytes}
 use Rattle.text.specs.Page.{Puts, Numeral, PutsNumber, PutsWhole, signText}
-use Rattle.text.proofs.Pages.{few, joined}
+use Rattle.text.proofs.Pages.{few}
 use Rattle.samples.specs.Given.{GivenSample}
 use Rattle.walk.specs.Told.{Reason}
 use Rattle.lab.specs.Answer.{decimalIn, decimal, whole, afterSpaces, numberLine, sentLine, placeText, reasonText, saidText, heardLine, pairLine, lineBy, sampleLine}

@@ -8,12 +8,11 @@ use borrow.Author.Tests.{le-leb}
 use lib.Dec.{leb}
 use lib.Ieee.{Float}
 use lib.IntN.{ℤ}
-use lib.ListN.{length, take, drop, length-append, length-take, length-drop, length-replicate}
+use lib.ListN.{length, take, drop, length-take, length-replicate}
 use lib.Seq.{take-at}
 use Rattle.text.specs.Bytes.{bytes}
 use Rattle.text.specs.Page.{Puts}
 use Rattle.protocol.specs.declared.Request.{Request}
-use Rattle.protocol.specs.declared.Request.the-variants as request
 use Rattle.protocol.specs.Request.{Sizes, Fit}
 use Rattle.samples.specs.declared.Pair.{Pair}
 use Rattle.samples.specs.Given.{sampleGiven}

@@ -1,19 +1,19 @@
 -- Laws of a whole line: what the list lent for coordinates held before makes no difference, so a gathered line is answered as its bytes alone say.
-use Prim.Native.Nat.{ℕ, suc, zero, _+_, _≤_, _<_}
-use mathlib.Core.Path.{_≡_, refl, sym, ap, subst, _∙_}
+use Prim.Native.Nat.{ℕ, suc, zero, _+_, _≤_}
+use mathlib.Core.Path.{_≡_, refl, sym, ap, _∙_}
 use mathlib.Core.Bool.{Bool, true, false, cond}
 use mathlib.Core.List.{List, [], _∷_, _++_}
 use native.Mathlib.Omega.{arith}
 use borrow.Author.Tests.{lt-ltb, le-ltb}
-use lib.Dec.{eqb, ltb}
+use lib.Dec.{eqb}
 use lib.IntN.{ℤ}
-use lib.ListN.{length, take, drop, length-append, length-take}
+use lib.ListN.{length, take, drop, length-take}
 use lib.Seq.{take-at, take-all}
 use Rattle.text.specs.Bytes.{bytes}
 use Rattle.text.specs.Page.{Puts}
 use Rattle.text.specs.Token.{tokens, sameBytes}
 use Rattle.text.specs.Number.{wholeOf, hexOf}
-use Rattle.text.specs.Many.{firstWholes, manyOf, before, more, oneMore}
+use Rattle.text.specs.Many.{firstWholes, manyOf, before, oneMore}
 use Rattle.text.specs.declared.number.Number.{Number}
 use Rattle.text.specs.declared.number.Number.the-variants as number
 use Rattle.text.specs.declared.number.Whole.{Whole}

@@ -1,5 +1,5 @@
 -- Laws of the input as a stream: it may be cut anywhere, bytes up to a newline only grow the line, and what each step of the program does to its state.
-use Prim.Native.Nat.{ℕ, zero, suc, _+_, _-_, _≤_, _<_}
+use Prim.Native.Nat.{ℕ, suc, _+_, _-_, _≤_, _<_}
 use mathlib.Core.Path.{_≡_, refl, sym, ap, subst, _∙_}
 use mathlib.Core.Bool.{Bool, true, false, cond}
 use mathlib.Core.List.{List, [], _∷_, _++_, append-assoc, append-nil}
@@ -7,7 +7,7 @@ use native.Mathlib.Nat.{add-sub-cancel-left}
 use native.Mathlib.Omega.{arith}
 use borrow.Author.Tests.{eqb-true, eq-eqb, ne-eqb}
 use lib.Dec.{eqb}
-use lib.ListN.{length, take, drop, length-append, length-take, length-drop, take-append-drop}
+use lib.ListN.{length, take, drop, length-append, length-drop, take-append-drop}
 use lib.Seq.{take-at, take-all, take-add, length-take-le}
 use Rattle.text.specs.Token.{lengthBefore, Cuts}
 use Rattle.text.proofs.Digits.{to-end}
@@ -15,7 +15,7 @@ use Rattle.lab.specs.declared.desk.Desk.{Desk}
 use Rattle.lab.specs.declared.lines.Lab.{Lab}
 use Rattle.lab.specs.declared.lines.Part.{Part}
 use Rattle.lab.specs.Desk.{Result}
-use Rattle.lab.specs.Line.{Gathered, noPart, answering, Replies}
+use Rattle.lab.specs.Line.{Gathered, answering, Replies}
 use Rattle.lab.specs.Stream.{Course, grown, ended, streaming, lastLine, Stands}
 use Rattle.lab.proofs.Gathering.{none-gathered}
 

@@ -4,9 +4,9 @@
 --   named s                the coordinates that a line names: those after its verb and its cap
 --   answering most d s     what the line s does to the desk d: "A line has at most 65,536 bytes before its newline; a longer one answers `?` once (a comment too)"; most is as many as the buffer has
 --   Replies g ..           what was done is g: its desk, and its text put into the page; no bytes of the next line are there yet
-use Prim.Native.Nat.{ℕ, _≤_, _<_}
+use Prim.Native.Nat.{ℕ, _<_}
 use mathlib.Core.Path.{_≡_}
-use mathlib.Core.Bool.{Bool, true, false, cond}
+use mathlib.Core.Bool.{true, false, cond}
 use mathlib.Core.List.{List}
 use lib.Dec.{ltb}
 use lib.IntN.{ℤ}

@@ -9,7 +9,7 @@ use libc::STDOUT_FILENO;
 use text::page;
 use text::token;
 ghost use mathlib.Core.Path.{_≡_};
-ghost use mathlib.Core.List.{List, [], _++_};
+ghost use mathlib.Core.List.{List, _++_};
 ghost use Prim.Native.Nat.{ℕ, _+_, _≤_};
 ghost use lib.ListN.{length};
 ghost use Rattle.lab.specs.Line.{Gathered, noPart, answering, Replies};

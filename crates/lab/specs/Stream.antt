@@ -5,9 +5,10 @@
 --   streaming most c bs   after the bytes bs; a newline, 10, ends a line
 --   lastLine most c    after the input's end: "A last line without a newline counts as a line"
 --   Stands c ..        the program's state stands for c: its desk, the line in its buffer; the page holds the last of the answers, and those before them were taken out of it
+--   Went most c ..     the state after one read: the input's end, or so many bytes as stand at the start of `chunk`. What is read no contract can say
 use Prim.Native.Nat.{ℕ}
 use mathlib.Core.Path.{_≡_}
-use mathlib.Core.Bool.{cond}
+use mathlib.Core.Bool.{Bool, cond}
 use mathlib.Core.List.{List, [], _∷_, _++_}
 use lib.Dec.{eqb}
 use lib.ListN.{length, take}
@@ -38,3 +39,8 @@ pub record Stands (c : Course) (line : List ℕ) (lab : Lab) (page : List ℕ) :
   pub part : Gathered line (lab .part) (c .line)
   pub written : List ℕ
   pub text : c .text ≡ written ++ take (lab .at) page
+
+pub record Went (most : ℕ) (c : Course) (chunk line : List ℕ) (lab : Lab) (page : List ℕ) : Type 0 where
+  pub ends : Bool
+  pub count : ℕ
+  pub stands : Stands (cond ends (lastLine most c) (streaming most c (take count chunk))) line lab page

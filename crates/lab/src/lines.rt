@@ -14,7 +14,7 @@ ghost use Prim.Native.Nat.{ℕ, _+_, _≤_};
 ghost use lib.ListN.{length};
 ghost use Rattle.lab.specs.Line.{Gathered, noPart, answering, Replies};
 ghost use Rattle.lab.specs.Room.{answerRoom, Lent};
-ghost use Rattle.lab.specs.Stream.{Course, ended, streaming, lastLine, Stands};
+ghost use Rattle.lab.specs.Stream.{Course, ended, streaming, lastLine, Stands, Went};
 
 // The line so far: how many bytes of it are in the buffer, or that it is too long and is skipped.
 pub struct Part {
@@ -196,6 +196,7 @@ fn hear_once(
     requires { ⌜ Lent (now page) (now coordinates) (now words) ⌝ }
     requires { ⌜ (lab .at ≤ 32768) × (lab .part .held ≤ length (now line)) ⌝ }
     ensures { λ r. ⌜ (r .at ≤ 32768) × (r .part .held ≤ length (now (line .entry))) ⌝ }
+    ensures { λ r. ⌜ ((c : Course) → Stands c (now (line .entry)) lab (now (page .entry)) → Went (length (now (line .entry))) c (now (chunk .exit)) (now (line .exit)) r (now (page .exit))) ⌝ }
 {
     let got = libc::read(STDIN_FILENO, chunk);
     if got < 0 {

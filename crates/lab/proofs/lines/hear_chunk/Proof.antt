@@ -1,4 +1,4 @@
--- `lines::hear_chunk`: from line to line the buffers keep their lengths, and the page is filled to a quarter at most.
+-- `lines::hear_chunk`: from line to line the buffers keep their lengths, the page is filled to a quarter at most, and the state is that after the bytes so far.
 use Prim.Native.Nat.{_-_, _≤_}
 use mathlib.Core.Path.{_≡_, refl, ap, _∙_}
 use native.Mathlib.Omega.{arith}

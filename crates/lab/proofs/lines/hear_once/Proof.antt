@@ -1,7 +1,9 @@
--- `lines::hear_once`: a page that is filled to a quarter at most is within its buffer.
+-- `lines::hear_once`: a page that is filled to a quarter at most is within its buffer; the bytes are those of the chunk.
+use mathlib.Core.Bool.{true, false}
 use mathlib.Core.Path.{ap}
 use native.Mathlib.Omega.{arith}
 use Rattle.lab.specs.declared.lines.Part.{Part}
+use Rattle.lab.proofs.Streams.{after-flush}
 use borrow.Author.Needs.{needs}
 use Rattle.lab.proofs.lines.hear_once.Statement.{statement}
 use Rattle.lab.proofs.lines.hear_once.Tie as tie
@@ -34,7 +36,7 @@ same-length-5 : tie.Need-same-length-5
 same-length-5 c = search needs
 
 returns : tie.Need-returns
-returns c = search needs
+returns c = (search needs, λ k z. record { ends = true; count = 0; stands = c .before .before .before .before .before .hear-end .ensures .1 k z })
 
 count-requires : tie.Need-count-requires
 count-requires c κs = search needs
@@ -67,7 +69,14 @@ same-length-10 : tie.Need-same-length-10
 same-length-10 c = search needs
 
 returns-2 : tie.Need-returns-2
-returns-2 c = (omega (arith, c .flush .ensures .2), omega (arith, ap (λ (p : Part). p .held) (c .flush .ensures .1), c .before .before .before .before .before .before .before .before .before .hear-chunk .ensures .0 .1))
+returns-2 c = (
+  (omega (arith, c .flush .ensures .2), omega (arith, ap (λ (p : Part). p .held) (c .flush .ensures .1), c .before .before .before .before .before .before .before .before .before .hear-chunk .ensures .0 .1)),
+  λ k z. record {
+    ends = false;
+    count = c .before .before .before .before .before .before .before .before .before .before .before .before .before .before .before .count .result;
+    stands = after-flush (c .before .before .before .before .before .before .before .before .before .hear-chunk .ensures .1 k z) (c .flush .ensures .0) (c .flush .ensures .1) (c .flush .ensures .2);
+  },
+)
 
 pub hear-once-spec : {M : Type 1} → statement M
 hear-once-spec =

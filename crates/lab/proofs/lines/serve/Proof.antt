@@ -64,7 +64,7 @@ loop-again c = (
     c .before .before .before .before .before .before .before .before .before .before .before .hear-once .kept .1 .1 .1 .1 .0 ∙ c .before .before .before .before .before .before .before .before .before .before .before .before .before .before .before .before .before .before .loop .inv .1 .0,
     c .before .before .before .before .before .before .before .before .before .before .before .hear-once .kept .1 .1 .1 .1 .1 .0 ∙ c .before .before .before .before .before .before .before .before .before .before .before .before .before .before .before .before .before .before .loop .inv .1 .1,
   ),
-  (c .before .before .before .before .before .before .before .before .before .before .before .hear-once .ensures .0, omega (arith, c .before .before .before .before .before .before .before .before .before .before .before .hear-once .ensures .1, c .before .before .before .before .before .before .before .before .before .before .before .hear-once .kept .1 .1 .0)),
+  (c .before .before .before .before .before .before .before .before .before .before .before .hear-once .ensures .0 .0, omega (arith, c .before .before .before .before .before .before .before .before .before .before .before .hear-once .ensures .0 .1, c .before .before .before .before .before .before .before .before .before .before .before .hear-once .kept .1 .1 .0)),
 )
 
 same-length-6 : tie.Need-same-length-6 Inv-loop μ-loop

@@ -8,7 +8,14 @@ use Rattle.text.specs.Number.{digitOf, numberOf, hexOf}
 use Rattle.protocol.specs.Request.{verbOf, requestOf}
 use Rattle.samples.specs.Given.{bothDone, refusedAt}
 use Rattle.samples.specs.Heard.{heardBits}
-use Rattle.sender.specs.Send.{opening}
+use Rattle.wei.specs.Word.{unpacked}
+use Rattle.wei.specs.Label.{secondLabel}
+use Rattle.wei.specs.State.{nextState}
+use Rattle.wei.specs.Symbol.{symbolOf, lastLabel}
+use Rattle.points.specs.Points.{coordinates, aPoint}
+use Rattle.points.specs.Turn.{pointOf}
+use Rattle.points.specs.Pair.{firstPoint, secondPoint}
+use Rattle.sender.specs.Send.{opening, sending, after, four}
 use Rattle.walk.specs.Machine.{shut, sound}
 use Rattle.walk.specs.Told.{reason}
 use Rattle.lab.specs.Answer.{decimal, whole, numberLine, sentLine, reasonText, saidText, heardLine, sampleLine}
@@ -43,7 +50,7 @@ pub examples : answers
 unfolding decimal whole sentLine reasonText saidText heardLine sampleLine
 examples = refl
 
--- a comment, an empty line, and a line that is cut short by the input's end
-pub session : lastLine 65536 (streaming 65536 (record { desk = closedDesk; line = []; text = [] }) (bytes "# a comment\n\nsender 9\npending\nsample 3F800000 7f800000\nsend 5")) .text ≡ bytes "1\n0\n5 place 1\n?\n"
-unfolding answering acting requestOf verbOf numberOf hexOf digitOf opening decimal sampleLine heardBits shut sound
+-- a comment, an empty line, both openings of a sender, a word, and a last line that no newline follows and that lacks its CAP
+pub session : lastLine 65536 (streaming 65536 (record { desk = closedDesk; line = []; text = [] }) (bytes "# a comment\n\nsender 9\nsender 0\nsend 5 4\npending\nsample 3F800000 7f800000\nsend 5")) .text ≡ bytes "1\n0\n0 -1 -1 1 1\n0\n5 place 1\n?\n"
+unfolding answering acting requestOf verbOf numberOf hexOf digitOf decimal whole sentLine sampleLine heardBits shut sound opening sending symbolOf after four firstPoint secondPoint lastLabel pointOf aPoint coordinates unpacked nextState secondLabel
 session = refl

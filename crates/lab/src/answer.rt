@@ -2,7 +2,7 @@
 // its text can take, and answers with the place after it.
 use text::page;
 use walk::Why;
-ghost use mathlib.Core.List.{_++_};
+ghost use mathlib.Core.List.{_++_, map};
 ghost use mathlib.Core.Path.{_≡_};
 ghost use Prim.Native.Nat.{_+_, _≤_};
 ghost use lib.ListN.{length};
@@ -11,7 +11,6 @@ ghost use Rattle.text.specs.Page.{Puts};
 ghost use Rattle.walk.specs.Told.{givenOf};
 ghost use Rattle.lab.specs.Answer.{decimal, whole, afterSpaces, numberLine, sentLine, placeText, reasonText, saidText, heardLine, pairLine, refusedLine, unreadLine};
 ghost use Rattle.lab.specs.Room.{wordsRoom};
-ghost use mathlib.Core.List.{map};
 
 fn end(page: &mut [u8], at: usize) -> usize
     requires { ⌜ at + 1 ≤ length (now page) ⌝ }

@@ -2,7 +2,7 @@
 --   stored                        stores one after the other
 --   pair-stored                   two stores anywhere
 --   copied-more, copied-length    one more of the elements of ws in the front of a list that was l₀
---   room, placed                  what a call wrote at the front of the rest
+--   lent-rest, room, placed       what is lent of the rest, that there is room in it, and what a call wrote at its front
 --   lent, back                    the rest of a list from a on, as it is lent, and the list when the rest has come back
 use mathlib.Core.Path.{_≡_, refl, sym, ap, _∙_}
 use mathlib.Core.List.{List, [], _∷_, _++_, append-assoc, append-nil}
@@ -41,8 +41,11 @@ module _ {A : Type 0} where
     rest : drop a l ≡ drop a l₀
     rest = ap (λ m. drop a m) is ∙ drop-at p (drop a l₀) a size
 
+    pub lent-rest : take (length l - a) (drop a l) ≡ drop a l₀
+    lent-rest = lent l (length l) a refl ∙ rest
+
     pub room : (k : ℕ) → a + k ≤ length l₀ → k ≤ length (take (length l - a) (drop a l))
-    room k h = rw (lent l (length l) a refl, rest, length-drop) (omega arith)
+    room k h = rw (lent-rest, length-drop) (omega arith)
 
     -- the rest was lent, and vs was written at its front
     pub placed : (vs : List A) (k : ℕ) {ys : List A} → ys ≡ vs ++ drop k (take (length l - a) (drop a l)) →

@@ -4,4 +4,5 @@ pub mod Held
 pub mod Back
 pub mod Ends
 pub mod Cases
+pub mod Column
 pub mod Floats

@@ -9,6 +9,7 @@
 --   readSender, readReceiver          what the words of a record read as
 --   SenderStored, ReceiverStored      a record was put into words, and they read as it
 --   CoreStored, BytesStored           the parts of that
+--   Others, OneChanged                what stands there already, where only one symbol was heard
 use Prim.Native.Nat.{ℕ, zero, suc, _+_, _*_, _/_, _%_, _^_, _<_}
 use mathlib.Core.Path.{_≡_}
 use mathlib.Core.Bool.{Bool, true, false, cond, _&&_}
@@ -145,3 +146,13 @@ pub record CoreStored (live : Bool) (c : Core) (l o : List ℕ) : Type 0 where
 pub record BytesStored (bytes l o : List ℕ) : Type 0 where
   pub words : o ≡ packed 128 bytes ++ drop 128 l
   pub small : (i : ℕ) → getD bytes i 0 < 256
+
+-- all words but the two of a slot are those of the bytes
+abbrev pub Others : ℕ → List ℕ → List ℕ → Type 0
+Others slot bytes l = (k : ℕ) → k < 128 → (k / 2 ≡ slot → ⊥) → getD l k 0 ≡ wordAt (drop (8 * k) bytes) 0
+
+-- the words hold the columns of a receiver, but for one slot's
+pub record OneChanged (slot : ℕ) (rx : Receiver) (l : List ℕ) : Type 0 where
+  pub slot-below : slot < 64
+  pub steps : Others slot (rx .steps) (drop 23 l)
+  pub picks : Others slot (rx .picks) (drop 151 l)

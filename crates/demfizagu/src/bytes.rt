@@ -3,7 +3,7 @@ ghost use mathlib.Core.Path.{_≡_};
 ghost use mathlib.Core.List.{_++_};
 ghost use Prim.Native.Nat.{_+_, _*_, _^_, _≤_, _<_};
 ghost use lib.ListN.{length, take, drop};
-ghost use Rattle.demfizagu.specs.State.{eight, unpacked, wordAt, BytesStored};
+ghost use Rattle.demfizagu.specs.State.{eight, unpacked, wordAt, BytesStored, Others};
 
 // The eight bytes of a word.
 fn put_eight(w: u64, into: &mut [u8])
@@ -52,7 +52,7 @@ fn word_of(b: &[u8]) -> u64
 }
 
 // The words of 1024 bytes, to the first 128 places.
-pub fn put_words(bytes: &[u8], words: &mut [u64])
+fn put_words(bytes: &[u8], words: &mut [u64])
     requires { ⌜ (length (now bytes) ≡ 1024) × (128 ≤ length (now words)) ⌝ }
     ensures { λ _. ⌜ BytesStored (now (bytes .entry)) (now (words .entry)) (now (words .exit)) ⌝ }
 {
@@ -61,5 +61,32 @@ pub fn put_words(bytes: &[u8], words: &mut [u64])
         let at = 8 * i;
         words[i] = word_of(&bytes[at..]);
         i += 1;
+    }
+}
+
+// The two words of a slot's sixteen bytes. All other words stand there already.
+fn put_column(bytes: &[u8], slot: usize, words: &mut [u64])
+    requires { ⌜ (length (now bytes) ≡ 1024) × (128 ≤ length (now words)) ⌝ }
+    requires { ⌜ (slot < 64) × Others slot (now bytes) (now words) ⌝ }
+    ensures { λ _. ⌜ BytesStored (now (bytes .entry)) (now (words .entry)) (now (words .exit)) ⌝ }
+{
+    let at = 16 * slot;
+    let low = word_of(&bytes[at..]);
+    let half = at + 8;
+    let high = word_of(&bytes[half..]);
+    words[2 * slot] = low;
+    words[2 * slot + 1] = high;
+}
+
+// The words of 1024 bytes that n symbols from the slot on have changed: after one symbol only that slot's.
+pub fn put_changed(bytes: &[u8], slot: usize, n: usize, words: &mut [u64])
+    requires { ⌜ (length (now bytes) ≡ 1024) × (128 ≤ length (now words)) ⌝ }
+    requires { ⌜ (n ≡ 1 → (slot < 64) × Others slot (now bytes) (now words)) ⌝ }
+    ensures { λ _. ⌜ BytesStored (now (bytes .entry)) (now (words .entry)) (now (words .exit)) ⌝ }
+{
+    if n == 1 {
+        put_column(bytes, slot, words);
+    } else {
+        put_words(bytes, words);
     }
 }

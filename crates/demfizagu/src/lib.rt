@@ -7,12 +7,12 @@ pub mod state;
 
 use crate::state::load_receiver;
 use crate::state::load_sender;
+use crate::state::store_parts;
 use crate::state::store_receiver;
 use crate::state::store_sender;
 use receiver::Start;
 use samples::Pair;
 use samples::Sample;
-use walk::Receiver;
 ghost use mathlib.Core.Path.{_≡_};
 ghost use mathlib.Core.List.{[]};
 ghost use Prim.Native.Nat.{_+_, _%_, _≤_};
@@ -116,7 +116,8 @@ fn tell(told: &mut [u64], taken: usize, written: usize, place: usize)
     told[2] = place as u64;
 }
 
-// The receiver is heard in its parts, so that a call copies it in and out once. The state is written back where a symbol was taken.
+// The receiver is heard in its parts, so that a call copies it once. The state is written back where a symbol was taken: after one
+// symbol only the numbers, the sums and that symbol's column.
 #[no_mangle]
 pub extern "C" fn demfizagu_hear(
     state: &mut [u64],
@@ -144,16 +145,7 @@ pub extern "C" fn demfizagu_hear(
         return n;
     }
     let after = a.core;
-    store_receiver(
-        Receiver {
-            live: live,
-            core: after,
-            sums: sums,
-            steps: steps,
-            picks: picks,
-        },
-        state,
-    );
+    store_parts(live, after, sums, &steps, &picks, core.slot, a.taken, state);
     n
 }
 

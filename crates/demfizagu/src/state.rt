@@ -7,7 +7,8 @@ ghost use mathlib.Core.Bool.{true};
 ghost use mathlib.Core.List.{_++_};
 ghost use Prim.Native.Nat.{_≤_};
 ghost use lib.ListN.{length, take, drop};
-ghost use Rattle.demfizagu.specs.State.{tagOf, isHalf, holds, senderIn, SenderStored, receiverLength, receiverTag, coreIn, receiverIn, CoreStored, ReceiverStored};
+ghost use Rattle.receiver.specs.Promise.{partsOf};
+ghost use Rattle.demfizagu.specs.State.{tagOf, isHalf, holds, senderIn, SenderStored, receiverLength, receiverTag, coreIn, receiverIn, CoreStored, ReceiverStored, OneChanged};
 
 const SENDER: u64 = 0x6465_6d66_7478_0001;
 
@@ -144,6 +145,28 @@ fn store_sums(sums: [u64; 16], words: &mut [u64])
     }
 }
 
+// Puts a receiver in its parts into the first 279 words. Where it was read from them and has taken n symbols since, into the slot and
+// those after it, only what that changed is written; a caller that says n = 0 has all of it written.
+pub fn store_parts(
+    live: bool,
+    c: Core,
+    sums: [u64; 16],
+    steps: &[u8; 1024],
+    picks: &[u8; 1024],
+    slot: usize,
+    n: usize,
+    words: &mut [u64],
+)
+    requires { ⌜ 279 ≤ length (now words) ⌝ }
+    requires { ⌜ (n ≡ 1 → OneChanged slot (partsOf live c sums (now steps) (now picks)) (now words)) ⌝ }
+    ensures { λ _. ⌜ ReceiverStored (partsOf live c sums (now (steps .entry)) (now (picks .entry))) (now (words .entry)) (now (words .exit)) ⌝ }
+{
+    store_core(live, c, words);
+    store_sums(sums, &mut words[7..]);
+    crate::bytes::put_changed(steps, slot, n, &mut words[23..]);
+    crate::bytes::put_changed(picks, slot, n, &mut words[151..]);
+}
+
 // Puts a receiver into the first 279 words.
 pub fn store_receiver(rx: Receiver, words: &mut [u64])
     requires { ⌜ 279 ≤ length (now words) ⌝ }
@@ -153,8 +176,5 @@ pub fn store_receiver(rx: Receiver, words: &mut [u64])
     let sums = rx.sums;
     let steps = rx.steps;
     let picks = rx.picks;
-    store_core(rx.live, c, words);
-    store_sums(sums, &mut words[7..]);
-    crate::bytes::put_words(&steps, &mut words[23..]);
-    crate::bytes::put_words(&picks, &mut words[151..]);
+    store_parts(rx.live, c, sums, &steps, &picks, 0, 0, words);
 }

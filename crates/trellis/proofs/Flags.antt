@@ -13,7 +13,7 @@ abbrev pub Across : ℕ → (ℕ → Bool) → (ℕ → ℕ → Type 0) → Type
 Across N live R = (s t : ℕ) → s < N → t < N → T (live s) → T (live t) → R s t
 
 -- ── tests ──
-and-in : (a b : Bool) → T a → T b → T (a && b)
+pub and-in : (a b : Bool) → T a → T b → T (a && b)
 and-in true b h k = k
 and-in false b h k = absurd h
 

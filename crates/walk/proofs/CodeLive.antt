@@ -25,6 +25,7 @@ use Rattle.walk.specs.Column.{Column, prevIn, subsetIn}
 use Rattle.walk.specs.Back.{allSubset, oneSubset, agreedFrom}
 use Rattle.walk.specs.Machine.{headOf}
 use Rattle.walk.specs.Ways.{States, keptStep, pastAt, pastLive}
+use Rattle.walk.proofs.Lists.{map-in}
 use Rattle.walk.proofs.CodeLists.{map-each, and-both}
 
 pub record Like (l m : List ℕ) : Type 0 where
@@ -32,10 +33,6 @@ pub record Like (l m : List ℕ) : Type 0 where
   pub back : (s : ℕ) → In s m → In s l
 
 module _ (f : ℕ → ℕ) where
-  map-in : (l : List ℕ) (s : ℕ) → In s l → In (f s) (map f l)
-  map-in (t ∷ l) s m = ⊎-elim (λ e. inl (ap f e)) (λ k. inr (map-in l s k)) m
-  map-in [] s m = absurd m
-
   pub in-map : (P : ℕ → Type 0) (l : List ℕ) → ((s : ℕ) → In s l → P (f s)) → (t : ℕ) → In t (map f l) → P t
   in-map P [] p t m = absurd m
   in-map P (x ∷ l) p t m = ⊎-elim (λ e. subst P (sym e) (p x (inl refl))) (λ k. in-map P l (λ s j. p s (inr j)) t k) m
@@ -43,8 +40,8 @@ module _ (f : ℕ → ℕ) where
   map-like : (l m : List ℕ) → Like l m → Like (map f l) (map f m)
   map-like l m k =
       record {
-        there = in-map (λ t. In t (map f m)) l (λ s j. map-in m s (k .there s j));
-        back = in-map (λ t. In t (map f l)) m (λ s j. map-in l s (k .back s j));
+        there = in-map (λ t. In t (map f m)) l (λ s j. map-in f s m (k .there s j));
+        back = in-map (λ t. In t (map f l)) m (λ s j. map-in f s l (k .back s j));
       }
 
 one-truth : (a b : Bool) → (a ≡ true → b ≡ true) → (b ≡ true → a ≡ true) → a ≡ b
@@ -134,7 +131,7 @@ module _ (sums : List ℕ) where
   in-padded : (h : ℕ) (xs : List ℕ) (s : ℕ) → In s (reachedOf sums xs) → In s (map (padded h) xs)
   in-padded h xs s m =
       let r = reached-in xs s m in
-      subst (λ (t : ℕ). In t (map (padded h) xs)) (ap (λ (b : Bool). cond b s h) (r .1)) (map-in (padded h) xs s (r .0))
+      subst (λ (t : ℕ). In t (map (padded h) xs)) (ap (λ (b : Bool). cond b s h) (r .1)) (map-in (padded h) s xs (r .0))
 
   agreed-over : (f : ℕ → ℕ) (cs : List Column) (xs : List ℕ) (d : ℕ) → agreedFrom cs (map f (map (padded (headOf (reachedOf sums xs))) xs)) d ≡ agreedFrom cs (map f (reachedOf sums xs)) d
   agreed-over f cs xs d = go (reachedOf sums xs) refl

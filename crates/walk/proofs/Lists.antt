@@ -1,23 +1,19 @@
--- Lists, and tests over the states, that know nothing of a receiver.
+-- Lists that know nothing of a receiver.
 --   range-length, range-at     f at the n numbers from a on: how many, and what stands at a place
 --   sixteen-at, sixteen-same   f at the states; two that are equal there
 --   sixteen-most               a bound that also holds past them
 --   every-drop                 what holds of all holds of all but the first
---   any-in, any-out, both      a number at which a test holds, into `any` and out of it
 --   map-in, map-out            what stands in a list, and in the list of its images
-use mathlib.Core.Path.{_≡_, refl, sym, ap, subst, _∙_}
-use mathlib.Core.Bool.{Bool, true, false, _&&_, _||_}
+use mathlib.Core.Path.{_≡_, refl, sym, ap, _∙_}
 use mathlib.Core.List.{List, [], _∷_, map}
 use mathlib.Core.Logic.{inl, inr, ⊎-elim}
 use Prim.Native.Nat.{ℕ, zero, suc, _+_, _≤_, _<_}
 use native.Mathlib.Omega.{arith}
-use native.Mathlib.Decide.{ℕ-discrete, decLt}
-use lib.Dec.{T}
+use native.Mathlib.Decide.{decLt}
 use lib.ListN.{length, getD, drop, List·getD-eq-default}
 use lib.Seq.{ext-getD}
 use Rattle.trellis.specs.Lists.{In, Every}
 use Rattle.trellis.specs.Search.{range}
-use Rattle.trellis.specs.Walk.{any}
 use Rattle.walk.specs.Select.{sixteen}
 
 -- ── laid out by a function ──
@@ -52,30 +48,6 @@ pub every-drop : {A : Type 0} (P : A → Type 0) (n : ℕ) (l : List A) → Ever
 every-drop P zero l h = h
 every-drop P (suc n) [] h = tt
 every-drop P (suc n) (a ∷ l) h = every-drop P n l (h .1)
-
--- ── some number below n ──
-pub any-in : (n : ℕ) (f : ℕ → Bool) (s : ℕ) → s < n → T (f s) → T (any n f)
-unfolding any
-any-in zero f s h t = absurd (omega arith)
-any-in (suc n) f s h t = go (f n) refl (ℕ-discrete s n) (any-in n f s)
-  where
-    go : (b : Bool) → f n ≡ b → Dec (s ≡ n) → (s < n → T (f s) → T (any n f)) → T (b || any n f)
-    go true e d r = tt
-    go false e (yes z) r = absurd (subst T (ap f z ∙ e) t)
-    go false e (no z) r = r (omega arith) t
-
-pub any-out : (n : ℕ) (f : ℕ → Bool) → T (any n f) → (s : ℕ) × (s < n) × T (f s)
-unfolding any
-any-out zero f t = absurd t
-any-out (suc n) f t = go (f n) refl (any-out n f) t
-  where
-    go : (b : Bool) → f n ≡ b → (T (any n f) → (s : ℕ) × (s < n) × T (f s)) → T (b || any n f) → (s : ℕ) × (s < suc n) × T (f s)
-    go true e r t = (n, omega arith, subst T (sym e) tt)
-    go false e r t = let (s, h, k) = r t in (s, omega arith, k)
-
-pub both : (a b : Bool) → T a → T b → T (a && b)
-both true b h k = k
-both false b h k = absurd h
 
 -- ── members ──
 module _ (f : ℕ → ℕ) where

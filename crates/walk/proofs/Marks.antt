@@ -18,6 +18,7 @@ use Rattle.trellis.specs.Choose.{up}
 use Rattle.trellis.specs.Search.{range}
 use Rattle.trellis.specs.Walk.{any, apart, differ, step-back}
 use Rattle.trellis.specs.Same.{sameSymbol}
+use Rattle.trellis.proofs.Flags.{any-in, any-out, and-in}
 use Rattle.trellis.proofs.Lists.{state-in, state-below}
 use Rattle.wei.specs.State.{subsetOf}
 use Rattle.wei.specs.Symbol.{Symbol}
@@ -25,7 +26,7 @@ use Rattle.wei.proofs.Finite.{and-left, and-right, equal1}
 use Rattle.walk.specs.Select.{limit, rowOf, reachedOf, liveOf}
 use Rattle.walk.specs.Column.{Column, prevIn, subsetIn, symbolIn, read}
 use Rattle.walk.specs.Back.{allSubset, oneSubset}
-use Rattle.walk.proofs.Lists.{any-in, any-out, both, map-in, map-out}
+use Rattle.walk.proofs.Lists.{map-in, map-out}
 use Rattle.walk.proofs.Arrivals.{up-sealed}
 
 pub record Marks (live : ℕ → Bool) (l : List ℕ) : Type 0 where
@@ -140,8 +141,8 @@ module _ (u : ℕ) (c : Column) (live : ℕ → Bool) (l : List ℕ) (m : Marks 
       go false x false y =
           let (s, t, i, j, n) = one-no (c .steps) l y in
           let w : T (apart (sameSymbol (here s) (here t))) = apart-in (sameSymbol (here s) (here t)) (λ z. n (subset-of u (c .picks) (subsetIn (c .steps) s) (subsetIn (c .steps) t) (omega arith) (omega arith) z)) in
-          let r : T (any 16 (other s)) = any-in 16 (other s) t (m .below t j) (both (live t) (apart (sameSymbol (here s) (here t))) (m .lives t j) w) in
-          absurd (subst T x (any-in 16 (λ s. live s && any 16 (other s)) s (m .below s i) (both (live s) (any 16 (other s)) (m .lives s i) r)))
+          let r : T (any 16 (other s)) = any-in 16 (other s) t (m .below t j) (and-in (live t) (apart (sameSymbol (here s) (here t))) (m .lives t j) w) in
+          absurd (subst T x (any-in 16 (λ s. live s && any 16 (other s)) s (m .below s i) (and-in (live s) (any 16 (other s)) (m .lives s i) r)))
 
   -- one column further back
   pub marks-back : Marks (step-back 16 (read u c) live) (map (prevIn (c .steps)) l)
@@ -155,5 +156,5 @@ module _ (u : ℕ) (c : Column) (live : ℕ → Bool) (l : List ℕ) (m : Marks 
             subst (λ (x : ℕ). In x (map (prevIn (c .steps)) l)) e (map-in (prevIn (c .steps)) s l (m .listed s g (and-left (live s) (eqb (prevIn (c .steps) s) t) r)));
         lives = λ t k.
             let (s, i, e) = map-out (prevIn (c .steps)) t l k in
-            any-in 16 (λ s. live s && eqb (prevIn (c .steps) s) t) s (m .below s i) (both (live s) (eqb (prevIn (c .steps) s) t) (m .lives s i) (subst (λ (x : ℕ). T (eqb (prevIn (c .steps) s) x)) e (eqb-refl (prevIn (c .steps) s))));
+            any-in 16 (λ s. live s && eqb (prevIn (c .steps) s) t) s (m .below s i) (and-in (live s) (eqb (prevIn (c .steps) s) t) (m .lives s i) (subst (λ (x : ℕ). T (eqb (prevIn (c .steps) s) x)) e (eqb-refl (prevIn (c .steps) s))));
       }

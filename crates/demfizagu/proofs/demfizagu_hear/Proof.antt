@@ -1,6 +1,7 @@
 -- `demfizagu_hear`: told too short, nothing taken, or the state written back.
 use denote.Ref.{now}
 use Rattle.demfizagu.proofs.Cases.{hear-short, hear-kept, hear-long, hear-written}
+use Rattle.demfizagu.proofs.Column.{heard-one}
 use borrow.Author.Needs.{needs}
 use Rattle.demfizagu.proofs.demfizagu_hear.Statement.{statement}
 use Rattle.demfizagu.proofs.demfizagu_hear.Tie as tie
@@ -47,9 +48,9 @@ returns-2 c =
     let tells = rw (p .place .ensures) at (t .tell .ensures) in
     hear-kept (now (a .state)) (now (a .piece)) (now (a .out)) (now (a .told)) (e .if1 .left) (l .load-receiver .result) (l .load-receiver .ensures) _ _ _ _ (h .hear-lent .ensures) (n .number .ensures) tells (c .if2 .taken)
 
-store-receiver-requires : tie.Need-store-receiver-requires
-store-receiver-requires c κs =
-    let t = c .before .before .before .before .before .before in
+store-parts-requires : tie.Need-store-parts-requires
+store-parts-requires c κs =
+    let t = c .before .before .before .before .before .before .before .before in
     let p = t .before .before in
     let n = p .before in
     let h = n .before .before .before in
@@ -57,7 +58,7 @@ store-receiver-requires c κs =
     let e = l .before .before in
     let a = e .before .before .before .before .args in
     let tells = rw (p .place .ensures) at (t .tell .ensures) in
-    hear-long (now (a .state)) (now (a .piece)) (now (a .out)) (now (a .told)) (e .if1 .left) (l .load-receiver .result) (l .load-receiver .ensures) _ _ _ _ (h .hear-lent .ensures) (n .number .ensures) tells (c .before .before .if2 .left)
+    (hear-long (now (a .state)) (now (a .piece)) (now (a .out)) (now (a .told)) (e .if1 .left) (l .load-receiver .result) (l .load-receiver .ensures) _ _ _ _ (h .hear-lent .ensures) (n .number .ensures) tells (c .before .before .before .before .if2 .left), heard-one (now (a .state)) (l .load-receiver .result) (l .load-receiver .ensures) (now (a .piece)) (now (a .out)) _ _ (h .hear-lent .ensures))
 
 same-length-4 : tie.Need-same-length-4
 same-length-4 c = search needs
@@ -70,7 +71,7 @@ same-length-6 c = search needs
 
 returns-3 : tie.Need-returns-3
 returns-3 c =
-    let t = c .before .before .before .before .before .before .before .before .before in
+    let t = c .before .before .before .before .before .before .before .before .before .before .before in
     let p = t .before .before in
     let n = p .before in
     let h = n .before .before .before in
@@ -78,7 +79,7 @@ returns-3 c =
     let e = l .before .before in
     let a = e .before .before .before .before .args in
     let tells = rw (p .place .ensures) at (t .tell .ensures) in
-    hear-written (now (a .state)) (now (a .piece)) (now (a .out)) (now (a .told)) (e .if1 .left) (l .load-receiver .result) (l .load-receiver .ensures) _ _ _ _ (h .hear-lent .ensures) (n .number .ensures) tells _ (c .before .before .before .before .before .if2 .left) (c .before .before .store-receiver .ensures)
+    hear-written (now (a .state)) (now (a .piece)) (now (a .out)) (now (a .told)) (e .if1 .left) (l .load-receiver .result) (l .load-receiver .ensures) _ _ _ _ (h .hear-lent .ensures) (n .number .ensures) tells _ (c .before .before .before .before .before .before .before .if2 .left) (c .before .before .store-parts .ensures)
 
 pub demfizagu-hear-spec : {M : Type 1} → statement M
 demfizagu-hear-spec =
@@ -95,7 +96,7 @@ demfizagu-hear-spec =
     same-length-2
     same-length-3
     returns-2
-    store-receiver-requires
+    store-parts-requires
     same-length-4
     same-length-5
     same-length-6

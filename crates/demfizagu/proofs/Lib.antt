@@ -6,3 +6,4 @@ pub mod Ends
 pub mod Cases
 pub mod Column
 pub mod Floats
+pub mod Settled

@@ -2,6 +2,7 @@
 // after it and the answer are those of specs/Desk.antt.
 use crate::answer;
 use protocol::Request;
+use receiver::Opened;
 use receiver::Start;
 use samples::Pair;
 use samples::Sample;
@@ -12,7 +13,8 @@ ghost use mathlib.Core.List.{[]};
 ghost use Prim.Native.Nat.{_+_, _≤_};
 ghost use lib.ListN.{length};
 ghost use Rattle.samples.specs.Heard.{heardCoordinate, heardBits, bothOrFault};
-ghost use Rattle.receiver.specs.Doors.{opening, plainOpening, hearing, finishing};
+ghost use Rattle.receiver.specs.Doors.{Opening, opening, plainOpening, hearing, finishing};
+ghost use Rattle.walk.specs.Told.{givenOf};
 ghost use Rattle.text.specs.Page.{Puts};
 ghost use Rattle.lab.specs.Answer.{numberLine, sampleLine};
 ghost use Rattle.lab.specs.Desk.{closedDesk, withSender, withReceiver, openingGives, ranGives, pendingOf, acting, Does, Acts};
@@ -81,26 +83,29 @@ fn send(desk: Desk, word: u32, out: &mut [i32], page: &mut [u8], at: usize) -> D
     with_sender(desk, sender, p)
 }
 
+// What an opening of a receiver gave.
+fn opened(desk: Desk, o: Opened, page: &mut [u8], at: usize) -> Done
+    requires { ⌜ at + 21 ≤ length (now page) ⌝ }
+    ensures { λ r. ⌜ ((g : Opening) → givenOf (o .why) ≡ givenOf (g .why) → o .receiver ≡ g .receiver → Does (openingGives desk g) 21 (now (page .entry)) at r (now (page .exit))) ⌝ }
+{
+    let why = o.why;
+    let p = answer::number(page, at, receiver::number(why) as u64);
+    let receiver = o.receiver;
+    with_receiver(desk, receiver, p)
+}
+
 fn open_plain(desk: Desk, u: u32, page: &mut [u8], at: usize) -> Done
     requires { ⌜ at + 21 ≤ length (now page) ⌝ }
     ensures { λ r. ⌜ Does (openingGives desk (plainOpening u)) 21 (now (page .entry)) at r (now (page .exit)) ⌝ }
 {
-    let opened = receiver::open_plain(u);
-    let why = opened.why;
-    let p = answer::number(page, at, receiver::number(why) as u64);
-    let receiver = opened.receiver;
-    with_receiver(desk, receiver, p)
+    opened(desk, receiver::open_plain(u), page, at)
 }
 
 fn open_receiver(desk: Desk, u: u32, window: u32, start: Start, page: &mut [u8], at: usize) -> Done
     requires { ⌜ at + 21 ≤ length (now page) ⌝ }
     ensures { λ r. ⌜ Does (openingGives desk (opening u window start)) 21 (now (page .entry)) at r (now (page .exit)) ⌝ }
 {
-    let opened = receiver::open_receiver(u, window, start);
-    let why = opened.why;
-    let p = answer::number(page, at, receiver::number(why) as u64);
-    let receiver = opened.receiver;
-    with_receiver(desk, receiver, p)
+    opened(desk, receiver::open_receiver(u, window, start), page, at)
 }
 
 fn hear(desk: Desk, piece: &[i32], out: &mut [u32], page: &mut [u8], at: usize) -> Done

@@ -1,5 +1,5 @@
-// The columns of the pending symbols, in a ring of 64 slots with sixteen numbers of each kind to a slot: storing one, and walking
-// back over them, the newest first.
+// The columns of the pending symbols, in a ring of 64 slots with sixteen numbers of each kind to a slot: what the selected steps
+// come to, storing a column, and walking back over them, the newest first.
 //
 // A walk follows sixteen ways at once, one for each state, and compares their steps. Ways that have met stay in the list, and
 // ways into states that nothing reaches follow a reached one: the walk has no test inside a column, and stops where all

@@ -9,23 +9,24 @@ use borrow.Author.Tests.{lt-ltb, le-ltb, eq-eqb, ne-eqb}
 use lib.Dec.{eqb, ltb}
 use lib.IntN.{ℤ}
 use lib.ListN.{length, drop}
-use Rattle.walk.proofs.Sound.{sound-core}
+use Rattle.machine.proofs.Sound.{sound-core}
 use Rattle.sender.specs.declared.Sender.{Sender}
 use Rattle.sender.specs.declared.Sent.{Sent}
 use Rattle.sender.specs.Send as sender
 use Rattle.sender.specs.Promise as sends
-use Rattle.walk.specs.declared.Receiver.{Receiver}
-use Rattle.walk.specs.Machine.{shut, sound, soundCore}
-use Rattle.walk.specs.Told.{Reason, givenOf}
+use Rattle.machine.specs.declared.Receiver.{Receiver}
+use Rattle.machine.specs.Machine.{shut, sound, soundCore}
+use Rattle.machine.specs.Told.{Reason, givenOf}
 use Rattle.receiver.specs.declared.Start.{Start}
 use Rattle.receiver.specs.declared.Opened.{Opened}
 use Rattle.receiver.specs.declared.Answer.{Answer}
 use Rattle.receiver.specs.Doors.{Ran, opening, hearing, finishing}
 use Rattle.receiver.specs.Promise as receives
-use Rattle.demfizagu.specs.State.{holds, senderLength, senderTag, senderIn, wordsOfSender, receiverLength, receiverTag, receiverIn, wordsOfReceiver, readSender, readReceiver, SenderStored, ReceiverStored}
+use Rattle.stored.specs.Layout.{senderLength, senderTag, receiverLength, receiverTag}
+use Rattle.stored.specs.State.{holds, senderIn, wordsOfSender, receiverIn, wordsOfReceiver, readSender, readReceiver, SenderStored, ReceiverStored}
 use Rattle.demfizagu.specs.Calls.{pendingIn, senderOpening, receiverOpening, sendCall, toldOf, Call, callOf, hearCall, finishCall}
 use Rattle.demfizagu.specs.Promise.{Opens, Sends, Answers}
-use Rattle.demfizagu.proofs.Held.{held}
+use Rattle.stored.proofs.Held.{held}
 use Rattle.demfizagu.proofs.Ends.{sender-opening-reads, sending-keeps, sending-reads, receiver-opening-reads, hearing-keeps, hearing-reads, finishing-keeps, finishing-reads}
 
 differ : false ≡ true → ⊥

@@ -12,14 +12,14 @@ use Rattle.trellis.specs.Measure.{Two}
 use Rattle.nearest.specs.declared.Received.{Received}
 use Rattle.sender.specs.declared.Sender.{Sender}
 use Rattle.sender.specs.Send as sender
-use Rattle.walk.specs.declared.Receiver.{Receiver}
-use Rattle.walk.specs.Machine.{opened, shut, Outcome, taking, grown, keptOf, agreedOf, sound}
-use Rattle.walk.specs.Told.{faultOf, givenOf}
-use Rattle.walk.proofs.Sound.{sound-live}
+use Rattle.machine.specs.declared.Receiver.{Receiver}
+use Rattle.machine.specs.Machine.{opened, shut, Outcome, taking, grown, keptOf, agreedOf, sound}
+use Rattle.machine.specs.Told.{faultOf, givenOf}
+use Rattle.machine.proofs.Sound.{sound-live}
 use Rattle.receiver.specs.declared.Start.{Start}
 use Rattle.receiver.specs.Given.{startFits}
 use Rattle.receiver.specs.Doors.{Ran, opening, symbolsOf, symbolAt, isDone, running, hearing, finishing}
-use Rattle.demfizagu.specs.State.{readSender, readReceiver}
+use Rattle.stored.specs.State.{readSender, readReceiver}
 
 -- ---- the sender
 
@@ -112,46 +112,7 @@ running-keeps (y ∷ ys) rx n ws room h =
     let k = running-least ys (o .receiver) (n + 1) (ws ++ o .words) room in
     pick-keeps (running ys (o .receiver) (n + 1) (ws ++ o .words) room) (record { receiver = rx; taken = n; words = ws; why = o .why }) (isDone (o .why)) n rx (λ z. omega arith) refl h
 
--- where one symbol was taken the receiver is the one grown by it
-module _ (rx : Receiver) (y : Two Received) (room : ℕ) where
-  symbol-grown : isDone (symbolAt rx y room .why) ≡ true → symbolAt rx y room .receiver ≡ grown rx y
-  unfolding symbolAt taking
-  symbol-grown = go (ltb (faultOf y) 4) (eqb (rx .core .taken) 4294967295) (ltb (rx .core .window) (keptOf rx y)) (ltb room (agreedOf rx y)) refl refl refl refl where
-    go : (a b c d : Bool) → ltb (faultOf y) 4 ≡ a → eqb (rx .core .taken) 4294967295 ≡ b → ltb (rx .core .window) (keptOf rx y) ≡ c → ltb room (agreedOf rx y) ≡ d →
-        isDone (symbolAt rx y room .why) ≡ true → symbolAt rx y room .receiver ≡ grown rx y
-    go true b c d e f g h z = absurd (subst T (sym (rw e at z)) tt)
-    go false true c d e f g h z = absurd (subst T (sym (rw (e, f) at z)) tt)
-    go false false true d e f g h z = absurd (subst T (sym (rw (e, f, g) at z)) tt)
-    go false false false true e f g h z = absurd (subst T (sym (rw (e, f, g, h) at z)) tt)
-    go false false false false e f g h z = rw (e, f, g, h)
-
-running-one : (ys : List (Two Received)) (rx : Receiver) (n : ℕ) (ws : List ℕ) (room : ℕ) → running ys rx n ws room .taken ≡ n + 1 → (y : Two Received) × (running ys rx n ws room .receiver ≡ grown rx y)
-unfolding running
-running-one [] rx n ws room h = absurd (omega arith)
-running-one (y ∷ ys) rx n ws room h = go (isDone (o .why)) refl h
-  where
-    o : Outcome
-    o = symbolAt rx y (room - length ws)
-
-    on : Ran
-    on = running ys (o .receiver) (n + 1) (ws ++ o .words) room
-
-    off : Ran
-    off = record { receiver = rx; taken = n; words = ws; why = o .why }
-
-    go : (b : Bool) → isDone (o .why) ≡ b → cond b on off .taken ≡ n + 1 → (z : Two Received) × (cond b on off .receiver ≡ grown rx z)
-    go true e k = (y, running-keeps ys (o .receiver) (n + 1) (ws ++ o .words) room k ∙ symbol-grown rx y (room - length ws) e)
-    go false e k = absurd (omega arith)
-
 module _ (rx : Receiver) (xs : List ℤ) (room : ℕ) where
-  pub hearing-one : hearing rx xs room .taken ≡ 1 → (y : Two Received) × (hearing rx xs room .receiver ≡ grown rx y)
-  unfolding hearing
-  hearing-one h = go (sound rx) (eqb (length xs % 4) 0) refl refl where
-    go : (a b : Bool) → sound rx ≡ a → eqb (length xs % 4) 0 ≡ b → (y : Two Received) × (hearing rx xs room .receiver ≡ grown rx y)
-    go true true x y = rw (x, y) (running-one (symbolsOf xs) rx 0 [] room (rw (x, y) at h))
-    go true false x y = absurd (let z : _≡_ {A = ℕ} 0 1 = rw (x, y) at h in omega arith)
-    go false b x y = absurd (let z : _≡_ {A = ℕ} 0 1 = rw x at h in omega arith)
-
   pub hearing-keeps : hearing rx xs room .taken ≡ 0 → hearing rx xs room .receiver ≡ rx
   unfolding hearing
   hearing-keeps h = go (sound rx) (eqb (length xs % 4) 0) refl refl where

@@ -1,9 +1,4 @@
-pub mod Lent
-pub mod Packing
-pub mod Held
-pub mod Back
 pub mod Ends
 pub mod Cases
-pub mod Column
 pub mod Floats
 pub mod Settled

@@ -20,13 +20,14 @@ use Rattle.samples.specs.Given.{GivenSample}
 use Rattle.samples.specs.Heard.{heardSample}
 use Rattle.sender.specs.declared.Sender.{Sender}
 use Rattle.sender.specs.Send as sender
-use Rattle.walk.specs.declared.Receiver.{Receiver}
-use Rattle.walk.specs.Machine as machine
-use Rattle.walk.specs.Told.{givenOf}
+use Rattle.machine.specs.declared.Receiver.{Receiver}
+use Rattle.machine.specs.Machine as machine
+use Rattle.machine.specs.Told.{givenOf}
 use Rattle.receiver.specs.declared.Start.{Start}
 use Rattle.receiver.specs.declared.Start.the-variants.{Free, At}
 use Rattle.receiver.specs.Doors as doors
-use Rattle.demfizagu.specs.State.{senderLength, senderIn, wordsOfSender, receiverLength, receiverIn, wordsOfReceiver}
+use Rattle.stored.specs.Layout.{senderLength, receiverLength}
+use Rattle.stored.specs.State.{senderIn, wordsOfSender, receiverIn, wordsOfReceiver}
 
 -- ---- openings
 

@@ -9,7 +9,7 @@ use lib.IntN.{ℤ}
 use lib.ListN.{length, drop}
 use Rattle.samples.specs.Given.{GivenSample}
 use Rattle.demfizagu.specs.declared.Heard.{Heard}
-use Rattle.demfizagu.specs.State.{senderIn, receiverIn}
+use Rattle.stored.specs.State.{senderIn, receiverIn}
 use Rattle.demfizagu.specs.Calls.{Opening, Sending, Call, placeOr0, Sampling, Conversion, SamplesCall}
 
 pub record Opens {End : Type 0} (read : List ℕ → End) (c : Opening End) (n : ℕ) (state : List ℕ) : Type 0 where

@@ -1,18 +1,16 @@
 // The library for C and Rust: both ends over numbers and slices only, their states in words that the caller lends.
 //
 // Each function reads the state, calls the door that it wraps, and writes the state back where it changed. A state is read as closed
-// where it is too short, its tag is another, or the record in it is not sound.
-pub mod bytes;
-pub mod state;
-
-use crate::state::load_receiver;
-use crate::state::load_sender;
-use crate::state::store_parts;
-use crate::state::store_receiver;
-use crate::state::store_sender;
+// where it is too short, its tag is another, or the record in it is not sound (crate stored).
 use receiver::Start;
 use samples::Pair;
 use samples::Sample;
+use stored::layout;
+use stored::load_receiver;
+use stored::load_sender;
+use stored::store_parts;
+use stored::store_receiver;
+use stored::store_sender;
 ghost use mathlib.Core.Path.{_≡_};
 ghost use mathlib.Core.List.{[]};
 ghost use Prim.Native.Nat.{_+_, _%_, _≤_};
@@ -21,7 +19,8 @@ ghost use lib.ListN.{length, set};
 ghost use Rattle.samples.specs.Heard.{heardSample};
 ghost use Rattle.demfizagu.specs.Calls.{senderOpening, startAt, receiverOpening, sendCall, toldOf, hearCall, finishCall, pendingIn, openIn, sampleCall, converting, samplesCall};
 ghost use Rattle.demfizagu.specs.Promise.{Opens, Sends, Answers, HeardIs, Samples, ConvertsTo, Converts};
-ghost use Rattle.demfizagu.specs.State.{senderLength, senderIn, receiverLength, receiverIn};
+ghost use Rattle.stored.specs.Layout.{senderLength, receiverLength};
+ghost use Rattle.stored.specs.State.{senderIn, receiverIn};
 
 #[no_mangle]
 pub extern "C" fn demfizagu_version() -> u32
@@ -34,21 +33,21 @@ pub extern "C" fn demfizagu_version() -> u32
 pub extern "C" fn demfizagu_sender_words() -> usize
     ensures { λ r. ⌜ r ≡ senderLength ⌝ }
 {
-    4
+    layout::SENDER_WORDS
 }
 
 #[no_mangle]
 pub extern "C" fn demfizagu_receiver_words() -> usize
     ensures { λ r. ⌜ r ≡ receiverLength ⌝ }
 {
-    279
+    layout::RECEIVER_WORDS
 }
 
 #[no_mangle]
 pub extern "C" fn demfizagu_sender_open(state: &mut [u64], u: u32) -> u32
     ensures { λ r. ⌜ Opens senderIn (senderOpening (now (state .entry)) u) r (now (state .exit)) ⌝ }
 {
-    if state.len() < 4 {
+    if state.len() < layout::SENDER_WORDS {
         return 8;
     }
     let o = sender::open_sender(u);
@@ -78,7 +77,7 @@ pub extern "C" fn demfizagu_send(state: &mut [u64], word: u32, out: &mut [i32]) 
 fn opened(state: &mut [u64], u: u32, window: u32, start: Start) -> u32
     ensures { λ r. ⌜ Opens receiverIn (receiverOpening (now (state .entry)) u window start) r (now (state .exit)) ⌝ }
 {
-    if state.len() < 279 {
+    if state.len() < layout::RECEIVER_WORDS {
         return 8;
     }
     let o = receiver::open_receiver(u, window, start);
@@ -116,8 +115,7 @@ fn tell(told: &mut [u64], taken: usize, written: usize, place: usize)
     told[2] = place as u64;
 }
 
-// The receiver is heard in its parts, so that a call copies it once. The state is written back where a symbol was taken: after one
-// symbol only the numbers, the sums and that symbol's column.
+// The receiver is heard in its parts, so that a call copies it once. The state is written back where a symbol was taken.
 #[no_mangle]
 pub extern "C" fn demfizagu_hear(
     state: &mut [u64],
@@ -134,9 +132,9 @@ pub extern "C" fn demfizagu_hear(
     let live = rx.live;
     let core = rx.core;
     let mut sums = rx.sums;
-    let mut steps = rx.steps;
+    let mut planes = rx.planes;
     let mut picks = rx.picks;
-    let a = receiver::hear_lent(live, core, piece, &mut sums, &mut steps, &mut picks, out);
+    let a = receiver::hear_lent(live, core, piece, &mut sums, &mut planes, &mut picks, out);
     let why = a.why;
     let n = receiver::number(why);
     let place = receiver::place(why);
@@ -145,7 +143,7 @@ pub extern "C" fn demfizagu_hear(
         return n;
     }
     let after = a.core;
-    store_parts(live, after, sums, &steps, &picks, core.slot, a.taken, state);
+    store_parts(live, after, sums, planes, picks, state);
     n
 }
 

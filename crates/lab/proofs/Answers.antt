@@ -20,7 +20,7 @@ use Rattle.text.specs.Bytes.{bytes}
 use Rattle.text.specs.Page.{Puts, Numeral, PutsNumber, PutsWhole, signText}
 use Rattle.text.proofs.Pages.{few}
 use Rattle.samples.specs.Given.{GivenSample}
-use Rattle.walk.specs.Told.{Reason}
+use Rattle.machine.specs.Told.{Reason}
 use Rattle.lab.specs.Answer.{decimalIn, decimal, whole, afterSpaces, numberLine, sentLine, placeText, reasonText, saidText, heardLine, pairLine, lineBy, sampleLine}
 
 -- ---- numbers

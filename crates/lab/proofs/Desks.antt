@@ -20,7 +20,7 @@ use Rattle.samples.specs.Heard.{heardCoordinate, heardBits, bothOrFault, heardS
 use Rattle.sender.specs.declared.Sender.{Sender}
 use Rattle.sender.specs.Send.{sound, after, symbolFor, four, sending, Given}
 use Rattle.wei.specs.Word.{isWord}
-use Rattle.walk.specs.Told.{givenOf}
+use Rattle.machine.specs.Told.{givenOf}
 use Rattle.receiver.specs.declared.Answer.{Answer}
 use Rattle.receiver.specs.Doors.{Ran}
 use Rattle.receiver.specs.Promise.{Is}

@@ -16,8 +16,8 @@ use Rattle.points.specs.Points.{coordinates, aPoint}
 use Rattle.points.specs.Turn.{pointOf}
 use Rattle.points.specs.Pair.{firstPoint, secondPoint}
 use Rattle.sender.specs.Send.{opening, sending, after, four}
-use Rattle.walk.specs.Machine.{shut, sound}
-use Rattle.walk.specs.Told.{reason}
+use Rattle.machine.specs.Machine.{shut, sound}
+use Rattle.machine.specs.Told.{reason}
 use Rattle.lab.specs.Answer.{decimal, whole, numberLine, sentLine, reasonText, saidText, heardLine, sampleLine}
 use Rattle.lab.specs.Desk.{closedDesk, acting}
 use Rattle.lab.specs.Line.{answering}

@@ -21,7 +21,7 @@ use lib.ListN.{length, take}
 use Rattle.text.specs.Bytes.{bytes}
 use Rattle.text.specs.Page.{signText}
 use Rattle.samples.specs.Given.{GivenSample}
-use Rattle.walk.specs.Told.{Reason}
+use Rattle.machine.specs.Told.{Reason}
 
 -- '0' is 48
 abbrev pub decimalIn : ℕ → ℕ → List ℕ

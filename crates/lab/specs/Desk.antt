@@ -20,9 +20,9 @@ use Rattle.protocol.specs.declared.Request.the-variants as request
 use Rattle.samples.specs.Heard.{heardBits, bothOrFault}
 use Rattle.sender.specs.declared.Sender.{Sender}
 use Rattle.sender.specs.Send as sender
-use Rattle.walk.specs.declared.Receiver.{Receiver}
-use Rattle.walk.specs.Machine as walk
-use Rattle.walk.specs.Told.{givenOf}
+use Rattle.machine.specs.declared.Receiver.{Receiver}
+use Rattle.machine.specs.Machine as machine
+use Rattle.machine.specs.Told.{givenOf}
 use Rattle.receiver.specs.declared.Start.the-variants.{Free, At}
 use Rattle.receiver.specs.Doors as receiver
 use Rattle.lab.specs.declared.desk.Desk.{Desk}
@@ -31,7 +31,7 @@ use Rattle.lab.specs.Room.{answerRoom}
 use Rattle.lab.specs.Answer.{numberLine, sentLine, heardLine, sampleLine, unreadLine}
 
 abbrev pub closedDesk : Desk
-closedDesk = record { sender = sender.shut; receiver = walk.shut }
+closedDesk = record { sender = sender.shut; receiver = machine.shut }
 
 pub record Result : Type 0 where
   pub desk : Desk
@@ -62,7 +62,7 @@ abbrev pub lent : ℕ → List ℤ
 lent cap = replicate cap (pos 0)
 
 abbrev pub pendingOf : Receiver → ℕ
-pendingOf rx = cond (walk.sound rx) (rx .core .pending) 0
+pendingOf rx = cond (machine.sound rx) (rx .core .pending) 0
 
 unfoldable pub acting : Desk → Request → List ℤ → Result
 acting d request.Nothing cs = says d []

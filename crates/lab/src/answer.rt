@@ -1,14 +1,14 @@
 // The answers, a line each, put into the page: what each one says is in specs/Answer.antt. Every function asks for the room that
 // its text can take, and answers with the place after it.
+use machine::Why;
 use text::page;
-use walk::Why;
 ghost use mathlib.Core.List.{_++_, map};
 ghost use mathlib.Core.Path.{_≡_};
 ghost use Prim.Native.Nat.{_+_, _≤_};
 ghost use lib.ListN.{length};
 ghost use Rattle.text.specs.Bytes.{bytes};
 ghost use Rattle.text.specs.Page.{Puts};
-ghost use Rattle.walk.specs.Told.{givenOf};
+ghost use Rattle.machine.specs.Told.{givenOf};
 ghost use Rattle.lab.specs.Answer.{decimal, whole, afterSpaces, numberLine, sentLine, placeText, reasonText, saidText, heardLine, pairLine, refusedLine, unreadLine};
 ghost use Rattle.lab.specs.Room.{wordsRoom};
 

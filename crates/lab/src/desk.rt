@@ -1,20 +1,20 @@
 // The desk: one sender and one receiver, and what each request does to them. Every function answers into the page; the desk
 // after it and the answer are those of specs/Desk.antt.
 use crate::answer;
+use machine::Receiver;
 use protocol::Request;
 use receiver::Opened;
 use receiver::Start;
 use samples::Pair;
 use samples::Sample;
 use sender::Sender;
-use walk::Receiver;
 ghost use mathlib.Core.Path.{_≡_};
 ghost use mathlib.Core.List.{[]};
 ghost use Prim.Native.Nat.{_+_, _≤_};
 ghost use lib.ListN.{length};
 ghost use Rattle.samples.specs.Heard.{heardCoordinate, heardBits, bothOrFault};
 ghost use Rattle.receiver.specs.Doors.{Opening, opening, plainOpening, hearing, finishing};
-ghost use Rattle.walk.specs.Told.{givenOf};
+ghost use Rattle.machine.specs.Told.{givenOf};
 ghost use Rattle.text.specs.Page.{Puts};
 ghost use Rattle.lab.specs.Answer.{numberLine, sampleLine};
 ghost use Rattle.lab.specs.Desk.{closedDesk, withSender, withReceiver, openingGives, ranGives, pendingOf, acting, Does, Acts};

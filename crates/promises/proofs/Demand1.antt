@@ -24,12 +24,12 @@ use lib.ListN.{length, take}
 use Rattle.trellis.specs.Measure.{Two}
 use Rattle.nearest.specs.declared.Received.{Received}
 use Rattle.nearest.specs.Line.{BothInRange}
-use Rattle.walk.specs.declared.Receiver.{Receiver}
-use Rattle.walk.specs.declared.Why.the-variants.{Done, BadWidth, BadWindow, BadStart, NoRoom, Closed}
-use Rattle.walk.specs.Machine.{opened, shut, lastWords, sound}
-use Rattle.walk.specs.Told.{Told, Reason, reason, judgeSymbol, Fine, machineOf, givenOf}
-use Rattle.walk.proofs.Owed.{sound-told}
-use Rattle.walk.proofs.Sound.{sound-live}
+use Rattle.machine.specs.declared.Receiver.{Receiver}
+use Rattle.machine.specs.declared.Why.the-variants.{Done, BadWidth, BadWindow, BadStart, NoRoom, Closed}
+use Rattle.machine.specs.Machine.{opened, shut, lastWords, sound}
+use Rattle.machine.specs.Told.{Told, Reason, reason, judgeSymbol, Fine, machineOf, givenOf}
+use Rattle.machine.proofs.Owed.{sound-told}
+use Rattle.machine.proofs.Sound.{sound-live}
 use Rattle.sender.specs.declared.Sender.{Sender}
 use Rattle.sender.specs.declared.Sent.{Sent}
 use Rattle.sender.specs.Send as sender

@@ -37,8 +37,8 @@ use Rattle.trellis.proofs.Pairs.{pairs-chooses}
 use Rattle.trellis.proofs.Clean as trellis
 use Rattle.nearest.specs.declared.Received.{Received}
 use Rattle.nearest.specs.Line.{lineDistance, lineMeasure}
-use Rattle.walk.specs.declared.Receiver.{Receiver}
-use Rattle.walk.specs.Told.{Fine, speakerOf}
+use Rattle.machine.specs.declared.Receiver.{Receiver}
+use Rattle.machine.specs.Told.{Fine, speakerOf}
 use Rattle.receiver.specs.declared.Start.{Start}
 use Rattle.receiver.specs.Given.{startOf}
 use Rattle.receiver.specs.Doors.{symbolsOf}

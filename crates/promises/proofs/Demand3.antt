@@ -22,7 +22,7 @@ use Rattle.trellis.proofs.Spoken as spoken
 use Rattle.wei.specs.Symbol.{Symbol}
 use Rattle.nearest.specs.declared.Received.{Received}
 use Rattle.nearest.specs.Line.{lineDistance, lineMeasure}
-use Rattle.walk.specs.declared.Receiver.{Receiver}
+use Rattle.machine.specs.declared.Receiver.{Receiver}
 use Rattle.receiver.specs.declared.Start.{Start}
 use Rattle.receiver.specs.Given.{startOf}
 use Rattle.promises.specs.Talk.{Talk, Ended}

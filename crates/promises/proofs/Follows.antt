@@ -21,9 +21,9 @@ use Rattle.trellis.proofs.Pairs.{pairs-chooses}
 use Rattle.trellis.proofs.Line.{wei-speaks}
 use Rattle.nearest.specs.declared.Received.{Received}
 use Rattle.nearest.specs.Line.{lineDistance, lineMeasure}
-use Rattle.walk.specs.declared.Receiver.{Receiver}
-use Rattle.walk.specs.Machine.{shut}
-use Rattle.walk.specs.Told.{Told, Reason, speakerOf, judgeOf, Fine, machineOf, givenOf, withHeard}
+use Rattle.machine.specs.declared.Receiver.{Receiver}
+use Rattle.machine.specs.Machine.{shut}
+use Rattle.machine.specs.Told.{Told, Reason, speakerOf, judgeOf, Fine, machineOf, givenOf, withHeard}
 use Rattle.receiver.specs.declared.Start.{Start}
 use Rattle.receiver.specs.declared.Answer.{Answer}
 use Rattle.receiver.specs.Given.{startOf}

@@ -3,42 +3,39 @@
 --   fine-end        every history that can be told is told by an opening and calls: its receiver is an end
 --   histories-end   for each number up to 4,294,967,295 there is an end that has taken so many
 --   full            an end to which every good symbol is one too many
--- All zeros are equally far from all points of width 0, so all sums stay equal, the first way into each state wins, and each column
+-- All zeros are equally far from all points of width 0, so all sums stay equal, the first way into each state wins, and each symbol
 -- has the same steps (`Steady`).
 use mathlib.Core.Path.{_≡_, refl, sym, ap, ap₂, subst, _∙_}
-use mathlib.Core.Bool.{Bool, true, cond}
-use mathlib.Core.List.{List, [], _∷_, map}
+use mathlib.Core.Bool.{Bool, true}
+use mathlib.Core.List.{List, [], _∷_}
 use Prim.Native.Nat.{ℕ, zero, suc, _+_, _-_, _*_, _%_, _≤_, _<_}
 use native.Mathlib.Omega.{arith}
-use borrow.Author.Tests.{lt-ltb, le-ltb, le-leb}
-use lib.Dec.{ltb}
+use native.Mathlib.Decide.{decLt}
+use borrow.Author.Tests.{le-ltb, le-leb}
 use lib.IntN.{ℤ, pos}
-use lib.ListN.{getD, length, take, replicate, length-replicate}
+use lib.ListN.{getD, length, replicate, length-replicate}
 use Rattle.wei.specs.State.{before, carryI1, carryI2, between}
 use Rattle.wei.specs.Label.{secondLabel}
 use Rattle.wei.proofs.Finite.{equal1}
 use Rattle.wei.proofs.States.{before-below, between-below}
 use Rattle.points.specs.Points.{coordinates, aPoint}
 use Rattle.points.specs.Turn.{pointOf}
-use Rattle.trellis.specs.Lists.{Every}
-use Rattle.trellis.specs.Search.{range}
-use Rattle.trellis.specs.Ring.{seen, view}
 use Rattle.trellis.specs.Measure.{Two, free, GoodStart}
 use Rattle.trellis.specs.Pick.{keepN, least, near, gapOf, typeSum, bestI3}
-use Rattle.trellis.proofs.Ring.{seen-length, push-view}
+use Rattle.planes.specs.Planes.{subsetIn, movedOf, sameAt, oldest}
+use Rattle.planes.proofs.Registers.{newest-subset, older-subset}
+use Rattle.planes.proofs.Oldest.{same-in, oldest-most}
 use Rattle.nearest.specs.declared.Received.{Received}
 use Rattle.nearest.specs.Line.{BothInRange, distance, lineDistance}
 use Rattle.nearest.specs.Found.{costOf, weighedOf}
-use Rattle.walk.specs.declared.Receiver.{Receiver}
-use Rattle.walk.specs.Select.{limit, sixteen, arrive, winner, sumAt, fromAt, stepAt, reachedOf, liveOf}
-use Rattle.walk.specs.Column.{Column, prevIn, picksOf, placed, heldOf, columnsOf, empty}
-use Rattle.walk.specs.Back.{allSubset, oneSubset, agreedFrom}
-use Rattle.walk.specs.Machine.{freshSums, opened, nextSums, nextSteps, pendingOf, agreedOf, keptOf, grown}
-use Rattle.walk.specs.Told.{Told, reason, givenOf, pendingAfter, Fine, FineList, machineAfter, machineOf, withHeard}
-use Rattle.walk.proofs.Lists.{sixteen-at, sixteen-same}
-use Rattle.walk.proofs.Slots.{held-placed}
-use Rattle.walk.proofs.Owes.{owes}
-use Rattle.walk.proofs.Owed.{width-told, kept-told, fine-told, grown-told, fine-opened, fresh-most}
+use Rattle.machine.specs.declared.Receiver.{Receiver}
+use Rattle.select.specs.Select.{limit, sixteen, arrive, winner, sumAt, firstStep, stepAt, prevIn}
+use Rattle.machine.specs.Machine.{freshSums, opened, nextSums, nextSteps, agreedOf, keptOf, grown}
+use Rattle.machine.specs.Told.{Told, reason, givenOf, pendingAfter, Fine, FineList, machineAfter, machineOf, withHeard}
+use Rattle.select.proofs.Lists.{sixteen-at, sixteen-same}
+use Rattle.select.proofs.Followed.{followed-live}
+use Rattle.machine.proofs.Owes.{owes}
+use Rattle.machine.proofs.Owed.{width-told, kept-told, fine-told, grown-told, fine-opened, fresh-most}
 use Rattle.calls.specs.Calls.{walk}
 use Rattle.receiver.specs.declared.Start.{Start}
 use Rattle.receiver.specs.declared.Start.the-variants.{Free, At}
@@ -50,7 +47,6 @@ use Rattle.receiver.specs.Promise.{Hears}
 use Rattle.receiver.proofs.Doors.{hearing-owes}
 use Rattle.promises.specs.Table as table
 use Rattle.promises.proofs.Numbers.{said-is}
-use Rattle.promises.proofs.Clean.{every-take}
 use Rattle.promises.proofs.Demand1.{seven}
 
 abbrev zeros : Two Received
@@ -100,11 +96,10 @@ module _ (v : ℕ) (small : v + 65536 < limit) where
     sum-is = ap (arrive flat costs t) wins ∙ arrives 0 (omega arith)
 
     step-is : stepAt flat costs t ≡ 8 * before t 0 + between (before t 0) t
-    unfolding stepAt fromAt
+    unfolding stepAt firstStep
     step-is =
-        let e : cond (ltb (sumAt flat costs t) limit) (before t (winner flat costs t)) 0 ≡ before t 0 =
-        rw (lt-ltb (sumAt flat costs t) limit (omega (arith, sum-is))) (ap (before t) wins) in
-        ap (λ (s : ℕ). 8 * s + between s t) e
+        ap (firstStep flat costs) (followed-live (sixteen (sumAt flat costs)) t (omega (arith, sixteen-at (sumAt flat costs) t h, sum-is)))
+        ∙ ap (λ (k : ℕ). 8 * before t k + between (before t k) t) wins
 
   sums-next : sixteen (sumAt flat costs) ≡ sixteen (λ s. v + 65536)
   sums-next = sixteen-same (sumAt flat costs) (λ s. v + 65536) sum-is
@@ -112,27 +107,19 @@ module _ (v : ℕ) (small : v + 65536 < limit) where
   steps-next : sixteen (stepAt flat costs) ≡ steps
   steps-next = sixteen-same (stepAt flat costs) (λ t. 8 * before t 0 + between (before t 0) t) step-is
 
-  all-live : liveOf (sixteen (λ s. v + 65536)) ≡ range 0 16
-  unfolding liveOf reachedOf range
-  all-live = rw (lt-ltb (v + 65536) limit small)
-
 -- ---- two stay pending
 
-abbrev Same : Column → Type 0
-Same c = c .steps ≡ steps
-
-kept-few : (cs : List Column) → Every Same cs → length cs ≤ 2 → length cs + 1 - agreedFrom cs (map (prevIn steps) (range 0 16)) (length cs) ≤ 2
-unfolding agreedFrom oneSubset allSubset range before between carryI1 carryI2
-kept-few [] e h = omega arith
-kept-few (c ∷ []) e h = rw (e .0) (omega arith)
-kept-few (c ∷ d ∷ []) e h = rw (e .0, e .1 .0) (omega arith)
-kept-few (c ∷ d ∷ x ∷ cs) e h = absurd (omega arith)
+-- two steps back all ways are in one state
+one-past : (i : ℕ) → i < 16 → getD steps (prevIn steps (prevIn steps i)) 0 % 8 ≡ getD steps (prevIn steps (prevIn steps 0)) 0 % 8
+unfolding before between carryI1 carryI2
+one-past = equal1 16 (λ i. getD steps (prevIn steps (prevIn steps i)) 0 % 8) (λ i. getD steps (prevIn steps (prevIn steps 0)) 0 % 8) tt
 
 record Steady (n : ℕ) : Type 0 where
   fine : Fine (told n)
   sums : machineOf (told n) .sums ≡ sixteen (λ s. 65536 * n)
   few : machineOf (told n) .core .pending ≤ 2
-  columns : Every Same (pendingOf (machineOf (told n)))
+  newest : (s : ℕ) → s < 16 → 1 ≤ machineOf (told n) .core .pending → subsetIn (machineOf (told n) .planes) s 0 ≡ getD steps s 0 % 8
+  older : (s : ℕ) → s < 16 → 2 ≤ machineOf (told n) .core .pending → subsetIn (machineOf (told n) .planes) s 1 ≡ getD steps (prevIn steps s) 0 % 8
 
 module _ (n : ℕ) (S : Steady n) (more : n < 4294967295) where
   abbrev rx : Receiver
@@ -153,28 +140,31 @@ module _ (n : ℕ) (S : Steady n) (more : n < 4294967295) where
   next-steps : nextSteps rx zeros ≡ steps
   next-steps = ap₂ (λ (l c : List ℕ). sixteen (stepAt l c)) (S .sums) costs-are ∙ steps-next (65536 * n) small
 
-  columns-long : length (pendingOf rx) ≡ rx .core .pending
-  columns-long = seen-length empty (heldOf (rx .core .slot) (rx .core .pending) (rx .steps) (rx .picks) .ring) (rx .core .slot) (rx .core .pending)
+  -- the states before agree on the older of two
+  one-older : 2 ≤ rx .core .pending → sameAt (rx .planes) steps 1 ≡ true
+  one-older h = same-in (rx .planes) (prevIn steps 0) 1 steps (λ i l. S .older (prevIn steps i) (omega arith) h ∙ one-past i l ∙ sym (S .older (prevIn steps 0) (omega arith) h))
 
-  agreed-is : agreedOf rx zeros ≡ agreedFrom (pendingOf rx) (map (prevIn steps) (range 0 16)) (length (pendingOf rx))
+  agrees : rx .core .pending ≡ 2 → 1 ≤ agreedOf rx zeros
   unfolding agreedOf
-  agreed-is =
-      ap₂ (λ (l s : List ℕ). agreedFrom (pendingOf rx) (map (prevIn s) (liveOf l)) (rx .core .pending)) next-sums next-steps
-      ∙ ap₂ (λ (l : List ℕ) (k : ℕ). agreedFrom (pendingOf rx) (map (prevIn steps) l) k) (all-live (65536 * n) small) (sym columns-long)
+  agrees h =
+      subst (λ (l : List ℕ). 1 ≤ oldest (sameAt (rx .planes) l) (rx .core .pending)) (sym next-steps)
+      (oldest-most (sameAt (rx .planes) steps) (rx .core .pending) 1 (omega arith) (λ q l k. ap (sameAt (rx .planes) steps) (let e : q ≡ 1 = omega arith in e) ∙ one-older (omega arith)))
 
   kept-two : keptOf rx zeros ≤ 2
-  kept-two = omega (arith, kept-few (pendingOf rx) (S .columns) (omega (arith, columns-long, S .few)), agreed-is, columns-long)
+  kept-two = go (decLt (rx .core .pending) 2)
+    where
+      go : Dec (rx .core .pending < 2) → keptOf rx zeros ≤ 2
+      go (yes h) = omega arith
+      go (no h) = omega (arith, S .few, agrees (omega (arith, S .few)))
 
-  abbrev newest : Column
-  newest = record { steps = nextSteps rx zeros; picks = picksOf (weighedOf (rx .core .u) zeros) }
+  moved-is : movedOf (rx .planes) (nextSteps rx zeros) ≡ movedOf (rx .planes) steps
+  moved-is = ap (movedOf (rx .planes)) next-steps
 
-  columns-next : columnsOf ((rx .core .slot + 1) % 64) (keptOf rx zeros) (placed (rx .steps) (rx .core .slot) (newest .steps)) (placed (rx .picks) (rx .core .slot) (newest .picks)) ≡ take (keptOf rx zeros) (newest ∷ pendingOf rx)
-  unfolding weighedOf
-  columns-next =
-      let k = owes (told n) (S .fine) .keeps in
-      let r = heldOf (rx .core .slot) (rx .core .pending) (rx .steps) (rx .picks) in
-      ap (view empty) (held-placed (rx .steps) (rx .picks) (rx .core .slot) newest (k .steps-long) (k .picks-long) (k .holds .sound .slot-below) refl refl (rx .core .pending) (keptOf rx zeros))
-      ∙ push-view empty newest (keptOf rx zeros) r (k .holds .sound) (omega (arith, kept-two)) (omega arith)
+  next-newest : (s : ℕ) → s < 16 → subsetIn (movedOf (rx .planes) (nextSteps rx zeros)) s 0 ≡ getD steps s 0 % 8
+  next-newest s h = ap (λ (l : List ℕ). subsetIn l s 0) moved-is ∙ newest-subset (rx .planes) steps s h
+
+  next-older : (s : ℕ) → s < 16 → 2 ≤ keptOf rx zeros → subsetIn (movedOf (rx .planes) (nextSteps rx zeros)) s 1 ≡ getD steps (prevIn steps s) 0 % 8
+  next-older s h k = ap (λ (l : List ℕ). subsetIn l s 1) moved-is ∙ older-subset (rx .planes) steps s h 0 (omega arith) ∙ S .newest (prevIn steps s) (omega arith) (omega arith)
 
   grown-steady : (machineOf (told (suc n)) ≡ grown rx zeros) → Steady (suc n)
   unfolding grown
@@ -183,12 +173,13 @@ module _ (n : ℕ) (S : Steady n) (more : n < 4294967295) where
         fine = fine-told (told n) (S .fine) zeros zeros-good not-many (omega (arith, kept-two, kept-told (told n) (S .fine) zeros zeros-good not-many));
         sums = ap (λ (x : Receiver). x .sums) e ∙ next-sums ∙ ap (λ (v : ℕ). sixteen (λ s. v)) (let z : 65536 * n + 65536 ≡ 65536 * suc n = omega arith in z);
         few = subst (λ (x : Receiver). x .core .pending ≤ 2) (sym e) kept-two;
-        columns = subst (λ (x : Receiver). Every Same (pendingOf x)) (sym e) (subst (Every Same) (sym columns-next) (every-take Same (keptOf rx zeros) (newest ∷ pendingOf rx) (next-steps, S .columns)));
+        newest = λ s h k. ap (λ (x : Receiver). subsetIn (x .planes) s 0) e ∙ next-newest s h;
+        older = λ s h k. ap (λ (x : Receiver). subsetIn (x .planes) s 1) e ∙ next-older s h (subst (λ (x : Receiver). 2 ≤ x .core .pending) e k);
       }
 
 steady : (n : ℕ) → n ≤ 4294967295 → Steady n
-unfolding machineAfter opened freshSums seen
-steady zero h = record { fine = fine-opened 0 64 free (omega arith) (omega arith) (omega arith) tt; sums = refl; few = omega arith; columns = tt }
+unfolding machineAfter opened freshSums
+steady zero h = record { fine = fine-opened 0 64 free (omega arith) (omega arith) (omega arith) tt; sums = refl; few = omega arith; newest = λ s l k. absurd (omega arith); older = λ s l k. absurd (omega arith) }
 steady (suc n) h =
     let s = steady n (omega arith) in
     grown-steady n s (omega arith) (grown-told (told n) (s .fine) zeros)

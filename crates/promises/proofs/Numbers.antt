@@ -16,11 +16,11 @@ use Rattle.calls.specs.Calls.{Ended, fresh, rest, after, walk}
 use Rattle.calls.proofs.Steps.{walk-heard}
 use Rattle.trellis.specs.Measure.{Two}
 use Rattle.nearest.specs.declared.Received.{Received}
-use Rattle.walk.specs.declared.Receiver.{Receiver}
-use Rattle.walk.specs.declared.Why.the-variants.{Done, BadWidth, BadWindow, BadStart, NoRoom, Closed}
-use Rattle.walk.specs.Machine.{opened, shut, lastWords, sound}
-use Rattle.walk.specs.Told.{Told, Reason, reason, speakerOf, judgeOf, judgeSymbol, pendingAfter, faultOf, Fine, machineOf, withHeard}
-use Rattle.walk.proofs.Owed.{no-fault}
+use Rattle.machine.specs.declared.Receiver.{Receiver}
+use Rattle.machine.specs.declared.Why.the-variants.{Done, BadWidth, BadWindow, BadStart, NoRoom, Closed}
+use Rattle.machine.specs.Machine.{opened, shut, lastWords, sound}
+use Rattle.machine.specs.Told.{Told, Reason, reason, speakerOf, judgeOf, judgeSymbol, pendingAfter, faultOf, Fine, machineOf, withHeard}
+use Rattle.machine.proofs.Owed.{no-fault}
 use Rattle.sender.specs.declared.Sender.{Sender}
 use Rattle.sender.specs.Send as sender
 use Rattle.sender.proofs.Sound.{end-sound}

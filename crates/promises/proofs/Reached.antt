@@ -22,17 +22,17 @@ use Rattle.points.specs.Turn.{pointOf}
 use Rattle.trellis.specs.Measure.{free}
 use Rattle.trellis.specs.Pick.{least, near, gapOf, typeSum, bestI3}
 use Rattle.trellis.specs.Search.{range}
-use Rattle.trellis.specs.Ring.{seen}
 use Rattle.trellis.specs.Speak.{speak, after}
 use Rattle.nearest.specs.Line.{distance, lineDistance}
 use Rattle.nearest.specs.Found.{costOf, weighedOf}
-use Rattle.walk.specs.declared.Receiver.{Receiver}
-use Rattle.walk.specs.declared.Why.{Why}
-use Rattle.walk.specs.Select.{arrive, winner, sumAt, fromAt, stepAt, reachedOf, liveOf}
-use Rattle.walk.specs.Column.{ringOf}
-use Rattle.walk.specs.Back.{allSubset, oneSubset, agreedFrom}
-use Rattle.walk.specs.Machine.{freshSums, opened, shut, agreedOf, releasedOf, grown, taking, allUpTo, soundCore, sound}
-use Rattle.walk.specs.Told.{givenOf, faultOf}
+use Rattle.machine.specs.declared.Receiver.{Receiver}
+use Rattle.machine.specs.declared.Why.{Why}
+use Rattle.lists.specs.Tabled.{tabled}
+use Rattle.planes.specs.Planes.{movedOf, sameFrom, oldest}
+use Rattle.select.specs.Select.{arrive, winner, sumAt, firstStep, reachedOf, liveOf, followed, stepAt}
+use Rattle.machine.specs.Machine.{freshSums, opened, shut, wayFrom, agreedOf, releasedOf, grown, taking, soundCore, sound}
+use Rattle.select.specs.Select.{allUpTo}
+use Rattle.machine.specs.Told.{givenOf, faultOf}
 use Rattle.sender.specs.Send as sender
 use Rattle.receiver.specs.declared.Start.the-variants.{Free, At}
 use Rattle.receiver.specs.Doors.{opening, Ran, symbolAt, running, hearing, finishing}
@@ -71,7 +71,7 @@ sample-reached = refl
 abbrev many : Receiver
 many =
     let rx = opened 0 64 free in
-    record { live = true; core = record { u = 0; window = 64; taken = 4294967295; turn = 0; slot = 0; pending = 0 }; sums = rx .sums; steps = rx .steps; picks = rx .picks }
+    record { live = true; core = record { u = 0; window = 64; taken = 4294967295; turn = 0; slot = 0; pending = 0 }; sums = rx .sums; planes = rx .planes; picks = rx .picks }
 
 pub many-reached : row (hearing many zeros 0) ≡ 7 ∷ 0 ∷ 0 ∷ 0 ∷ []
 unfolding hearing sound soundCore allUpTo opened freshSums running symbolAt faultOf taking
@@ -83,5 +83,5 @@ many-reached = refl
 pub machine-reached : (row (hearing (opened 0 1 free) (replicate 8 (pos 128)) 0) ≡ 6 ∷ 0 ∷ 1 ∷ 0 ∷ [])
     × (row (hearing (opened 0 64 free) (replicate 4 (pos 8192) ++ zeros) 0) ≡ 8 ∷ 0 ∷ 1 ∷ 0 ∷ [])
     × (row (finishing (hearing (opened 0 64 free) zeros 0 .receiver) 0) ≡ 8 ∷ 0 ∷ 0 ∷ 0 ∷ [])
-unfolding hearing finishing sound soundCore allUpTo opened freshSums running symbolAt faultOf taking agreedOf grown releasedOf agreedFrom oneSubset allSubset liveOf reachedOf sumAt stepAt fromAt winner arrive weighedOf costOf bestI3 typeSum gapOf near least lineDistance distance pointOf aPoint coordinates secondLabel before between carryI1 carryI2 ringOf seen range speak after
+unfolding hearing finishing sound soundCore allUpTo opened freshSums running symbolAt faultOf taking agreedOf grown releasedOf oldest sameFrom movedOf tabled followed liveOf reachedOf sumAt stepAt firstStep winner arrive weighedOf costOf bestI3 typeSum gapOf near least lineDistance distance pointOf aPoint coordinates secondLabel before between carryI1 carryI2 wayFrom range speak after
 machine-reached = (refl, refl, refl)

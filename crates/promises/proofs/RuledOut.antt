@@ -5,10 +5,10 @@
 --   five-release-one   one that holds all words until finish: of five symbols (A,A) after the start 0 the first is released by `hear`
 --   zero-one-back      one that decodes the first symbol and repeats it: after words 0 and 1 on a clean line, finish writes 0, 1
 --   counts-true        one that reports made-up counts: for every input they are the change of what is heard and of what is spoken
-use mathlib.Core.Path.{_≡_, refl, sym, ap, subst, _∙_}
+use mathlib.Core.Path.{_≡_, refl, sym, ap, _∙_}
 use mathlib.Core.Bool.{Bool, true, false, cond}
 use mathlib.Core.List.{List, [], _∷_, _++_}
-use Prim.Native.Nat.{ℕ, suc, _+_, _-_, _%_}
+use Prim.Native.Nat.{ℕ, _+_, _-_, _%_}
 use native.Mathlib.Omega.{arith}
 use lib.Dec.{eqb}
 use lib.IntN.{ℤ, pos, negℤ}
@@ -20,25 +20,24 @@ use Rattle.wei.specs.State.{before, carryI1, carryI2, between}
 use Rattle.wei.specs.Label.{secondLabel}
 use Rattle.points.specs.Points.{aPoint, coordinates}
 use Rattle.points.specs.Turn.{pointOf}
-use Rattle.trellis.specs.Columns.{trail}
 use Rattle.trellis.specs.Measure.{Two, free, named}
 use Rattle.trellis.specs.Pick.{least, near, gapOf, typeSum, bestI3}
 use Rattle.trellis.specs.Search.{range}
-use Rattle.trellis.specs.Ring.{seen}
 use Rattle.trellis.specs.Speak.{speak}
 use Rattle.trellis.specs.Speak as trellis
 use Rattle.trellis.specs.Words.{word, wordParts}
 use Rattle.nearest.specs.declared.Received.{Received}
 use Rattle.nearest.specs.Line.{distance, lineDistance}
 use Rattle.nearest.specs.Found.{costOf, weighedOf}
-use Rattle.walk.specs.declared.Receiver.{Receiver}
-use Rattle.walk.specs.Select.{arrive, winner, sumAt, fromAt, stepAt, reachedOf, liveOf}
-use Rattle.walk.specs.Column.{symbolIn, read, ringOf}
-use Rattle.walk.specs.Back.{allSubset, oneSubset, agreedFrom}
-use Rattle.walk.specs.Machine.{freshSums, opened, shut, agreedOf, releasedOf, grown, taking, endOf, lastSymbols, allUpTo, soundCore, sound}
-use Rattle.walk.specs.Told.{Told, withHeard, Reason, reason, givenOf, faultOf, speakerOf, judgeSymbol, judgeOf, Fine, machineOf}
+use Rattle.lists.specs.Tabled.{tabled}
+use Rattle.planes.specs.Planes.{movedOf, sameFrom, oldest}
+use Rattle.select.specs.Select.{arrive, winner, sumAt, firstStep, reachedOf, liveOf, followed, stepAt}
+use Rattle.picks.specs.Picks.{numbersOf, symbolBy, keptIn}
+use Rattle.machine.specs.Machine.{freshSums, opened, wayFrom, agreedOf, releasedOf, grown, taking, lastSymbols, soundCore, sound}
+use Rattle.select.specs.Select.{endOf, allUpTo}
+use Rattle.machine.specs.Told.{Told, withHeard, Reason, reason, faultOf, speakerOf, judgeSymbol, judgeOf, Fine}
 use Rattle.receiver.specs.declared.Answer.{Answer}
-use Rattle.receiver.specs.Doors.{Ran, symbolsOf, symbolAt, running, hearing, finishing}
+use Rattle.receiver.specs.Doors.{symbolsOf, symbolAt, running, hearing, finishing}
 use Rattle.receiver.specs.Meaning.{Owed, endedOf, pieceOwed}
 use Rattle.receiver.specs.Promise.{Hears, Finishes}
 use Rattle.promises.proofs.Follows.{speaks}
@@ -51,7 +50,7 @@ computed : (hearing (opened 0 64 free) (replicate 4 (pos 0)) 0 .taken ≡ 1)
     × (finishing (hearing (opened 0 64 (named 0)) clean-one 1 .receiver) 1 .words ≡ 1 ∷ [])
     × (finishing (hearing (opened 0 64 (named 0)) (replicate 4 (pos 128) ++ clean-one) 2 .receiver) 2 .words ≡ 0 ∷ 1 ∷ [])
     × (hearing (opened 0 64 (named 0)) (replicate 20 (pos 128)) 5 .words ≡ 0 ∷ [])
-unfolding hearing finishing sound soundCore allUpTo opened freshSums running symbolAt faultOf taking agreedOf grown releasedOf agreedFrom oneSubset allSubset liveOf reachedOf sumAt stepAt fromAt winner arrive weighedOf costOf bestI3 typeSum gapOf near least lineDistance distance pointOf aPoint coordinates secondLabel before between carryI1 carryI2 ringOf seen range speak trellis.after endOf lastSymbols trail read symbolIn word wordParts packed
+unfolding hearing finishing sound soundCore allUpTo opened freshSums running symbolAt faultOf taking agreedOf grown releasedOf oldest sameFrom movedOf tabled followed liveOf reachedOf sumAt stepAt firstStep winner arrive weighedOf costOf bestI3 typeSum gapOf near least lineDistance distance pointOf aPoint coordinates secondLabel before between carryI1 carryI2 wayFrom range speak trellis.after endOf lastSymbols symbolBy numbersOf keptIn word wordParts packed
 computed = (refl, refl, refl, refl)
 
 -- all zeros once, into no room

@@ -19,7 +19,7 @@ use Rattle.calls.specs.Calls.{fresh, rest}
 use Rattle.trellis.specs.Measure.{Two}
 use Rattle.nearest.specs.declared.Received.{Received}
 use Rattle.nearest.specs.Line.{BothInRange}
-use Rattle.walk.specs.Told.{Told, Reason, reason, speakerOf, pendingAfter, faultOf}
+use Rattle.machine.specs.Told.{Told, Reason, reason, speakerOf, pendingAfter, faultOf}
 use Rattle.sender.specs.declared.Sender.{Sender}
 use Rattle.receiver.specs.declared.Start.{Start}
 use Rattle.receiver.specs.declared.Start.the-variants.{At}

@@ -10,8 +10,8 @@ use lib.IntN.{ℤ}
 use lib.ListN.{take}
 use Rattle.trellis.specs.Measure.{Two}
 use Rattle.nearest.specs.declared.Received.{Received}
-use Rattle.walk.specs.declared.Receiver.{Receiver}
-use Rattle.walk.specs.Told.{givenOf}
+use Rattle.machine.specs.declared.Receiver.{Receiver}
+use Rattle.machine.specs.Told.{givenOf}
 use Rattle.receiver.specs.declared.Start.{Start}
 use Rattle.receiver.specs.declared.Opened.{Opened}
 use Rattle.receiver.specs.declared.Answer.{Answer}

@@ -13,20 +13,21 @@ use lib.IntN.{ℤ}
 use lib.ListN.{length, take, drop}
 use Rattle.calls.specs.Calls.{rest}
 use Rattle.trellis.specs.Words.{wordsFrom}
-use Rattle.walk.specs.declared.Core.{Core}
-use Rattle.walk.specs.declared.Receiver.{Receiver}
-use Rattle.walk.specs.declared.Why.the-variants.{Done, NoRoom, Closed, Uneven}
-use Rattle.walk.specs.Machine.{shut, endOf, lastWords, sound}
-use Rattle.walk.specs.Taken.{wayFrom}
-use Rattle.walk.specs.Told.{Told, Reason, reason, speakerOf, Fine, machineOf, givenOf, withHeard}
-use Rattle.walk.proofs.Owed.{machine-same, sound-told, last-told, rest-many}
-use Rattle.walk.proofs.Finish.{last-many, last-from}
-use Rattle.walk.proofs.Sound.{sound-live}
+use Rattle.machine.specs.declared.Core.{Core}
+use Rattle.machine.specs.declared.Receiver.{Receiver}
+use Rattle.machine.specs.declared.Why.the-variants.{Done, NoRoom, Closed, Uneven}
+use Rattle.machine.specs.Machine.{shut, lastWords, sound}
+use Rattle.select.specs.Select.{endOf}
+use Rattle.machine.specs.Machine.{wayFrom}
+use Rattle.machine.specs.Told.{Told, reason, speakerOf, Fine, machineOf, givenOf, withHeard}
+use Rattle.machine.proofs.Owed.{machine-same, sound-told, last-told, rest-many}
+use Rattle.machine.proofs.Finish.{last-many, last-from}
+use Rattle.machine.proofs.Sound.{sound-live}
 use Rattle.receiver.specs.declared.Answer.{Answer}
 use Rattle.receiver.specs.declared.Heard.{Heard}
 use Rattle.receiver.specs.Doors.{symbolsOf, Ran, stopped, running, hearing, finishing, End, heard, finished}
 use Rattle.receiver.specs.Meaning.{Owed, endedOf, pieceOwed, FinishOwed, finishOwed}
-use Rattle.receiver.specs.Promise.{Is, partsOf, answerOf, Owes, Hears, EndOwes, Finishes}
+use Rattle.receiver.specs.Promise.{Is, partsOf, answerOf, Hears, Finishes}
 use Rattle.receiver.proofs.Pieces.{walked, RunsAs, runs}
 
 -- ---- a piece
@@ -124,7 +125,7 @@ module _ (rx : Receiver) (out : List ℕ) where
   finish-full e h = rw (e, lt-ltb (length out) (rx .core .pending) h) (record { receiver = refl; taken = refl; written = refl; given = refl; output = refl })
 
   pub finish-done : sound rx ≡ true → rx .core .pending ≤ length out → (s : ℕ) → s ≡ endOf (rx .sums) → (o : List ℕ) →
-      o ≡ wordsFrom (rx .core .u) (rx .core .turn) (take (rx .core .pending) (wayFrom (rx .core) (rx .steps) (rx .picks) s)) ++ drop (rx .core .pending) out →
+      o ≡ wordsFrom (rx .core .u) (rx .core .turn) (take (rx .core .pending) (wayFrom (rx .core) (rx .planes) (rx .picks) s)) ++ drop (rx .core .pending) out →
       Is (finishing rx (length out)) out (record { receiver = shut; taken = 0; written = rx .core .pending; why = Done }) o
   unfolding finishing
   finish-done e h s k o w =
@@ -144,9 +145,9 @@ module _ (rx : Receiver) (out : List ℕ) where
   hear-is xs e z r o is = rw (e, eq-eqb (length xs % 4) 0 z) is
 
 -- an open receiver is live
-pub hear-parts : (live : Bool) (core : Core) (sums steps picks out : List ℕ) (xs : List ℤ) (e : sound (partsOf live core sums steps picks) ≡ true) → length xs % 4 ≡ 0 → (h : Heard) (sums₁ steps₁ picks₁ o : List ℕ)
-    → Is (running (symbolsOf xs) (partsOf true core sums steps picks) 0 [] (length out)) out (answerOf true h sums₁ steps₁ picks₁) o
-    → Is (hearing (partsOf live core sums steps picks) xs (length out)) out (answerOf live h sums₁ steps₁ picks₁) o
-hear-parts live core sums steps picks out xs e z h sums₁ steps₁ picks₁ o is =
-    hear-is (partsOf live core sums steps picks) out xs e z (answerOf live h sums₁ steps₁ picks₁) o
-    (subst (λ (b : Bool). Is (running (symbolsOf xs) (partsOf b core sums steps picks) 0 [] (length out)) out (answerOf b h sums₁ steps₁ picks₁) o) (sym (sound-live (partsOf live core sums steps picks) e)) is)
+pub hear-parts : (live : Bool) (core : Core) (sums planes picks out : List ℕ) (xs : List ℤ) (e : sound (partsOf live core sums planes picks) ≡ true) → length xs % 4 ≡ 0 → (h : Heard) (sums₁ planes₁ picks₁ o : List ℕ)
+    → Is (running (symbolsOf xs) (partsOf true core sums planes picks) 0 [] (length out)) out (answerOf true h sums₁ planes₁ picks₁) o
+    → Is (hearing (partsOf live core sums planes picks) xs (length out)) out (answerOf live h sums₁ planes₁ picks₁) o
+hear-parts live core sums planes picks out xs e z h sums₁ planes₁ picks₁ o is =
+    hear-is (partsOf live core sums planes picks) out xs e z (answerOf live h sums₁ planes₁ picks₁) o
+    (subst (λ (b : Bool). Is (running (symbolsOf xs) (partsOf b core sums planes picks) 0 [] (length out)) out (answerOf b h sums₁ planes₁ picks₁) o) (sym (sound-live (partsOf live core sums planes picks) e)) is)

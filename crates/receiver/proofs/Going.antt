@@ -2,7 +2,7 @@
 --   Going     what was taken and written so far leads to the same end as the whole piece
 --   start, go-on, stop, end
 use mathlib.Core.Path.{_≡_, refl, sym, ap, _∙_}
-use mathlib.Core.Bool.{Bool, true, false, cond}
+use mathlib.Core.Bool.{true, false, cond}
 use mathlib.Core.List.{List, [], _∷_, _++_, append-nil}
 use Prim.Native.Nat.{ℕ, suc, _+_, _-_, _%_, _<_, _≤_}
 use native.Mathlib.Nat.{add-zero}
@@ -13,18 +13,17 @@ use lib.ListN.{getD, length, take, drop, length-drop, take-append-drop, drop-of-
 use lib.Seq.{length-take-le, drop-cons}
 use Rattle.trellis.specs.Measure.{Two}
 use Rattle.nearest.specs.declared.Received.{Received}
-use Rattle.walk.specs.declared.Core.{Core}
-use Rattle.walk.specs.declared.Receiver.{Receiver}
-use Rattle.walk.specs.declared.Took.{Took}
-use Rattle.walk.specs.declared.Why.{Why}
-use Rattle.walk.specs.declared.Why.the-variants.{Done}
-use Rattle.walk.specs.Machine.{Outcome, sound}
-use Rattle.walk.specs.Told.{reason, givenOf}
+use Rattle.machine.specs.declared.Receiver.{Receiver}
+use Rattle.machine.specs.declared.Took.{Took}
+use Rattle.machine.specs.declared.Why.{Why}
+use Rattle.machine.specs.declared.Why.the-variants.{Done}
+use Rattle.machine.specs.Machine.{Outcome, sound}
+use Rattle.machine.specs.Told.{reason, givenOf}
 use Rattle.receiver.specs.Doors.{symbolFrom, symbolsOf, symbolAt, Ran, isDone, running}
 use Rattle.receiver.specs.Promise.{Is}
-use Rattle.walk.specs.Taken.{whole, TookIs}
+use Rattle.machine.specs.Taken.{whole, TookIs}
 use Rattle.receiver.proofs.Kept.{symbol-refused, symbol-sound, done-given}
-use Rattle.receiver.proofs.Lent.{part, back-is, front, lent-fits, back-take, back-drop, back-length}
+use Rattle.receiver.proofs.Lent.{part, back-is, lent-fits, back-take, back-drop, back-length}
 
 pub record Going (xs : List ℤ) (out₀ : List ℕ) (rx₀ : Receiver) (out : List ℕ) (rx : Receiver) (taken written : ℕ) (why : Why) (i : ℕ) : Type 0 where
   pub even : length xs % 4 ≡ 0
@@ -64,8 +63,8 @@ module _ (y : Two Received) (zs : List (Two Received)) (rx : Receiver) (n : ℕ)
 
 module _ (xs : List ℤ) (out₀ : List ℕ) (rx₀ : Receiver) (out : List ℕ) (rx : Receiver) (taken w : ℕ) (why : Why) (i : ℕ) (g : Going xs out₀ rx₀ out rx taken w why i) (more : i < length xs)
     (x0 x1 x2 x3 : ℤ) (e0 : x0 ≡ getD xs i (pos 0)) (e1 : x1 ≡ getD xs (i + 1) (pos 0)) (e2 : x2 ≡ getD xs (i + 2) (pos 0)) (e3 : x3 ≡ getD xs (i + 3) (pos 0))
-    (r : Took) (sums steps picks ys : List ℕ)
-    (is : TookIs (symbolAt rx (symbolFrom x0 x1 x2 x3) (length (take (length out - w) (drop w out)))) r sums steps picks (take (length out - w) (drop w out)) ys)
+    (r : Took) (sums planes picks ys : List ℕ)
+    (is : TookIs (symbolAt rx (symbolFrom x0 x1 x2 x3) (length (take (length out - w) (drop w out)))) r sums planes picks (take (length out - w) (drop w out)) ys)
     (kept : length ys ≡ length (take (length out - w) (drop w out))) where
   abbrev y : Two Received
   y = symbolFrom x0 x1 x2 x3
@@ -91,7 +90,7 @@ module _ (xs : List ℤ) (out₀ : List ℕ) (rx₀ : Receiver) (out : List ℕ)
   pub more-length : length (take w out ++ (ys ++ drop (length out - w) (drop w out))) ≡ length out₀
   more-length = back-length out out₀ (o .words) ys w (g .long) (g .room) (g .rest) (is .out) kept
 
-  pub go-on : isDone (r .why) ≡ true → Going xs out₀ rx₀ (take w out ++ (ys ++ drop (length out - w) (drop w out))) (whole (r .core) sums steps picks) (taken + 1) (w + r .written) (r .why) (i + 4)
+  pub go-on : isDone (r .why) ≡ true → Going xs out₀ rx₀ (take w out ++ (ys ++ drop (length out - w) (drop w out))) (whole (r .core) sums planes picks) (taken + 1) (w + r .written) (r .why) (i + 4)
   go-on done =
       record {
         even = g .even;
@@ -109,7 +108,7 @@ module _ (xs : List ℤ) (out₀ : List ℕ) (rx₀ : Receiver) (out : List ℕ)
             ∙ rw (is .written, back-take out out₀ (o .words) ys w (g .long) (g .room) (g .rest) (is .out) kept, is .receiver);
       }
 
-  pub stop : isDone (r .why) ≡ false → Is (running (symbolsOf xs) rx₀ 0 [] (length out₀)) out₀ (record { receiver = whole (r .core) sums steps picks; taken = taken; written = w + r .written; why = r .why })
+  pub stop : isDone (r .why) ≡ false → Is (running (symbolsOf xs) rx₀ 0 [] (length out₀)) out₀ (record { receiver = whole (r .core) sums planes picks; taken = taken; written = w + r .written; why = r .why })
       (take w out ++ (ys ++ drop (length out - w) (drop w out)))
   stop no-more =
       let d : isDone (o .why) ≡ false = ap isDone (sym (is .why)) ∙ no-more in

@@ -13,15 +13,15 @@ use lib.ListN.{length}
 use Rattle.trellis.specs.Measure.{Two}
 use Rattle.nearest.specs.declared.Received.{Received}
 use Rattle.nearest.specs.Line.{BothInRange}
-use Rattle.walk.specs.declared.Core.{Core}
-use Rattle.walk.specs.declared.Receiver.{Receiver}
-use Rattle.walk.specs.declared.Took.{Took}
-use Rattle.walk.specs.declared.Why.{Why}
-use Rattle.walk.specs.declared.Why.the-variants.{Done, BadWidth, BadWindow, BadStart, BadSample, Full, TooMany, NoRoom, Closed, Uneven}
-use Rattle.walk.specs.Machine.{Outcome, taking, agreedOf, keptOf, sound}
-use Rattle.walk.specs.Taken.{whole, TookIs}
-use Rattle.walk.specs.Told.{reason, givenOf, faultOf}
-use Rattle.walk.proofs.Sound.{grown-sound}
+use Rattle.machine.specs.declared.Core.{Core}
+use Rattle.machine.specs.declared.Receiver.{Receiver}
+use Rattle.machine.specs.declared.Took.{Took}
+use Rattle.machine.specs.declared.Why.{Why}
+use Rattle.machine.specs.declared.Why.the-variants.{Done, BadWidth, BadWindow, BadStart, BadSample, Full, TooMany, NoRoom, Closed, Uneven}
+use Rattle.machine.specs.Machine.{Outcome, taking, agreedOf, keptOf, sound}
+use Rattle.machine.specs.Taken.{whole, TookIs}
+use Rattle.machine.specs.Told.{reason, givenOf, faultOf}
+use Rattle.machine.proofs.Sound.{grown-sound}
 use Rattle.receiver.specs.Doors.{symbolAt, isDone}
 use Rattle.receiver.proofs.Symbols.{no-fault}
 
@@ -72,23 +72,23 @@ done-given w e = go w (eqb-true (givenOf w .number) 0 e)
 
 -- ---- one symbol, as the code has it
 
-module _ (core : Core) (sums steps picks before : List ℕ) (y : Two Received) (place : ℕ) (e : place ≡ faultOf y) where
+module _ (core : Core) (sums planes picks before : List ℕ) (y : Two Received) (place : ℕ) (e : place ≡ faultOf y) where
   abbrev here : Outcome
-  here = symbolAt (whole core sums steps picks) y (length before)
+  here = symbolAt (whole core sums planes picks) y (length before)
 
-  pub faulty-took : place < 4 → TookIs here (record { core = core; written = 0; why = BadSample place }) sums steps picks before before
+  pub faulty-took : place < 4 → TookIs here (record { core = core; written = 0; why = BadSample place }) sums planes picks before before
   unfolding symbolAt
   faulty-took h =
       rw (lt-ltb (faultOf y) 4 (omega arith))
       (record { receiver = refl; why = ap BadSample e; written = refl; out = refl })
 
-  pub good-taking : 4 ≤ place → (here ≡ taking (whole core sums steps picks) y (length before)) × BothInRange y
+  pub good-taking : 4 ≤ place → (here ≡ taking (whole core sums planes picks) y (length before)) × BothInRange y
   unfolding symbolAt
   good-taking h =
       let l : ltb (faultOf y) 4 ≡ false = le-ltb (faultOf y) 4 (omega arith) in
       (rw l, no-fault y l)
 
-  pub good-took : (z : Two Received) → z ≡ y → 4 ≤ place → (r : Took) (sums₁ steps₁ picks₁ after : List ℕ) →
-      TookIs (taking (whole core sums steps picks) z (length before)) r sums₁ steps₁ picks₁ before after → TookIs here r sums₁ steps₁ picks₁ before after
-  good-took z k h r sums₁ steps₁ picks₁ after is =
-      subst (λ (o : Outcome). TookIs o r sums₁ steps₁ picks₁ before after) (ap (λ (x : Two Received). taking (whole core sums steps picks) x (length before)) k ∙ sym (good-taking h .0)) is
+  pub good-took : (z : Two Received) → z ≡ y → 4 ≤ place → (r : Took) (sums₁ planes₁ picks₁ after : List ℕ) →
+      TookIs (taking (whole core sums planes picks) z (length before)) r sums₁ planes₁ picks₁ before after → TookIs here r sums₁ planes₁ picks₁ before after
+  good-took z k h r sums₁ planes₁ picks₁ after is =
+      subst (λ (o : Outcome). TookIs o r sums₁ planes₁ picks₁ before after) (ap (λ (x : Two Received). taking (whole core sums planes picks) x (length before)) k ∙ sym (good-taking h .0)) is

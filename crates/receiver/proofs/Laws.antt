@@ -1,42 +1,39 @@
 -- What callers of the doors may rely on, beside the promises.
 --   hears-fit, finishes-fit     a call writes no more words than the room it was lent
 --   piece-below, finish-below   every word has 3 + 2u bits
---   finish-most                 a finish writes at most 64 words; for one symbol see `fresh-most` of walk
+--   finish-most                 a finish writes at most 64 words; for one symbol see `fresh-most` of machine
 --   never-short                 with room for all pending words and the piece's own, no piece is refused with 8
-use mathlib.Core.Path.{_≡_, refl, sym, ap, subst, _∙_}
+use mathlib.Core.Path.{_≡_, refl, sym, ap, _∙_}
 use mathlib.Core.Bool.{Bool, true, false, cond}
-use mathlib.Core.List.{List, [], _∷_, _++_, map}
-use Prim.Native.Nat.{ℕ, suc, _+_, _-_, _*_, _^_, _%_, _≤_, _<_}
-use native.Mathlib.Nat.{sub-zero}
+use mathlib.Core.List.{List, [], _∷_, _++_}
+use Prim.Native.Nat.{ℕ, _+_, _-_, _*_, _^_, _%_, _≤_, _<_}
 use native.Mathlib.Omega.{arith}
 use borrow.Author.Tests.{eqb-true, ltb-true, ltb-false, leb-false}
 use lib.Dec.{eqb, leb, ltb}
 use lib.IntN.{ℤ}
 use lib.ListN.{length, take, drop, length-append, length-take}
 use lib.Seq.{drop-at}
-use Rattle.calls.specs.Calls.{Ended, walk, after, fresh, rest}
+use Rattle.calls.specs.Calls.{walk, after, fresh, rest}
 use Rattle.calls.proofs.Steps.{walk-said}
-use Rattle.trellis.specs.Columns.{trail}
 use Rattle.trellis.specs.Lists.{Every}
 use Rattle.trellis.specs.Measure.{Two}
 use Rattle.trellis.specs.Pick.{bestOf}
 use Rattle.trellis.specs.Words.{word, wordsFrom, turnAfter}
 use Rattle.trellis.proofs.Pairs.{pairs-chooses}
 use Rattle.trellis.proofs.Speak.{speak-length}
+use Rattle.trellis.proofs.Lists.{every-drop}
 use Rattle.trellis.proofs.Spoken.{spoken-below}
 use Rattle.nearest.specs.declared.Received.{Received}
 use Rattle.nearest.specs.Line.{BothInRange, lineDistance, lineMeasure}
-use Rattle.walk.specs.declared.Receiver.{Receiver}
-use Rattle.walk.specs.declared.Why.the-variants.{Done, NoRoom, Closed, Uneven}
-use Rattle.walk.specs.Select.{liveOf}
-use Rattle.walk.specs.Column.{prevIn, read}
-use Rattle.walk.specs.Machine.{Outcome, shut, nextSums, nextSteps, pendingOf, headOf, taking, agreedOf, keptOf, releasedOf, lastWords, sound}
-use Rattle.walk.specs.Told.{Told, withHeard, Reason, reason, speakerOf, pendingAfter, faultOf, judgeSymbol, judgeOf, Fine, machineOf}
-use Rattle.walk.proofs.Lists.{every-drop}
-use Rattle.walk.proofs.Finish.{last-many}
-use Rattle.walk.proofs.Owed.{speaks, fresh-kept, rest-below, rest-most}
+use Rattle.machine.specs.declared.Receiver.{Receiver}
+use Rattle.machine.specs.declared.Why.the-variants.{Done, NoRoom, Closed, Uneven}
+use Rattle.select.specs.Select.{prevIn}
+use Rattle.machine.specs.Machine.{Outcome, shut, nextSteps, wayFrom, taking, agreedOf, keptOf, releasedOf, lastWords, sound}
+use Rattle.machine.specs.Told.{Told, withHeard, reason, speakerOf, pendingAfter, faultOf, judgeSymbol, judgeOf, Fine}
+use Rattle.machine.proofs.Finish.{last-many}
+use Rattle.machine.proofs.Owed.{speaks, fresh-kept, rest-below, rest-most}
 use Rattle.receiver.specs.declared.Answer.{Answer}
-use Rattle.receiver.specs.Doors.{symbolsOf, symbolAt, Ran, isDone, stopped, running, hearing, finishing}
+use Rattle.receiver.specs.Doors.{symbolsOf, symbolAt, isDone, stopped, running, hearing, finishing}
 use Rattle.receiver.specs.Meaning.{Owed, endedOf, pieceOwed, FinishOwed, finishOwed}
 use Rattle.receiver.specs.Promise.{Hears, Finishes}
 use Rattle.receiver.proofs.Symbols.{no-fault, symbol-judged}
@@ -54,7 +51,7 @@ module _ (rx : Receiver) (y : Two Received) (room : ℕ) where
   released-few : length (wordsFrom (rx .core .u) (rx .core .turn) (releasedOf rx y)) ≤ agreedOf rx y
   unfolding releasedOf
   released-few =
-      let way = trail (map (read (rx .core .u)) (pendingOf rx)) (prevIn (nextSteps rx y) (headOf (liveOf (nextSums rx y)))) in
+      let way = wayFrom (rx .core) (rx .planes) (rx .picks) (prevIn (nextSteps rx y) 0) in
       omega (arith, speak-length turnAfter (word (rx .core .u)) (rx .core .turn) (take (agreedOf rx y) way), length-take (agreedOf rx y) way)
 
   symbol-few : Few (symbolAt rx y room)

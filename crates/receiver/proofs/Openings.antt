@@ -14,13 +14,13 @@ use lib.ListN.{getD, set, length-set}
 use lib.Seq.{ext-getD}
 use Rattle.wei.proofs.Finite.{equal2}
 use Rattle.trellis.specs.Measure.{GoodStart, named}
-use Rattle.walk.specs.declared.Receiver.{Receiver}
-use Rattle.walk.specs.declared.Why.{Why}
-use Rattle.walk.specs.declared.Why.the-variants.{Done, BadWidth, BadWindow, BadStart}
-use Rattle.walk.specs.Select.{limit, sixteen}
-use Rattle.walk.specs.Machine.{freshSums, opened, shut}
-use Rattle.walk.specs.Told.{Told, Reason, Fine, machineAfter, machineOf, givenOf}
-use Rattle.walk.proofs.Owed.{unheard, fine-opened, opened-told}
+use Rattle.machine.specs.declared.Receiver.{Receiver}
+use Rattle.machine.specs.declared.Why.{Why}
+use Rattle.machine.specs.declared.Why.the-variants.{Done, BadWidth, BadWindow, BadStart}
+use Rattle.select.specs.Select.{limit, sixteen}
+use Rattle.machine.specs.Machine.{freshSums, opened, shut}
+use Rattle.machine.specs.Told.{Told, Reason, Fine, machineAfter, machineOf, givenOf}
+use Rattle.machine.proofs.Owed.{unheard, fine-opened, opened-told}
 use Rattle.receiver.specs.declared.Start.{Start}
 use Rattle.receiver.specs.declared.Start.the-variants.{Free, At}
 use Rattle.receiver.specs.declared.Opened.{Opened}

@@ -12,9 +12,9 @@ use lib.ListN.{length, length-append}
 use Rattle.calls.specs.Calls.{Ended, walk, after, fresh}
 use Rattle.trellis.specs.Measure.{Two}
 use Rattle.nearest.specs.declared.Received.{Received}
-use Rattle.walk.specs.declared.Receiver.{Receiver}
-use Rattle.walk.specs.Machine.{Outcome}
-use Rattle.walk.specs.Told.{Told, Reason, speakerOf, judgeSymbol, judgeOf, Fine, machineOf, machineAfter, givenOf, withHeard}
+use Rattle.machine.specs.declared.Receiver.{Receiver}
+use Rattle.machine.specs.Machine.{Outcome}
+use Rattle.machine.specs.Told.{Told, Reason, speakerOf, judgeSymbol, judgeOf, Fine, machineOf, machineAfter, givenOf, withHeard}
 use Rattle.receiver.specs.Doors.{symbolAt, Ran, isDone, running}
 use Rattle.receiver.proofs.Symbols.{Judged, symbol-judged}
 

@@ -10,11 +10,11 @@ use Prim.Native.Nat.{ℕ}
 use lib.Dec.{eqb}
 use lib.IntN.{ℤ}
 use lib.ListN.{length}
-use Rattle.walk.specs.declared.Receiver.{Receiver}
-use Rattle.walk.specs.declared.Why.{Why}
-use Rattle.walk.specs.declared.Why.the-variants.{Done, BadWidth, BadWindow, BadStart, BadSample, Full, TooMany, NoRoom, Closed, Uneven}
-use Rattle.walk.specs.Machine.{shut, sound}
-use Rattle.walk.specs.Told.{Told, Reason, givenOf, Fine, machineOf}
+use Rattle.machine.specs.declared.Receiver.{Receiver}
+use Rattle.machine.specs.declared.Why.{Why}
+use Rattle.machine.specs.declared.Why.the-variants.{Done, BadWidth, BadWindow, BadStart, BadSample, Full, TooMany, NoRoom, Closed, Uneven}
+use Rattle.machine.specs.Machine.{shut, sound}
+use Rattle.machine.specs.Told.{Told, Reason, givenOf, Fine, machineOf}
 use Rattle.receiver.specs.declared.Start.{Start}
 use Rattle.receiver.specs.declared.Opened.{Opened}
 use Rattle.receiver.specs.declared.Answer.{Answer}

@@ -14,12 +14,12 @@ use Rattle.calls.specs.Calls.{fresh}
 use Rattle.trellis.specs.Measure.{Two}
 use Rattle.nearest.specs.declared.Received.{Received}
 use Rattle.nearest.specs.Line.{isCoordinate, BothInRange}
-use Rattle.walk.specs.declared.Receiver.{Receiver}
-use Rattle.walk.specs.declared.Why.{Why}
-use Rattle.walk.specs.declared.Why.the-variants.{BadSample}
-use Rattle.walk.specs.Machine.{Outcome, refused, taking}
-use Rattle.walk.specs.Told.{Told, Reason, reason, speakerOf, faultOf, judgeSymbol, Fine, machineAfter, givenOf, withHeard}
-use Rattle.walk.proofs.Owed.{taking-told, machine-same, telling-judge}
+use Rattle.machine.specs.declared.Receiver.{Receiver}
+use Rattle.machine.specs.declared.Why.{Why}
+use Rattle.machine.specs.declared.Why.the-variants.{BadSample}
+use Rattle.machine.specs.Machine.{Outcome, refused, taking}
+use Rattle.machine.specs.Told.{Told, Reason, reason, speakerOf, faultOf, judgeSymbol, Fine, machineAfter, givenOf, withHeard}
+use Rattle.machine.proofs.Owed.{taking-told, machine-same, telling-judge}
 use Rattle.receiver.specs.Doors.{symbolAt}
 
 -- ---- no coordinate at fault
@@ -52,7 +52,7 @@ pub record Judged (t : Told) (ys : List (Two Received)) (y : Two Received) (room
   pub receiver : judgeSymbol t ys y room .number ≡ 0 → o .receiver ≡ machineAfter t (y ∷ ys)
   pub fine : judgeSymbol t ys y room .number ≡ 0 → Fine (withHeard t (y ∷ ys))
 
--- in range: as `walk` proves it
+-- in range: as `machine` proves it
 takes : (t : Told) (ys : List (Two Received)) → Fine (withHeard t ys) → (y : Two Received) → BothInRange y → (room : ℕ) → Judged t ys y room (taking (machineAfter t ys) y room)
 takes t ys f y r room =
     let k = taking-told (withHeard t ys) f y r room in

@@ -16,11 +16,11 @@ use lib.IntN.{ℤ}
 use lib.ListN.{length}
 use Rattle.trellis.specs.Measure.{Two}
 use Rattle.nearest.specs.declared.Received.{Received}
-use Rattle.walk.specs.declared.Receiver.{Receiver}
-use Rattle.walk.specs.declared.Why.{Why}
-use Rattle.walk.specs.declared.Why.the-variants.{Done, BadWidth, BadWindow, BadStart, BadSample, NoRoom, Closed, Uneven}
-use Rattle.walk.specs.Machine.{opened, shut, Outcome, refused, taking, lastWords, sound}
-use Rattle.walk.specs.Told.{Reason, faultOf, givenOf}
+use Rattle.machine.specs.declared.Receiver.{Receiver}
+use Rattle.machine.specs.declared.Why.{Why}
+use Rattle.machine.specs.declared.Why.the-variants.{Done, BadWidth, BadWindow, BadStart, BadSample, NoRoom, Closed, Uneven}
+use Rattle.machine.specs.Machine.{opened, shut, Outcome, refused, taking, lastWords, sound}
+use Rattle.machine.specs.Told.{Reason, faultOf, givenOf}
 use Rattle.receiver.specs.declared.Start.{Start}
 use Rattle.receiver.specs.declared.Start.the-variants.{Free}
 use Rattle.receiver.specs.Given.{startOf, startFits}

@@ -13,7 +13,7 @@ use lib.ListN.{length}
 use Rattle.calls.specs.Calls.{Ended, walk, rest}
 use Rattle.trellis.specs.Measure.{Two}
 use Rattle.nearest.specs.declared.Received.{Received}
-use Rattle.walk.specs.Told.{Told, Reason, reason, speakerOf, judgeOf, withHeard}
+use Rattle.machine.specs.Told.{Told, Reason, reason, speakerOf, judgeOf, withHeard}
 use Rattle.receiver.specs.declared.Start.{Start}
 use Rattle.receiver.specs.Given.{startFits}
 use Rattle.receiver.specs.Doors.{symbolsOf}

@@ -11,17 +11,16 @@ use mathlib.Core.Bool.{Bool, cond}
 use mathlib.Core.List.{List, _++_}
 use lib.IntN.{ℤ}
 use lib.ListN.{length, drop}
-use Rattle.walk.specs.declared.Core.{Core}
-use Rattle.walk.specs.declared.Receiver.{Receiver}
-use Rattle.walk.specs.declared.Why.{Why}
-use Rattle.walk.specs.Machine.{shut}
-use Rattle.walk.specs.Told.{Told, Fine, machineOf, givenOf}
+use Rattle.machine.specs.declared.Core.{Core}
+use Rattle.machine.specs.declared.Receiver.{Receiver}
+use Rattle.machine.specs.Machine.{shut}
+use Rattle.machine.specs.Told.{Told, Fine, machineOf, givenOf}
 use Rattle.receiver.specs.declared.Start.{Start}
 use Rattle.receiver.specs.declared.Opened.{Opened}
 use Rattle.receiver.specs.declared.Answer.{Answer}
 use Rattle.receiver.specs.declared.Heard.{Heard}
 use Rattle.receiver.specs.Given.{startOf}
-use Rattle.receiver.specs.Doors.{Opening, opening, Ran, hearing, finishing, End}
+use Rattle.receiver.specs.Doors.{opening, Ran, hearing, finishing, End}
 use Rattle.receiver.specs.Meaning.{Owed, pieceOwed, FinishOwed, finishOwed, openingOwed}
 
 -- "Released words go straight after those already written by that call. All other places of the output stay unchanged"
@@ -49,10 +48,10 @@ pub record Is (ran : Ran) (out : List ℕ) (r : Answer) (o : List ℕ) : Type 0 
 
 -- a receiver from its parts, and the answer of a call to which they were lent
 abbrev pub partsOf : Bool → Core → List ℕ → List ℕ → List ℕ → Receiver
-partsOf live core sums steps picks = record { live = live; core = core; sums = sums; steps = steps; picks = picks }
+partsOf live core sums planes picks = record { live = live; core = core; sums = sums; planes = planes; picks = picks }
 
 abbrev pub answerOf : Bool → Heard → List ℕ → List ℕ → List ℕ → Answer
-answerOf live r sums steps picks = record { receiver = partsOf live (r .core) sums steps picks; taken = r .taken; written = r .written; why = r .why }
+answerOf live r sums planes picks = record { receiver = partsOf live (r .core) sums planes picks; taken = r .taken; written = r .written; why = r .why }
 
 -- the answer is what is owed for what the receiver has been told
 pub record Owes (d : Owed) (out : List ℕ) (r : Answer) (o : List ℕ) : Type 0 where

@@ -5,11 +5,11 @@
 // how many symbols it took, how many words it wrote and why it stopped. `finish` writes the pending words of the answer and closes
 // the receiver. A refused symbol leaves the receiver as it was. A record that no opening and no call gave is answered like a closed
 // receiver.
+use machine::Core;
+use machine::Receiver;
+use machine::Took;
+use machine::Why;
 use nearest::Received;
-use walk::Core;
-use walk::Receiver;
-use walk::Took;
-use walk::Why;
 ghost use mathlib.Core.Path.{_≡_};
 ghost use mathlib.Core.Bool.{true, cond, _&&_};
 ghost use mathlib.Core.List.{[]};
@@ -17,9 +17,10 @@ ghost use Prim.Native.Nat.{_%_};
 ghost use lib.ListN.{length};
 ghost use Rattle.points.specs.Points.{coordinates};
 ghost use Rattle.nearest.specs.Found.{heardAs};
-ghost use Rattle.walk.specs.Machine.{core, freshSums, shut, allUpTo, topSum, soundCore, sound};
-ghost use Rattle.walk.specs.Taken.{whole, TookIs};
-ghost use Rattle.walk.specs.Told.{faultOf, givenOf};
+ghost use Rattle.machine.specs.Machine.{core, freshSums, shut, topSum, soundCore, sound};
+ghost use Rattle.select.specs.Select.{allUpTo};
+ghost use Rattle.machine.specs.Taken.{whole, TookIs};
+ghost use Rattle.machine.specs.Told.{faultOf, givenOf};
 ghost use Rattle.receiver.specs.Given.{startOf, startFits};
 ghost use Rattle.receiver.specs.Doors.{symbolsOf, symbolFrom, symbolAt, isDone, running, hearing};
 ghost use Rattle.receiver.specs.Promise.{Opens, Is, partsOf, answerOf, Hears, Finishes};
@@ -93,8 +94,8 @@ pub fn closed_receiver() -> Receiver
         live: false,
         core: fresh_core(0, 0),
         sums: [0u64; 16],
-        steps: [0u8; 1024],
-        picks: [0u8; 1024],
+        planes: [0u64; 48],
+        picks: [0u64; 72],
     }
 }
 
@@ -166,8 +167,8 @@ pub fn open_receiver(u: u32, window: u32, start: Start) -> Opened
             live: true,
             core: fresh_core(u, window as usize),
             sums: fresh_sums(start),
-            steps: [0u8; 1024],
-            picks: [0u8; 1024],
+            planes: [0u64; 48],
+            picks: [0u64; 72],
         },
         why: Why::Done,
     }
@@ -212,7 +213,7 @@ fn parts_fit(live: bool, c: Core, sums: &[u64; 16]) -> bool
     if !core_fits(c) {
         return false;
     }
-    walk::all_up_to(sums, 4611686018427387904 + (c.taken as u64) * 1073741824)
+    select::all_up_to(sums, 4611686018427387904 + (c.taken as u64) * 1073741824)
 }
 
 // Whether the receiver is open and in range.
@@ -263,12 +264,12 @@ fn symbol(
     x2: i32,
     x3: i32,
     sums: &mut [u64; 16],
-    steps: &mut [u8; 1024],
-    picks: &mut [u8; 1024],
+    planes: &mut [u64; 48],
+    picks: &mut [u64; 72],
     out: &mut [u32],
 ) -> Took
-    requires { ⌜ (now t ≡ coordinates) × (sound (whole core (now sums) (now steps) (now picks)) ≡ true) ⌝ }
-    ensures { λ r. ⌜ TookIs (symbolAt (whole core (now (sums .entry)) (now (steps .entry)) (now (picks .entry))) (symbolFrom x0 x1 x2 x3) (length (now (out .entry)))) r (now (sums .exit)) (now (steps .exit)) (now (picks .exit)) (now (out .entry)) (now (out .exit)) ⌝ }
+    requires { ⌜ (now t ≡ coordinates) × (sound (whole core (now sums) (now planes) (now picks)) ≡ true) ⌝ }
+    ensures { λ r. ⌜ TookIs (symbolAt (whole core (now (sums .entry)) (now (planes .entry)) (now (picks .entry))) (symbolFrom x0 x1 x2 x3) (length (now (out .entry)))) r (now (sums .exit)) (now (planes .exit)) (now (picks .exit)) (now (out .entry)) (now (out .exit)) ⌝ }
 {
     let place = fault(x0, x1, x2, x3);
     if place < 4 {
@@ -280,7 +281,7 @@ fn symbol(
     }
     let first = Received { x: x0, y: x1 };
     let second = Received { x: x2, y: x3 };
-    walk::take_symbol(t, core, sums, steps, picks, first, second, out)
+    machine::take_symbol(t, core, sums, planes, picks, first, second, out)
 }
 
 fn stopped(rx: Receiver, why: Why) -> Answer
@@ -307,12 +308,12 @@ fn hear_symbols(
     start: Core,
     samples: &[i32],
     sums: &mut [u64; 16],
-    steps: &mut [u8; 1024],
-    picks: &mut [u8; 1024],
+    planes: &mut [u64; 48],
+    picks: &mut [u64; 72],
     out: &mut [u32],
 ) -> Heard
-    requires { ⌜ (sound (whole start (now sums) (now steps) (now picks)) ≡ true) × (length (now samples) % 4 ≡ 0) ⌝ }
-    ensures { λ r. ⌜ Is (running (symbolsOf (now (samples .entry))) (whole start (now (sums .entry)) (now (steps .entry)) (now (picks .entry))) 0 [] (length (now (out .entry)))) (now (out .entry)) (answerOf true r (now (sums .exit)) (now (steps .exit)) (now (picks .exit))) (now (out .exit)) ⌝ }
+    requires { ⌜ (sound (whole start (now sums) (now planes) (now picks)) ≡ true) × (length (now samples) % 4 ≡ 0) ⌝ }
+    ensures { λ r. ⌜ Is (running (symbolsOf (now (samples .entry))) (whole start (now (sums .entry)) (now (planes .entry)) (now (picks .entry))) 0 [] (length (now (out .entry)))) (now (out .entry)) (answerOf true r (now (sums .exit)) (now (planes .exit)) (now (picks .exit))) (now (out .exit)) ⌝ }
 {
     let table = points::table::a_points();
     let mut core = start;
@@ -329,7 +330,7 @@ fn hear_symbols(
             samples[i + 2],
             samples[i + 3],
             sums,
-            steps,
+            planes,
             picks,
             &mut out[written..],
         );
@@ -367,11 +368,11 @@ pub fn hear_lent(
     core: Core,
     samples: &[i32],
     sums: &mut [u64; 16],
-    steps: &mut [u8; 1024],
-    picks: &mut [u8; 1024],
+    planes: &mut [u64; 48],
+    picks: &mut [u64; 72],
     out: &mut [u32],
 ) -> Heard
-    ensures { λ r. ⌜ Is (hearing (partsOf live core (now (sums .entry)) (now (steps .entry)) (now (picks .entry))) (now (samples .entry)) (length (now (out .entry)))) (now (out .entry)) (answerOf live r (now (sums .exit)) (now (steps .exit)) (now (picks .exit))) (now (out .exit)) ⌝ }
+    ensures { λ r. ⌜ Is (hearing (partsOf live core (now (sums .entry)) (now (planes .entry)) (now (picks .entry))) (now (samples .entry)) (length (now (out .entry)))) (now (out .entry)) (answerOf live r (now (sums .exit)) (now (planes .exit)) (now (picks .exit))) (now (out .exit)) ⌝ }
 {
     if !parts_fit(live, core, sums) {
         return nothing_heard(core, Why::Closed);
@@ -379,7 +380,7 @@ pub fn hear_lent(
     if samples.len() % 4 != 0 {
         return nothing_heard(core, Why::Uneven);
     }
-    hear_symbols(core, samples, sums, steps, picks, out)
+    hear_symbols(core, samples, sums, planes, picks, out)
 }
 
 // A piece of four coordinates to a symbol. Refused as a whole where the receiver is closed or the length is no multiple of 4. The
@@ -390,9 +391,9 @@ pub fn hear(rx: Receiver, samples: &[i32], out: &mut [u32]) -> Answer
     let live = rx.live;
     let core = rx.core;
     let mut sums = rx.sums;
-    let mut steps = rx.steps;
+    let mut planes = rx.planes;
     let mut picks = rx.picks;
-    let h = hear_lent(live, core, samples, &mut sums, &mut steps, &mut picks, out);
+    let h = hear_lent(live, core, samples, &mut sums, &mut planes, &mut picks, out);
     let after = h.core;
     let why = h.why;
     Answer {
@@ -400,7 +401,7 @@ pub fn hear(rx: Receiver, samples: &[i32], out: &mut [u32]) -> Answer
             live: live,
             core: after,
             sums: sums,
-            steps: steps,
+            planes: planes,
             picks: picks,
         },
         taken: h.taken,
@@ -423,10 +424,10 @@ pub fn finish(rx: Receiver, out: &mut [u32]) -> Answer
         return stopped(rx, Why::NoRoom);
     }
     let sums = rx.sums;
-    let steps = rx.steps;
+    let planes = rx.planes;
     let picks = rx.picks;
-    let s = walk::end_state(&sums);
-    walk::write_words(core, &steps, &picks, s, core.pending, out);
+    let s = select::end_state(&sums);
+    machine::write_words(core, &planes, &picks, s, core.pending, out);
     Answer {
         receiver: closed,
         taken: 0,

@@ -1,8 +1,8 @@
 // The receiver's rows of 01: what each piece and each finish gives back, and the words written into five nines.
 use crate::say;
+use machine::Receiver;
+use machine::Why;
 use receiver::Start;
-use walk::Receiver;
-use walk::Why;
 
 // Symbols taken, words written, the number, and the output.
 struct Shown {

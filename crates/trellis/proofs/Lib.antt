@@ -11,11 +11,6 @@ pub mod Final
 pub mod Common
 pub mod Onward
 -- the machine
-pub mod Flags
-pub mod Walk
-pub mod Columns
-pub mod Release
-pub mod Ring
 pub mod Invariant
 -- words, and results by rows
 pub mod Speak

@@ -7,8 +7,8 @@ use Prim.Native.Nat.{ℕ, zero, suc, _+_, _≤_, _<_}
 use native.Mathlib.Omega.{arith}
 use native.Mathlib.Decide.{ℕ-discrete}
 use lib.ListN.{length, take, drop, length-append, take-append-drop}
-use lib.Seq.{take-at, drop-at, take-take, take-all, take-append-le}
-use Rattle.trellis.specs.Lists.{In, LexLe}
+use lib.Seq.{take-at, drop-at, take-take, take-all}
+use Rattle.trellis.specs.Lists.{In, Every, LexLe}
 use Rattle.trellis.specs.Search.{Sorted, range}
 
 -- ── beginnings ──
@@ -51,19 +51,6 @@ module _ {A : Type 0} where
 
 -- ── one more at the end of each of two equally long lists ──
 module _ {A : Type 0} (x y : List A) (a b : A) (e : length x ≡ length y) (n : ℕ) where
-  pub snoc-within : n ≤ length x → take n x ≡ take n y → take n (x ++ (a ∷ [])) ≡ take n (y ++ (b ∷ []))
-  snoc-within h k = take-append-le n x (a ∷ []) h ∙ k ∙ sym (take-append-le n y (b ∷ []) (omega arith))
-
-  pub within-snoc : n ≤ length x → take n (x ++ (a ∷ [])) ≡ take n (y ++ (b ∷ [])) → take n x ≡ take n y
-  within-snoc h k = sym (take-append-le n x (a ∷ []) h) ∙ k ∙ take-append-le n y (b ∷ []) (omega arith)
-
-  pub snoc-beyond : length x < n → take n x ≡ take n y → a ≡ b → take n (x ++ (a ∷ [])) ≡ take n (y ++ (b ∷ []))
-  snoc-beyond h k z =
-      let z₁ : take n x ≡ x = take-all n x (omega arith) in
-      let z₂ : take n y ≡ y = take-all n y (omega arith) in
-      let z₃ : x ++ (a ∷ []) ≡ y ++ (b ∷ []) = cc in
-      ap (take n) z₃
-
   pub beyond-snoc : length x < n → take n (x ++ (a ∷ [])) ≡ take n (y ++ (b ∷ [])) → (x ≡ y) × (a ≡ b)
   beyond-snoc h k =
       let z : x ++ (a ∷ []) ≡ y ++ (b ∷ []) =
@@ -113,3 +100,9 @@ state-in N s h = range-in zero N s (omega arith) (omega arith)
 
 pub state-below : (N s : ℕ) → In s (range zero N) → s < N
 state-below N s m = omega (arith, range-high zero N s m)
+
+-- what holds of all holds of all but the first
+pub every-drop : {A : Type 0} (P : A → Type 0) (n : ℕ) (l : List A) → Every P l → Every P (drop n l)
+every-drop P zero l h = h
+every-drop P (suc n) [] h = tt
+every-drop P (suc n) (a ∷ l) h = every-drop P n l (h .1)

@@ -13,7 +13,7 @@ use Rattle.trellis.specs.Choose.{keep, better, choose, mapS, raise, tag,
 use Rattle.trellis.specs.Search.{Search, Laws, range, extend, surv}
 use Rattle.trellis.specs.Columns.{acs, cell, end-state, Off}
 use Rattle.trellis.proofs.Lists.{state-below}
-use Rattle.trellis.proofs.Select.{choose-ext, choose-bare, choose-below}
+use Rattle.trellis.proofs.Select.{choose-ext, choose-bare}
 
 -- ── sums raised ──
 same-test : (m v w : ℕ) → (b : Bool) → ltb v w ≡ b → ltb (v + m) (w + m) ≡ b
@@ -91,10 +91,6 @@ module _ {K : Code} (S : Search K) (L : Laws S) where
   acs-surv y ys s =
       choose-ext (λ t. tag t (extend S y s t (surv S ys t))) (λ t. tag t (raise (dist y (pick y t s)) (surv S ys t))) (preds s)
       (λ t i. tag-map (dist y (pick y t s)) t (λ p. step p (pick y t s) s) (surv S ys t))
-
-  pub acs-below : {P : Type 0} (y : Y) (row : ℕ → Surv P) (s : ℕ) → s < N → stateOf (acs S y row s) < N
-  unfolding acs
-  acs-below y row s h = choose-below (λ t. raise (dist y (pick y t s)) (row t)) (preds s) N (omega arith) (λ t i. L .preds-below t s h i)
 
   -- ── a row that is the true one less m ──
   module _ (ys : List Y) (m : ℕ) (row : ℕ → Surv (Unit {0})) (off : Off S ys m row) where

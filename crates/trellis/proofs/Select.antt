@@ -5,7 +5,7 @@ use mathlib.Core.Path.{_≡_, refl, sym, ap, subst, _∙_}
 use mathlib.Core.Bool.{Bool, true, false}
 use mathlib.Core.List.{List, [], _∷_, _++_}
 use mathlib.Core.Logic.{inl, inr}
-use Prim.Native.Nat.{ℕ, _<_}
+use Prim.Native.Nat.{ℕ}
 use native.Mathlib.Omega.{arith}
 use lib.Dec.{ltb}
 use borrow.Author.Tests.{ltb-true, ltb-false, lt-ltb, le-ltb}
@@ -74,16 +74,6 @@ module _ {P : Type 0} where
       go absent (alive v t) k = absurd k
       go (alive w p) absent k = absurd k
       go (alive w p) (alive v t) k = ap (λ (n : ℕ). alive n tt) (k .0)
-
-  -- the state chosen is listed, or 0
-  pub choose-below : (f : ℕ → Surv P) (xs : List ℕ) (n : ℕ) → 0 < n → ((t : ℕ) → In t xs → t < n) → stateOf (choose (λ t. tag t (f t)) xs) < n
-  choose-below f xs n h k = go (choose f xs) (choose (λ t. tag t (f t)) xs) (picked f xs)
-    where
-      go : (o : Surv P) (r : Surv ℕ) → Picked f xs o r → stateOf r < n
-      go absent absent z = h
-      go absent (alive v t) z = absurd z
-      go (alive w p) absent z = absurd z
-      go (alive w p) (alive v t) z = k t (z .1)
 
   -- ── one state more, as a loop takes it ──
   better-absent : (a : Surv P) → better a absent ≡ a

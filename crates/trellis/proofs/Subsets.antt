@@ -6,17 +6,13 @@
 --   picks-same     two picked symbols are one exactly if their steps have the same subset; picks-test is that as a test
 --   common-points  a common beginning of symbols is a common beginning of pairs of points
 use mathlib.Core.Path.{_≡_, refl, sym, ap, _∙_}
-use mathlib.Core.Bool.{not}
 use mathlib.Core.List.{List, [], _∷_, _++_, map, map-append, IsPrefix}
 use mathlib.Core.Logic.{_↔_}
 use Prim.Native.Nat.{ℕ, _≤_, _<_}
 use native.Mathlib.Omega.{arith}
-use lib.Dec.{eqb}
-use borrow.Author.Tests.{eq-eqb, ne-eqb}
 use Rattle.trellis.specs.Lists.{Every}
 use Rattle.trellis.specs.Code.{Path, symbols}
 use Rattle.trellis.specs.Best.{Best, Common}
-use Rattle.trellis.specs.Walk.{apart}
 use Rattle.trellis.specs.Measure.{Start, Measure, First, weiCode, Two}
 use Rattle.trellis.specs.Pick.{Choice, Chooses, weiSearch}
 use Rattle.trellis.specs.IvEight.{pointsOf}
@@ -70,14 +66,6 @@ module _ (u : ℕ) (M : Measure) (H : Choice M) (C : Chooses u M H) where
   pub picks-same : (same : (c d : Symbol) → Dec (c ≡ d)) (b : Start) (y : Heard) (s t s′ t′ : ℕ) →
       (weiSearch u M H same b .pick y s t ≡ weiSearch u M H same b .pick y s′ t′) ↔ (between s t ≡ between s′ t′)
   picks-same same b y s t s′ t′ = (one-subset y s t s′ t′, one-symbol y s t s′ t′)
-
-  pub picks-test : (same : (c d : Symbol) → Dec (c ≡ d)) (b : Start) (y : Heard) (s t s′ t′ : ℕ) →
-      apart (same (weiSearch u M H same b .pick y s t) (weiSearch u M H same b .pick y s′ t′)) ≡ not (eqb (between s t) (between s′ t′))
-  picks-test same b y s t s′ t′ = go (same (one y s t s′ t′) (two y s t s′ t′))
-    where
-      go : (d : Dec (one y s t s′ t′ ≡ two y s t s′ t′)) → apart d ≡ not (eqb (between s t) (between s′ t′))
-      go (yes e) = rw (eq-eqb (between s t) (between s′ t′) (one-subset y s t s′ t′ e))
-      go (no f) = rw (ne-eqb (between s t) (between s′ t′) (λ e. f (one-symbol y s t s′ t′ e)))
 
 -- ── both points equal ──
 module _ (u : ℕ) (small : u ≤ 8) where

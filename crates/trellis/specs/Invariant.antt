@@ -1,43 +1,45 @@
--- What a machine holds after any list, and why it is enough: a row of sums, and in a ring the columns of the symbols that are
--- taken and not released. proofs/Invariant.antt has its four laws: it holds at the start; one symbol keeps it; what one symbol
--- releases is what has become common; the way back from the best end finishes the answer.
---   read x            a stored column as a function of the state
---   shown d read r    the pending columns, the newest first
---   Holds S d read ys sums r   the sums and the ring are those after ys
---   newly S d read x next r    how many symbols are agreed once the column x and the sums `next` are in hand: so many are released
---   kept S d read x next r     how many stay pending then
+-- What a machine holds after any list, and why it is enough: a row of sums, and for each reached state the symbols of the best
+-- sequence into it that are taken and not released. proofs/Invariant.antt has its four laws: it holds at the start; one symbol
+-- keeps it; what one symbol releases is what has become common; the way into the best end finishes the answer.
+--   Holds S ys sums way n    the sums are those after ys, n symbols are pending, and `way s` are those of the best sequence into s
+--   Shares N live way n      the ways into all live states have the same n oldest symbols
+--   Agreed N live way n k    k is the most that they share, of n
+--   before S y sums s        the state before s on its best way, once y is heard
+--   longer S y sums way s    the way into s, once y is heard: the one into the state before it, and the new symbol
 use mathlib.Core.Path.{_≡_}
-use mathlib.Core.List.{List, _∷_, map}
-use Prim.Native.Nat.{ℕ, suc, _+_, _-_}
+use mathlib.Core.Bool.{Bool}
+use mathlib.Core.List.{List, [], _∷_, _++_}
+use Prim.Native.Nat.{ℕ, _+_, _≤_, _<_}
+use lib.Dec.{T}
 use lib.ListN.{length, take}
-use Rattle.trellis.specs.Code.{Code}
-use Rattle.trellis.specs.Best.{Surv}
-use Rattle.trellis.specs.Choose.{up}
+use Rattle.trellis.specs.Code.{Code, Path, symbols}
+use Rattle.trellis.specs.Best.{Surv, Best}
 use Rattle.trellis.specs.Search.{Search}
-use Rattle.trellis.specs.Common.{reach}
-use Rattle.trellis.specs.Columns.{Col, columns, Off, Alike}
-use Rattle.trellis.specs.Walk.{agreed}
-use Rattle.trellis.specs.Ring.{Held, Sound, view}
+use Rattle.trellis.specs.Common.{common, reach}
+use Rattle.trellis.specs.Columns.{cell, Off}
 
-abbrev pub shown : {C X : Type 0} → X → (X → Col C) → Held X → List (Col C)
-shown d read r = map read (view d r)
+module _ {C : Type 0} where
+  abbrev pub Shares : ℕ → (ℕ → Bool) → (ℕ → List C) → ℕ → Type 0
+  Shares N live way n = (s t : ℕ) → s < N → t < N → T (live s) → T (live t) → take n (way s) ≡ take n (way t)
 
-module _ {K : Code} (S : Search K) {X : Type 0} (d : X) (read : X → Col (K .C)) where
-  open Code K using (Y, N)
-  open Search S using (same)
+  pub record Agreed (N : ℕ) (live : ℕ → Bool) (way : ℕ → List C) (n k : ℕ) : Type 0 where
+    pub few : k ≤ n
+    pub shared : Shares N live way k
+    pub most : (m : ℕ) → m ≤ n → Shares N live way m → m ≤ k
 
-  pub record Holds (ys : List Y) (sums : ℕ → Surv (Unit {0})) (r : Held X) : Type 0 where
-    pub sound : Sound r
+module _ {K : Code} (S : Search K) where
+  open Code K using (Y, C)
+
+  pub record Holds (ys : List Y) (sums : ℕ → Surv (Unit {0})) (way : ℕ → List C) (n : ℕ) : Type 0 where
     -- the sums are the true ones less this
     pub less : ℕ
     pub off : Off S ys less sums
     -- pending are the symbols taken and not released
-    pub count : r .pending + reach S ys ≡ length ys
-    -- and what is shown are their columns
-    pub shows : Alike N (shown d read r) (take (r .pending) (columns S ys))
+    pub count : n + reach S ys ≡ length ys
+    pub ways : (s : ℕ) (p : Path C) → Best K ys s p → symbols p ≡ common S ys ++ way s
 
-  abbrev pub newly : X → (ℕ → Surv (Unit {0})) → Held X → ℕ
-  newly x next r = agreed same N (read x ∷ shown d read r) (λ s. up (next s)) (suc (r .pending))
+  abbrev pub before : Y → (ℕ → Surv (Unit {0})) → ℕ → ℕ
+  before y sums s = cell S y sums s .prev
 
-  abbrev pub kept : X → (ℕ → Surv (Unit {0})) → Held X → ℕ
-  kept x next r = suc (r .pending) - newly x next r
+  abbrev pub longer : Y → (ℕ → Surv (Unit {0})) → (ℕ → List C) → ℕ → List C
+  longer y sums way s = way (before y sums s) ++ (cell S y sums s .symbol ∷ [])

@@ -7,10 +7,8 @@ pub mod Best
 pub mod Choose
 pub mod Search
 pub mod Common
--- as a machine does it, from sums and columns
+-- as a machine does it, from sums and pending symbols
 pub mod Columns
-pub mod Walk
-pub mod Ring
 pub mod Invariant
 -- words from symbols
 pub mod Speak

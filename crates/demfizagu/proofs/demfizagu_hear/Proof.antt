@@ -1,7 +1,6 @@
 -- `demfizagu_hear`: told too short, nothing taken, or the state written back.
 use denote.Ref.{now}
 use Rattle.demfizagu.proofs.Cases.{hear-short, hear-kept, hear-long, hear-written}
-use Rattle.demfizagu.proofs.Column.{heard-one}
 use borrow.Author.Needs.{needs}
 use Rattle.demfizagu.proofs.demfizagu_hear.Statement.{statement}
 use Rattle.demfizagu.proofs.demfizagu_hear.Tie as tie
@@ -50,7 +49,7 @@ returns-2 c =
 
 store-parts-requires : tie.Need-store-parts-requires
 store-parts-requires c κs =
-    let t = c .before .before .before .before .before .before .before .before in
+    let t = c .before .before .before .before .before .before in
     let p = t .before .before in
     let n = p .before in
     let h = n .before .before .before in
@@ -58,7 +57,7 @@ store-parts-requires c κs =
     let e = l .before .before in
     let a = e .before .before .before .before .args in
     let tells = rw (p .place .ensures) at (t .tell .ensures) in
-    (hear-long (now (a .state)) (now (a .piece)) (now (a .out)) (now (a .told)) (e .if1 .left) (l .load-receiver .result) (l .load-receiver .ensures) _ _ _ _ (h .hear-lent .ensures) (n .number .ensures) tells (c .before .before .before .before .if2 .left), heard-one (now (a .state)) (l .load-receiver .result) (l .load-receiver .ensures) (now (a .piece)) (now (a .out)) _ _ (h .hear-lent .ensures))
+    hear-long (now (a .state)) (now (a .piece)) (now (a .out)) (now (a .told)) (e .if1 .left) (l .load-receiver .result) (l .load-receiver .ensures) _ _ _ _ (h .hear-lent .ensures) (n .number .ensures) tells (c .before .before .if2 .left)
 
 same-length-4 : tie.Need-same-length-4
 same-length-4 c = search needs
@@ -71,7 +70,7 @@ same-length-6 c = search needs
 
 returns-3 : tie.Need-returns-3
 returns-3 c =
-    let t = c .before .before .before .before .before .before .before .before .before .before .before in
+    let t = c .before .before .before .before .before .before .before .before .before in
     let p = t .before .before in
     let n = p .before in
     let h = n .before .before .before in
@@ -79,7 +78,7 @@ returns-3 c =
     let e = l .before .before in
     let a = e .before .before .before .before .args in
     let tells = rw (p .place .ensures) at (t .tell .ensures) in
-    hear-written (now (a .state)) (now (a .piece)) (now (a .out)) (now (a .told)) (e .if1 .left) (l .load-receiver .result) (l .load-receiver .ensures) _ _ _ _ (h .hear-lent .ensures) (n .number .ensures) tells _ (c .before .before .before .before .before .before .before .if2 .left) (c .before .before .store-parts .ensures)
+    hear-written (now (a .state)) (now (a .piece)) (now (a .out)) (now (a .told)) (e .if1 .left) (l .load-receiver .result) (l .load-receiver .ensures) _ _ _ _ (h .hear-lent .ensures) (n .number .ensures) tells _ (c .before .before .before .before .before .if2 .left) (c .before .before .store-parts .ensures)
 
 pub demfizagu-hear-spec : {M : Type 1} → statement M
 demfizagu-hear-spec =

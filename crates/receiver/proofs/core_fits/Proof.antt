@@ -1,7 +1,7 @@
 -- `core_fits`: the tests in order, each of which decides where it fails.
 use native.Mathlib.Omega.{arith}
 use borrow.Author.Tests.{le-leb, lt-leb, lt-ltb, le-ltb}
-use Rattle.walk.specs.Machine.{soundCore}
+use Rattle.machine.specs.Machine.{soundCore}
 use Rattle.receiver.proofs.core_fits.Statement.{statement}
 use Rattle.receiver.proofs.core_fits.Tie as tie
 

@@ -1,7 +1,7 @@
 -- `finish`: closed, no room, or the last words.
 use mathlib.Core.Path.{_≡_, sym, _∙_}
 use borrow.Author.Tests.{not-true, not-false}
-use Rattle.walk.proofs.Sound.{sound-core}
+use Rattle.machine.proofs.Sound.{sound-core}
 use Rattle.receiver.proofs.Doors.{finishes, finish-closed, finish-full, finish-done}
 use borrow.Author.Needs.{needs}
 use Rattle.receiver.proofs.finish.Statement.{statement}

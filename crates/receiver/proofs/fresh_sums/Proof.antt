@@ -4,7 +4,7 @@ use mathlib.Core.Bool.{true}
 use Prim.Native.Nat.{ℕ, _<_}
 use native.Mathlib.Omega.{arith}
 use borrow.Author.Tests.{leb-true}
-use Rattle.walk.specs.Machine.{freshSums}
+use Rattle.machine.specs.Machine.{freshSums}
 use Rattle.receiver.specs.declared.Start.{Start}
 use Rattle.receiver.specs.declared.Start.the-variants.{At}
 use Rattle.receiver.specs.Given.{startOf, startFits}

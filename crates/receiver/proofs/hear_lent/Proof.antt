@@ -3,8 +3,8 @@ use mathlib.Core.Path.{_≡_, sym, subst, _∙_}
 use mathlib.Core.Bool.{Bool, true}
 use borrow.Author.Tests.{not-true, not-false}
 use borrow.Author.Needs.{needs}
-use Rattle.walk.specs.Machine.{sound}
-use Rattle.walk.proofs.Sound.{sound-live}
+use Rattle.machine.specs.Machine.{sound}
+use Rattle.machine.proofs.Sound.{sound-live}
 use Rattle.receiver.specs.Promise.{partsOf}
 use Rattle.receiver.proofs.Doors.{hear-closed, hear-uneven, hear-parts}
 use Rattle.receiver.proofs.hear_lent.Statement.{statement}
@@ -20,7 +20,7 @@ returns : tie.Need-returns
 unfolding sound
 returns c =
     let a = c .before .before .before .before .before .args in
-    rw (c .nothing-heard .ensures) (hear-closed (partsOf (a .live) (a .core) (a .sums .now) (a .steps .now) (a .picks .now)) (a .out .now) (a .samples .now) (sym (c .before .before .parts-fit .ensures) ∙ not-true _ (c .before .if1 .taken)))
+    rw (c .nothing-heard .ensures) (hear-closed (partsOf (a .live) (a .core) (a .sums .now) (a .planes .now) (a .picks .now)) (a .out .now) (a .samples .now) (sym (c .before .before .parts-fit .ensures) ∙ not-true _ (c .before .if1 .taken)))
 
 nothing-heard-requires-2 : tie.Need-nothing-heard-requires-2
 nothing-heard-requires-2 c κs = search needs
@@ -29,7 +29,7 @@ returns-2 : tie.Need-returns-2
 unfolding sound
 returns-2 c =
     let a = c .before .before .before .before .before .before .args in
-    rw (c .nothing-heard2 .ensures) (hear-uneven (partsOf (a .live) (a .core) (a .sums .now) (a .steps .now) (a .picks .now)) (a .out .now) (a .samples .now) (sym (c .before .before .before .parts-fit .ensures) ∙ not-false _ (c .before .before .if1 .left)) (c .before .if2 .taken))
+    rw (c .nothing-heard2 .ensures) (hear-uneven (partsOf (a .live) (a .core) (a .sums .now) (a .planes .now) (a .picks .now)) (a .out .now) (a .samples .now) (sym (c .before .before .before .parts-fit .ensures) ∙ not-false _ (c .before .before .if1 .left)) (c .before .if2 .taken))
 
 hear-symbols-requires : tie.Need-hear-symbols-requires
 unfolding sound
@@ -37,7 +37,7 @@ hear-symbols-requires c κs =
     let e = c .before .before .before .before in
     let a = e .before .before .before .before .before .args in
     let f = sym (e .before .before .parts-fit .ensures) ∙ not-false _ (e .before .if1 .left) in
-    (subst (λ (b : Bool). sound (partsOf b (a .core) (a .sums .now) (a .steps .now) (a .picks .now)) ≡ true) (sound-live (partsOf (a .live) (a .core) (a .sums .now) (a .steps .now) (a .picks .now)) f) f, e .if2 .left)
+    (subst (λ (b : Bool). sound (partsOf b (a .core) (a .sums .now) (a .planes .now) (a .picks .now)) ≡ true) (sound-live (partsOf (a .live) (a .core) (a .sums .now) (a .planes .now) (a .picks .now)) f) f, e .if2 .left)
 
 same-length : tie.Need-same-length
 same-length c = search needs
@@ -47,7 +47,7 @@ unfolding sound
 returns-3 c =
     let e = c .before .before .before .before .before .before .before in
     let a = e .before .before .before .before .before .args in
-    hear-parts (a .live) (a .core) (a .sums .now) (a .steps .now) (a .picks .now) (a .out .now) (a .samples .now) (sym (e .before .before .parts-fit .ensures) ∙ not-false _ (e .before .if1 .left)) (e .if2 .left) _ _ _ _ _ (c .before .before .hear-symbols .ensures)
+    hear-parts (a .live) (a .core) (a .sums .now) (a .planes .now) (a .picks .now) (a .out .now) (a .samples .now) (sym (e .before .before .parts-fit .ensures) ∙ not-false _ (e .before .if1 .left)) (e .if2 .left) _ _ _ _ _ (c .before .before .hear-symbols .ensures)
 
 pub hear-lent-spec : {M : Type 1} → statement M
 hear-lent-spec =

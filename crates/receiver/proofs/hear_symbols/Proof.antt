@@ -1,22 +1,22 @@
 -- `hear_symbols`: the loop over the symbols of a piece; `Going` says where it stands.
-use mathlib.Core.Path.{_≡_, sym, _∙_}
-use Prim.Native.Nat.{ℕ, _+_, _-_, _≤_}
+use mathlib.Core.Path.{sym, _∙_}
+use Prim.Native.Nat.{_+_, _-_, _≤_}
 use native.Mathlib.Omega.{arith}
 use borrow.Author.Needs.{needs}
 use borrow.Author.Tests.{not-true, not-false}
 use lib.ListN.{length}
 use mir.Facts.{toZ-ofZ}
-use Rattle.walk.specs.Taken.{whole}
+use Rattle.machine.specs.Taken.{whole}
 use Rattle.receiver.proofs.Going.{Going, start, end, go-on, stop, more-fits, more-length}
 use Rattle.receiver.proofs.hear_symbols.Statement.{statement}
 use Rattle.receiver.proofs.hear_symbols.Tie as tie
 
 abbrev Inv-loop : tie.InvT-loop
-Inv-loop samples sums₀ steps₀ picks₀ out₀ table core₀ taken₀ written₀ why₀ i₀ sums steps picks out core taken written why i =
-    Going samples out₀ (whole core₀ sums₀ steps₀ picks₀) out (whole core sums steps picks) taken written why i
+Inv-loop samples sums₀ planes₀ picks₀ out₀ table core₀ taken₀ written₀ why₀ i₀ sums planes picks out core taken written why i =
+    Going samples out₀ (whole core₀ sums₀ planes₀ picks₀) out (whole core sums planes picks) taken written why i
 
 abbrev μ-loop : tie.MeasureT-loop
-μ-loop samples sums₀ steps₀ picks₀ out₀ table core₀ taken₀ written₀ why₀ i₀ sums steps picks out core taken written why i =
+μ-loop samples sums₀ planes₀ picks₀ out₀ table core₀ taken₀ written₀ why₀ i₀ sums planes picks out core taken written why i =
     length samples - i
 
 a-points-requires : tie.Need-a-points-requires Inv-loop μ-loop
@@ -26,7 +26,7 @@ loop-holds : tie.Need-loop-holds Inv-loop μ-loop
 loop-holds c =
     let s = c .before .before in
     let a = s .args in
-    start (a .samples .now) (a .out .now) (whole (a .start) (a .sums .now) (a .steps .now) (a .picks .now)) (s .pre .1) (s .pre .0)
+    start (a .samples .now) (a .out .now) (whole (a .start) (a .sums .now) (a .planes .now) (a .picks .now)) (s .pre .1) (s .pre .0)
 
 mul-symbol : tie.Need-mul-symbol Inv-loop μ-loop
 mul-symbol c = omega arith

@@ -1,6 +1,6 @@
 -- `is_open`: the parts decide.
 use borrow.Author.Needs.{needs}
-use Rattle.walk.specs.Machine.{sound}
+use Rattle.machine.specs.Machine.{sound}
 use Rattle.receiver.proofs.is_open.Statement.{statement}
 use Rattle.receiver.proofs.is_open.Tie as tie
 

@@ -1,6 +1,6 @@
 -- `not_opened`: a closed receiver and the reason.
 use mathlib.Core.Path.{ap}
-use Rattle.walk.specs.declared.Receiver.{Receiver}
+use Rattle.machine.specs.declared.Receiver.{Receiver}
 use borrow.Author.Needs.{needs}
 use Rattle.receiver.proofs.not_opened.Statement.{statement}
 use Rattle.receiver.proofs.not_opened.Tie as tie

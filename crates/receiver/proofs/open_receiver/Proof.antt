@@ -1,15 +1,13 @@
 -- `open_receiver`: the outcomes, each by its law.
-use mathlib.Core.Path.{_≡_, sym, ap, _∙_}
-use mathlib.Core.Bool.{Bool, true, false, _&&_}
+use mathlib.Core.Path.{_≡_, sym, _∙_}
+use mathlib.Core.Bool.{true, false, _&&_}
 use Prim.Native.Nat.{ℕ, _≤_, _<_}
 use native.Mathlib.Omega.{arith}
 use borrow.Author.Tests.{le-leb, lt-leb, not-true, not-false}
 use lib.Dec.{leb}
 use lib.ListN.{replicate}
-use Rattle.walk.specs.declared.Core.{Core}
-use Rattle.walk.specs.declared.Why.the-variants.{Done}
-use Rattle.walk.specs.Machine.{opened}
-use Rattle.receiver.specs.Given.{startFits}
+use Rattle.machine.specs.declared.Why.the-variants.{Done}
+use Rattle.machine.specs.Machine.{opened}
 use Rattle.receiver.proofs.Openings.{opens-wide, opens-window, opens-start, opens-done}
 use borrow.Author.Needs.{needs}
 use Rattle.receiver.proofs.open_receiver.Statement.{statement}
@@ -65,7 +63,7 @@ returns-5 c =
     let e = c .before .fresh-core .ensures in
     let f = c .fresh-sums .ensures in
     opens-done (a .u) (a .window) (a .start) _ (omega arith) (omega arith) (omega arith) (sym (s .start-fits .ensures) ∙ not-false (s .start-fits .result) (c .before .before .if4 .left))
-    (λ i. record { receiver = record { live = true; core = e i; sums = f i; steps = replicate 1024 0; picks = replicate 1024 0 }; why = Done })
+    (λ i. record { receiver = record { live = true; core = e i; sums = f i; planes = replicate 48 0; picks = replicate 72 0 }; why = Done })
 
 pub open-receiver-spec : {M : Type 1} → statement M
 open-receiver-spec =

@@ -1,13 +1,13 @@
--- `symbol`: a coordinate at fault is refused, else the walk takes the symbol.
+-- `symbol`: a coordinate at fault is refused, else the machine takes it.
 use mathlib.Core.Path.{_≡_, sym, ap, subst, _∙_}
 use lib.IntN.{ℤ}
 use mir.Syntax.{w32}
 use mir.Val.{SFits, toZ, ofZ}
 use mir.Facts.{toZ-ofZ}
 use Rattle.nearest.specs.Line.{BothInRange}
-use Rattle.walk.specs.Taken.{whole}
-use Rattle.walk.specs.Told.{faultOf}
-use Rattle.walk.proofs.Sound.{sound-ready}
+use Rattle.machine.specs.Taken.{whole}
+use Rattle.machine.specs.Told.{faultOf}
+use Rattle.machine.proofs.Sound.{sound-ready}
 use Rattle.receiver.specs.Doors.{symbolFrom}
 use Rattle.receiver.proofs.Kept.{faulty-took, good-taking, good-took}
 use borrow.Author.Needs.{needs}
@@ -26,7 +26,7 @@ returns : tie.Need-returns
 returns c =
     let s = c .before .before .before in
     let a = s .args in
-    faulty-took (a .core) (a .sums .now) (a .steps .now) (a .picks .now) (a .out .now) (symbolFrom (a .x0) (a .x1) (a .x2) (a .x3)) (c .before .fault .result)
+    faulty-took (a .core) (a .sums .now) (a .planes .now) (a .picks .now) (a .out .now) (symbolFrom (a .x0) (a .x1) (a .x2) (a .x3)) (c .before .fault .result)
     (c .before .fault .ensures ∙ ap faultOf (back (a .x0) (a .x1) (a .x2) (a .x3) (s .fits .x0) (s .fits .x1) (s .fits .x2) (s .fits .x3))) (c .if1 .taken)
 
 take-symbol-requires : tie.Need-take-symbol-requires
@@ -35,8 +35,8 @@ take-symbol-requires c κs =
     let s = d .before .before .before in
     let a = s .args in
     let e = back (a .x0) (a .x1) (a .x2) (a .x3) (s .fits .x0) (s .fits .x1) (s .fits .x2) (s .fits .x3) in
-    let rx = whole (a .core) (a .sums .now) (a .steps .now) (a .picks .now) in
-    let g = subst BothInRange (sym e) (good-taking (a .core) (a .sums .now) (a .steps .now) (a .picks .now) (a .out .now) (symbolFrom (a .x0) (a .x1) (a .x2) (a .x3)) (d .before .fault .result) (d .before .fault .ensures ∙ ap faultOf e) (d .if1 .left) .1) in
+    let rx = whole (a .core) (a .sums .now) (a .planes .now) (a .picks .now) in
+    let g = subst BothInRange (sym e) (good-taking (a .core) (a .sums .now) (a .planes .now) (a .picks .now) (a .out .now) (symbolFrom (a .x0) (a .x1) (a .x2) (a .x3)) (d .before .fault .result) (d .before .fault .ensures ∙ ap faultOf e) (d .if1 .left) .1) in
     ((s .pre .0, g .first-in, g .second-in), sound-ready rx (s .pre .1))
 
 same-length : tie.Need-same-length
@@ -48,7 +48,7 @@ returns-2 c =
     let s = d .before .before .before in
     let a = s .args in
     let e = back (a .x0) (a .x1) (a .x2) (a .x3) (s .fits .x0) (s .fits .x1) (s .fits .x2) (s .fits .x3) in
-    good-took (a .core) (a .sums .now) (a .steps .now) (a .picks .now) (a .out .now) (symbolFrom (a .x0) (a .x1) (a .x2) (a .x3)) (d .before .fault .result) (d .before .fault .ensures ∙ ap faultOf e)
+    good-took (a .core) (a .sums .now) (a .planes .now) (a .picks .now) (a .out .now) (symbolFrom (a .x0) (a .x1) (a .x2) (a .x3)) (d .before .fault .result) (d .before .fault .ensures ∙ ap faultOf e)
     _ e (d .if1 .left) _ _ _ _ _ (c .before .before .take-symbol .ensures)
 
 pub symbol-spec : {M : Type 1} → statement M

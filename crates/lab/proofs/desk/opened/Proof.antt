@@ -1,6 +1,6 @@
 -- `desk::opened`: the receiver and the number of the opening.
 use mathlib.Core.Path.{ap, _∙_}
-use Rattle.walk.specs.Told.{Reason}
+use Rattle.machine.specs.Told.{Reason}
 use Rattle.lab.specs.Answer.{numberLine}
 use Rattle.lab.specs.Desk.{withReceiver}
 use Rattle.lab.proofs.Answers.{number-near}

@@ -1,0 +1,54 @@
+-- The sums fit. With coordinates in range and fewer than 2^32 symbols the sum of a reached state, and that sum with one more cost,
+-- are below `limit`; and no number among the sums, reached or not, is above `topSum`.
+--   room       one more symbol finds room
+--   top-next   the bound after one more symbol
+use mathlib.Core.Path.{_≡_, refl, sym, ap, ap₂, subst, _∙_}
+use mathlib.Core.Bool.{Bool, true, false, _&&_}
+use mathlib.Core.List.{List, [], _∷_}
+use Prim.Native.Nat.{ℕ, zero, suc, _+_, _-_, _≤_, _<_}
+use native.Mathlib.Omega.{arith}
+use native.Mathlib.Numerals.{add-one}
+use lib.Bits.{bitOr, or-lt, or-add-and, and-le-l, and-le-r}
+use lib.Dec.{leb, ltb}
+use lib.ListN.{length, getD, drop, drop-of-length-le}
+use lib.Seq.{drop-cons}
+use borrow.Author.Tests.{lt-ltb, le-ltb, ltb-true, ltb-false, le-leb, lt-leb, leb-true, leb-false}
+use Rattle.trellis.specs.Lists.{Every}
+use Rattle.trellis.specs.Best.{alive}
+use Rattle.trellis.specs.Columns.{Off}
+use Rattle.trellis.specs.Measure.{Start, Two, Near}
+use Rattle.trellis.specs.Same.{sameSymbol}
+use Rattle.trellis.specs.Pick.{bestOf}
+use Rattle.trellis.proofs.Bound.{branch-fits}
+use Rattle.wei.specs.State.{bitW4, carryI1, carryI2, before, between}
+use Rattle.wei.proofs.States.{carryI1-below, carryI2-below}
+use Rattle.nearest.specs.declared.Received.{Received}
+use Rattle.nearest.specs.Line.{BothInRange, lineDistance, lineMeasure}
+use Rattle.nearest.specs.Found.{weighedOf}
+use Rattle.nearest.proofs.Laws.{far-below, costs-below}
+use Rattle.select.specs.Select.{limit, sixteen, arrive, winner, sumAt, rowOf}
+use Rattle.machine.specs.Machine.{topSum}
+use Rattle.select.specs.Select.{allUpTo}
+use Rattle.select.proofs.Lists.{sixteen-most}
+use Rattle.machine.proofs.Trellis.{searchOf, pickOf, chooses, cost-at}
+use Rattle.machine.proofs.Arrivals.{Room}
+
+-- "The squared distance of a 4D point from a received symbol stays below 2^30"
+near : (u : ℕ) → u ≤ 8 → Near u lineMeasure BothInRange
+near u small y c a v = far-below u y small a c v
+
+module _ (u : ℕ) (small : u ≤ 8) (b : Start) (ys : List (Two Received)) (good : Every BothInRange ys) (y : Two Received) (fine : BothInRange y) (few : length (y ∷ ys) ≤ 4294967295) where
+  pub room : (sums : List ℕ) (m : ℕ) → Off (searchOf u b) ys m (rowOf sums) → Room sums (weighedOf u y .costs)
+  room sums m off s t h k =
+      let e : rowOf sums s ≡ alive (getD sums s 0) tt = rw (lt-ltb (getD sums s 0) limit k) in
+      let v = chooses u .is-first y (bitW4 s) (carryI1 s t) (carryI2 s t) (omega arith) (carryI1-below s t) (carryI2-below s t) .valid in
+      subst (λ (d : ℕ). getD sums s 0 + d < limit) (cost-at u y s t)
+      (branch-fits u lineMeasure BothInRange (near u small) b (bestOf u lineDistance) (chooses u) sameSymbol ys good m (rowOf sums) off s (getD sums s 0) h e y (pickOf u y s t) fine v (omega arith))
+
+pub top-next : (u : ℕ) → u ≤ 8 → (y : Two Received) → BothInRange y → (n : ℕ) (sums : List ℕ) → ((s : ℕ) → getD sums s 0 ≤ topSum n) → (s : ℕ) → getD (sixteen (sumAt sums (weighedOf u y .costs))) s 0 ≤ topSum (n + 1)
+unfolding sumAt arrive
+top-next u small y fine n sums top =
+    let costs : List ℕ = weighedOf u y .costs in
+    sixteen-most (sumAt sums costs) (topSum (n + 1)) (λ t.
+    let s : ℕ = before t (winner sums costs t) in
+    omega (arith, top s, costs-below u y small fine (between s t)))

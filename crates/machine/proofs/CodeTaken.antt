@@ -1,0 +1,132 @@
+-- One symbol, from what the code's functions give to the machine's outcome: the look ahead, the three refusals and the taking.
+--   agreed-few           no more is agreed than is pending
+--   summable             sums and costs add up
+--   looked               what the look ahead puts together
+--   many, full, short    the refusals 7, 6 and 8
+--   taken                the symbol is taken
+use mathlib.Core.Path.{_≡_, refl, sym, ap, ap₂, _∙_}
+use mathlib.Core.Bool.{Bool, true, false, cond}
+use mathlib.Core.List.{List, [], _∷_, _++_, map}
+use Prim.Native.Nat.{ℕ, _+_, _-_, _/_, _%_, _≤_, _<_}
+use native.Mathlib.Omega.{arith}
+use lib.ListN.{length, getD, take, drop}
+use lib.Seq.{length-take-le}
+use borrow.Author.Tests.{eq-eqb, ne-eqb, lt-ltb, le-ltb}
+use Rattle.trellis.specs.Measure.{Two}
+use Rattle.trellis.specs.Speak.{after}
+use Rattle.trellis.specs.Words.{word, wordsFrom, turnAfter}
+use Rattle.trellis.proofs.Speak.{speak-length}
+use Rattle.wei.specs.Symbol.{Symbol}
+use Rattle.nearest.specs.declared.Received.{Received}
+use Rattle.nearest.specs.declared.Weighed.{Weighed}
+use Rattle.nearest.specs.Line.{InRange}
+use Rattle.nearest.specs.Found.{heardAs, weighedOf}
+use Rattle.nearest.proofs.Laws.{costs-below}
+use Rattle.select.specs.declared.Selected.{Selected}
+use Rattle.machine.specs.declared.Core.{Core}
+use Rattle.machine.specs.declared.Receiver.{Receiver}
+use Rattle.machine.specs.declared.Outlook.{Outlook}
+use Rattle.machine.specs.declared.Took.{Took}
+use Rattle.machine.specs.declared.Why.{Why}
+use Rattle.machine.specs.declared.Why.the-variants.{Done, TooMany, Full, NoRoom}
+use Rattle.planes.specs.declared.Next.{Next}
+use Rattle.planes.specs.Planes.{movedOf, sameAt, apartOf, oldest, clearAt}
+use Rattle.planes.proofs.Oldest.{oldest-le, agreed-is}
+use Rattle.select.specs.Select.{sixteen, sumAt, stepAt, prevIn}
+use Rattle.picks.specs.Picks.{numbersOf, keptIn}
+use Rattle.machine.specs.Machine.{nextSums, nextSteps, numbersIn, wayFrom, agreedOf, releasedOf, grown, refused, taking}
+use Rattle.machine.specs.Taken.{Ready, whole, outlookOf, TookIs}
+use Rattle.select.specs.Ways.{Summable}
+use Rattle.machine.proofs.Way.{way-length}
+
+-- ---- how many are agreed
+pub agreed-few : (rx : Receiver) (y : Two Received) → agreedOf rx y ≤ rx .core .pending
+unfolding agreedOf
+agreed-few rx y = oldest-le (sameAt (rx .planes) (nextSteps rx y)) (rx .core .pending)
+
+-- ---- the look ahead
+pub summable : (core : Core) (sums : List ℕ) (g h : Received) (w : Weighed) → Ready core sums → core .taken < 4294967295 → InRange g → InRange h → w ≡ weighedOf (core .u) (heardAs g h) → Summable sums (w .costs)
+summable core sums g h w r few a b e =
+    record {
+      sums-below = λ i. omega (arith, r .sums-fit i);
+      costs-below = rw e (costs-below (core .u) (heardAs g h) (r .core-fits .width) (record { first-in = a; second-in = b }));
+    }
+
+pub looked : (core : Core) (sums planes : List ℕ) (y : Two Received) (w : Weighed) (next : Selected) (moved : Next) (n numbers : ℕ)
+    → w ≡ weighedOf (core .u) y
+    → next ≡ record { sums = sixteen (sumAt sums (w .costs)); steps = sixteen (stepAt sums (w .costs)) }
+    → moved ≡ record { planes = movedOf planes (next .steps); apart = apartOf planes (next .steps) }
+    → n ≡ oldest (clearAt (moved .apart)) (core .pending)
+    → numbers ≡ numbersOf (w .w1) (w .w2)
+    → record { sums = next .sums; planes = moved .planes; i3 = w .i3; numbers = numbers; state = getD (next .steps) 0 0 / 8 % 16; agreed = n } ≡ outlookOf (whole core sums planes []) y
+unfolding agreedOf
+looked core sums planes y w next moved n numbers ew es em en ek =
+    let rx = whole core sums planes [] in
+    let a : next .sums ≡ nextSums rx y = ap (λ (x : Selected). x .sums) es ∙ rw ew in
+    let b : next .steps ≡ nextSteps rx y = ap (λ (x : Selected). x .steps) es ∙ rw ew in
+    let f : moved .planes ≡ movedOf planes (nextSteps rx y) = ap (λ (x : Next). x .planes) em ∙ ap (movedOf planes) b in
+    let c : w .i3 ≡ weighedOf (core .u) y .i3 = ap (λ (x : Weighed). x .i3) ew in
+    let k : numbers ≡ numbersIn rx y = ek ∙ ap (λ (x : Weighed). numbersOf (x .w1) (x .w2)) ew in
+    let s : getD (next .steps) 0 0 / 8 % 16 ≡ prevIn (nextSteps rx y) 0 = ap (λ (m : List ℕ). prevIn m 0) b in
+    let m : n ≡ oldest (sameAt planes (nextSteps rx y)) (core .pending) =
+    en ∙ ap (λ (x : Next). oldest (clearAt (x .apart)) (core .pending)) em ∙ agreed-is planes (next .steps) (core .pending) ∙ ap (λ (l : List ℕ). oldest (sameAt planes l) (core .pending)) b in
+    λ i. record { sums = a i; planes = f i; i3 = c i; numbers = k i; state = s i; agreed = m i }
+
+-- ---- the outcome
+module _ (core : Core) (sums planes picks : List ℕ) (y : Two Received) (out : List ℕ) where
+  abbrev rx : Receiver
+  rx = whole core sums planes picks
+
+  -- a refusal leaves all as it was
+  as-before : (w : Why) (r : Took) → r ≡ record { core = core; written = 0; why = w } → taking rx y (length out) ≡ refused rx w → TookIs (taking rx y (length out)) r sums planes picks out out
+  as-before w r f e = rw (e, f) (record { receiver = refl; why = refl; written = refl; out = refl })
+
+  pub many : (r : Took) → r ≡ record { core = core; written = 0; why = TooMany } → core .taken ≡ 4294967295 → TookIs (taking rx y (length out)) r sums planes picks out out
+  unfolding taking
+  many r f h = as-before TooMany r f (rw (eq-eqb _ _ h))
+
+  module _ (o : Outlook) (is : o ≡ outlookOf (whole core sums planes []) y) where
+    agreed-same : o .agreed ≡ agreedOf rx y
+    unfolding agreedOf
+    agreed-same = ap (λ (x : Outlook). x .agreed) is
+
+    pub few : o .agreed ≤ core .pending
+    few = rw agreed-same (agreed-few rx y)
+
+    pub state-below : o .state < 16
+    state-below = rw is (omega arith)
+
+    module _ (fresh : core .taken ≡ 4294967295 → ⊥) where
+      pub full : (r : Took) → r ≡ record { core = core; written = 0; why = Full } → core .window < core .pending + 1 - o .agreed → TookIs (taking rx y (length out)) r sums planes picks out out
+      unfolding taking
+      full r f h = as-before Full r f (rw (ne-eqb _ _ fresh, ← agreed-same, lt-ltb _ _ h))
+
+      module _ (fits : core .pending + 1 - o .agreed ≤ core .window) where
+        pub short : (r : Took) → r ≡ record { core = core; written = 0; why = NoRoom } → length out < o .agreed → TookIs (taking rx y (length out)) r sums planes picks out out
+        unfolding taking
+        short r f h = as-before NoRoom r f (rw (ne-eqb _ _ fresh, ← agreed-same, le-ltb _ _ fits, lt-ltb _ _ h))
+
+        abbrev released : List Symbol
+        released = take (o .agreed) (wayFrom core planes picks (o .state))
+
+        released-is : released ≡ releasedOf rx y
+        unfolding releasedOf
+        released-is = ap₂ (λ (n s : ℕ). take n (wayFrom core planes picks s)) agreed-same (ap (λ (x : Outlook). x .state) is)
+
+        words-length : length (wordsFrom (core .u) (core .turn) released) ≡ o .agreed
+        words-length =
+            speak-length turnAfter (word (core .u)) (core .turn) released
+            ∙ length-take-le (o .agreed) (wayFrom core planes picks (o .state)) (rw (way-length core planes picks (o .state)) few)
+
+        pub done : (core′ : Core) (sums′ planes′ picks′ out′ : List ℕ) (turn : ℕ) → o .agreed ≤ length out
+            → turn ≡ after turnAfter (core .turn) released
+            → out′ ≡ wordsFrom (core .u) (core .turn) released ++ drop (o .agreed) out
+            → sums′ ≡ o .sums
+            → planes′ ≡ o .planes
+            → picks′ ≡ keptIn picks (core .slot) (o .i3) (o .numbers)
+            → core′ ≡ record { u = core .u; window = core .window; taken = core .taken + 1; turn = turn; slot = (core .slot + 1) % 64; pending = core .pending + 1 - o .agreed }
+            → TookIs (taking rx y (length out)) (record { core = core′; written = o .agreed; why = Done }) sums′ planes′ picks′ out out′
+        unfolding taking grown
+        done core′ sums′ planes′ picks′ out′ turn room et eo ea eb ec ed =
+            rw (ne-eqb _ _ fresh, ← agreed-same, le-ltb _ _ fits, le-ltb _ _ room, ← released-is)
+            (record { receiver = rw (ed, et, ea, eb, ec, is); why = refl; written = sym words-length; out = rw words-length eo })

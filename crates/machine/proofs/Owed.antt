@@ -1,0 +1,130 @@
+-- What the doors rely on. For a receiver that was told a fine history: its record, what one more symbol does to it, what finish
+-- writes and what an opening makes, each in the words of the meaning.
+--   sound-told                           the machine takes the record for sound
+--   width-told .. pending-fits           the record's numbers
+--   kept-told, agreed-told, words-told   one more symbol: how many stay pending, how many words are released, and which
+--   no-fault, no-fault-range             no coordinate is at fault exactly if all are in range
+--   Judged, taking-told                  what is said to a symbol and what becomes of it are what the meaning judges
+--   machine-same, telling-judge          the receiver told other symbols: the same machine after ys, the same judge
+--   grown-told, fine-told                told one symbol more
+--   last-told, rest-many                 what finish writes, and how many words
+--   fresh-kept                           what was pending and the new symbol are released or stay pending
+--   fresh-few, fresh-most, rest-most     a symbol releases no more than were pending; neither it nor a finish writes more than 64
+--   fresh-below, rest-below              every word has 3 + 2u bits
+--   speaks                               what is spoken stays spoken and begins the answer
+--   unheard, opened-told, fine-opened    an opening
+use mathlib.Core.Path.{_≡_, refl, sym, ap, _∙_}
+use mathlib.Core.Bool.{true}
+use mathlib.Core.List.{List, [], _∷_}
+use Prim.Native.Nat.{ℕ, _+_, _*_, _^_, _≤_, _<_}
+use native.Mathlib.Omega.{arith}
+use lib.ListN.{length}
+use Rattle.calls.specs.Calls.{Speaks, fresh, rest}
+use Rattle.trellis.specs.Lists.{Every}
+use Rattle.trellis.specs.Measure.{Start, GoodStart, Two}
+use Rattle.trellis.specs.Pick.{bestOf}
+use Rattle.trellis.specs.Words.{wordsFrom}
+use Rattle.trellis.proofs.Lists.{every-drop}
+use Rattle.trellis.proofs.Spoken.{grows, final, spoken-none, spoken-reach, spoken-below, answer-below}
+use Rattle.nearest.specs.declared.Received.{Received}
+use Rattle.nearest.specs.Line.{BothInRange, lineDistance, lineMeasure}
+use Rattle.machine.specs.Machine.{sound, agreedOf, keptOf, releasedOf, grown, taking, lastWords, opened}
+use Rattle.machine.specs.Told.{Told, withHeard, speakerOf, pendingAfter, judgeSymbol, Fine, machineAfter, machineOf}
+use Rattle.machine.proofs.Trellis.{chooses}
+use Rattle.machine.proofs.Owes.{owes, owes-step, owes-sound}
+use Rattle.machine.proofs.Finish.{last-words, last-many}
+use Rattle.machine.proofs.Telling.{telling-machine, telling-fine}
+use Rattle.machine.proofs.Judged.{judged}
+pub use Rattle.machine.proofs.Telling.{machine-same, telling-judge, no-fault, no-fault-range}
+pub use Rattle.machine.proofs.Judged.{Judged}
+
+module _ (t : Told) (f : Fine t) where
+  -- ── the record ──
+  pub sound-told : sound (machineOf t) ≡ true
+  sound-told = owes-sound t f
+
+  pub width-told : machineOf t .core .u ≡ t .u
+  width-told = owes t f .keeps .width
+
+  pub window-told : machineOf t .core .window ≡ t .window
+  window-told = owes t f .window
+
+  pub taken-told : machineOf t .core .taken ≡ length (t .heard)
+  taken-told = owes t f .keeps .taken
+
+  pub pending-told : machineOf t .core .pending ≡ pendingAfter t (t .heard)
+  pending-told = omega (arith, owes t f .keeps .holds .count, spoken-reach (t .u) lineMeasure (bestOf (t .u) lineDistance) (chooses (t .u)) (t .start) (f .good-start) (t .heard))
+
+  pub pending-fits : machineOf t .core .pending ≤ t .window
+  pending-fits = owes t f .fits
+
+  -- ── one more symbol ──
+  module _ (y : Two Received) (r : BothInRange y) (few : length (t .heard) < 4294967295) where
+    pub kept-told : keptOf (machineOf t) y ≡ pendingAfter t (y ∷ t .heard)
+    kept-told = owes-step t f y r few .kept
+
+    pub agreed-told : agreedOf (machineOf t) y ≡ length (fresh (speakerOf t) (t .heard) y)
+    agreed-told = owes-step t f y r few .agreed
+
+    pub words-told : wordsFrom (machineOf t .core .u) (machineOf t .core .turn) (releasedOf (machineOf t) y) ≡ fresh (speakerOf t) (t .heard) y
+    words-told = owes-step t f y r few .words
+
+    -- as many as were pending and the new one are released or stay pending
+    pub fresh-kept : length (fresh (speakerOf t) (t .heard) y) + pendingAfter t (y ∷ t .heard) ≡ pendingAfter t (t .heard) + 1
+    fresh-kept = omega (arith, agreed-told, kept-told, pending-told, owes-step t f y r few .few)
+
+    pub fresh-few : length (fresh (speakerOf t) (t .heard) y) ≤ machineOf t .core .pending
+    fresh-few = omega (arith, agreed-told, owes-step t f y r few .few)
+
+    pub fresh-most : length (fresh (speakerOf t) (t .heard) y) ≤ 64
+    fresh-most = omega (arith, fresh-few, pending-fits, f .small-window)
+
+    pub fine-told : pendingAfter t (y ∷ t .heard) ≤ t .window → Fine (withHeard t (y ∷ t .heard))
+    fine-told h = telling-fine t f y r few h
+
+  pub grown-told : (y : Two Received) → machineOf (withHeard t (y ∷ t .heard)) ≡ grown (machineOf t) y
+  grown-told y = telling-machine t f y
+
+  pub taking-told : (y : Two Received) → BothInRange y → (room : ℕ) → Judged t y (judgeSymbol t (t .heard) y room) (taking (machineOf t) y room)
+  taking-told y r room = judged t f y r room
+
+  -- ── finish ──
+  pub last-told : lastWords (machineOf t) ≡ rest (speakerOf t) (t .heard)
+  last-told = last-words (t .u) (t .start) (f .good-start) (t .heard) (machineOf t) (owes t f .keeps)
+
+  pub rest-many : length (rest (speakerOf t) (t .heard)) ≡ machineOf t .core .pending
+  rest-many = ap length (sym last-told) ∙ last-many (machineOf t)
+
+  pub rest-most : length (rest (speakerOf t) (t .heard)) ≤ 64
+  rest-most = omega (arith, rest-many, pending-fits, f .small-window)
+
+  -- ── words ──
+  pub fresh-below : (ys : List (Two Received)) (y : Two Received) → Every (λ n. n < 2 ^ (3 + 2 * t .u)) (fresh (speakerOf t) ys y)
+  fresh-below ys y =
+      every-drop (λ n. n < 2 ^ (3 + 2 * t .u)) (length (speakerOf t .spoken ys)) (speakerOf t .spoken (y ∷ ys))
+      (spoken-below (t .u) lineMeasure (bestOf (t .u) lineDistance) (chooses (t .u)) (t .start) (f .good-start) (y ∷ ys))
+
+  pub rest-below : (ys : List (Two Received)) → Every (λ n. n < 2 ^ (3 + 2 * t .u)) (rest (speakerOf t) ys)
+  rest-below ys =
+      every-drop (λ n. n < 2 ^ (3 + 2 * t .u)) (length (speakerOf t .spoken ys)) (speakerOf t .answered ys)
+      (answer-below (t .u) lineMeasure (bestOf (t .u) lineDistance) (chooses (t .u)) (t .start) (f .good-start) ys)
+
+  pub speaks : Speaks (speakerOf t)
+  speaks =
+      record {
+        starts = spoken-none (t .u) lineMeasure (bestOf (t .u) lineDistance) (chooses (t .u)) (t .start) (f .good-start);
+        grows = λ ys y. grows (t .u) lineMeasure (bestOf (t .u) lineDistance) (chooses (t .u)) (t .start) (f .good-start) (y ∷ []) ys;
+        within = λ ys. final (t .u) lineMeasure (bestOf (t .u) lineDistance) (chooses (t .u)) (t .start) (f .good-start) [] ys;
+      }
+
+-- ── an opening ──
+module _ (u window : ℕ) (b : Start) where
+  abbrev pub unheard : Told
+  unheard = record { u = u; window = window; start = b; heard = [] }
+
+  pub opened-told : machineOf unheard ≡ opened u window b
+  unfolding machineAfter
+  opened-told = refl
+
+  pub fine-opened : u ≤ 8 → 1 ≤ window → window ≤ 64 → GoodStart b → Fine unheard
+  fine-opened h k l g = record { width = h; some-window = k; small-window = l; good-start = g; few = omega arith; each = tt }

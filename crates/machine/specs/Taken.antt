@@ -1,0 +1,58 @@
+-- What the code of one symbol is told and what it gives, in terms of the machine.
+--   CoreFits c           the ranges that `soundCore` tests, as facts
+--   SumsFit n sums       no sum is above what n symbols can make
+--   Ready c sums         both
+--   whole                an open receiver, from its parts
+--   outlookOf rx y       what the symbol y would make of the receiver
+--   TookIs               result, arrays and output are those of the outcome
+use Prim.Native.Nat.{ℕ, _≤_, _<_}
+use mathlib.Core.Path.{_≡_}
+use mathlib.Core.Bool.{true}
+use mathlib.Core.List.{List, _++_, map}
+use lib.ListN.{getD, length, drop}
+use Rattle.trellis.specs.Measure.{Two}
+use Rattle.nearest.specs.declared.Received.{Received}
+use Rattle.nearest.specs.Found.{weighedOf}
+use Rattle.wei.specs.Symbol.{Symbol}
+use Rattle.machine.specs.declared.Core.{Core}
+use Rattle.machine.specs.declared.Receiver.{Receiver}
+use Rattle.machine.specs.declared.Outlook.{Outlook}
+use Rattle.machine.specs.declared.Took.{Took}
+use Rattle.planes.specs.Planes.{movedOf}
+use Rattle.select.specs.Select.{prevIn}
+use Rattle.machine.specs.Machine.{nextSums, nextSteps, numbersIn, agreedOf, Outcome, topSum}
+
+pub record CoreFits (c : Core) : Type 0 where
+  pub width : c .u ≤ 8
+  pub some-window : 1 ≤ c .window
+  pub small-window : c .window ≤ 64
+  pub turn-below : c .turn < 4
+  pub slot-below : c .slot < 64
+  pub held : c .pending ≤ c .window
+
+abbrev pub SumsFit : ℕ → List ℕ → Type 0
+SumsFit n sums = (i : ℕ) → getD sums i 0 ≤ topSum n
+
+pub record Ready (c : Core) (sums : List ℕ) : Type 0 where
+  pub core-fits : CoreFits c
+  pub sums-fit : SumsFit (c .taken) sums
+
+abbrev pub whole : Core → List ℕ → List ℕ → List ℕ → Receiver
+whole c sums planes picks = record { live = true; core = c; sums = sums; planes = planes; picks = picks }
+
+abbrev pub outlookOf : Receiver → Two Received → Outlook
+outlookOf rx y =
+    record {
+      sums = nextSums rx y;
+      planes = movedOf (rx .planes) (nextSteps rx y);
+      i3 = weighedOf (rx .core .u) y .i3;
+      numbers = numbersIn rx y;
+      state = prevIn (nextSteps rx y) 0;
+      agreed = agreedOf rx y;
+    }
+
+pub record TookIs (o : Outcome) (r : Took) (sums planes picks before after : List ℕ) : Type 0 where
+  pub receiver : whole (r .core) sums planes picks ≡ o .receiver
+  pub why : r .why ≡ o .why
+  pub written : r .written ≡ length (o .words)
+  pub out : after ≡ o .words ++ drop (length (o .words)) before

@@ -1,0 +1,201 @@
+// The inside of one symbol. `Receiver` is the whole state of the receiving end, and `take_symbol` takes it over one received
+// symbol: `look_ahead` weighs the symbol (crate nearest), adds, compares and selects (select), moves the registers of all states
+// on and counts how many symbols all live states now agree on (planes). Nothing is stored so far, so a refusal leaves all as it was.
+// Then the agreed words are written, and sums, registers and picks (picks) are stored. At the end of a line `write_words` gives the
+// words of the answer.
+//
+// The arrays are lent and copied nowhere: a caller that holds a receiver takes it apart once for a whole piece. Every function
+// equals a definition of specs/ on the same numbers, whatever the lists hold.
+use nearest::Received;
+ghost use mathlib.Core.Path.{_≡_};
+ghost use mathlib.Core.List.{[], _++_};
+ghost use Prim.Native.Nat.{_+_, _%_, _≤_, _<_};
+ghost use lib.ListN.{length, take, drop};
+ghost use Rattle.trellis.specs.Speak.{after};
+ghost use Rattle.trellis.specs.Words.{wordsFrom, turnAfter};
+ghost use Rattle.points.specs.Points.{coordinates};
+ghost use Rattle.nearest.specs.Line.{InRange};
+ghost use Rattle.nearest.specs.Found.{heardAs};
+ghost use Rattle.machine.specs.Machine.{wayFrom, taking};
+ghost use Rattle.machine.specs.Taken.{CoreFits, Ready, whole, outlookOf, TookIs};
+
+// The part of the receiver that is a handful of numbers.
+pub struct Core {
+    pub u: u32,
+    pub window: usize,
+    pub taken: u32,
+    pub turn: u32,
+    pub slot: usize,
+    pub pending: usize,
+}
+
+// The receiver: sums by state, three registers of each state, and what was picked of the pending symbols.
+pub struct Receiver {
+    pub live: bool,
+    pub core: Core,
+    pub sums: [u64; 16],
+    pub planes: [u64; 48],
+    pub picks: [u64; 72],
+}
+
+// Why a call ended. A bad sample carries the place of the first coordinate at fault, 0 to 3.
+pub enum Why {
+    Done,
+    BadWidth,
+    BadWindow,
+    BadStart,
+    BadSample(u32),
+    Full,
+    TooMany,
+    NoRoom,
+    Closed,
+    Uneven,
+}
+
+// What became of a symbol: the numbers of the receiver after it, and how many words it wrote.
+pub struct Took {
+    pub core: Core,
+    pub written: usize,
+    pub why: Why,
+}
+
+// What a symbol would make of the receiver: the new sums and registers, what is picked, how many pending symbols are agreed then, and a
+// state whose way begins with them.
+pub struct Outlook {
+    pub sums: [u64; 16],
+    pub planes: [u64; 48],
+    pub i3: [u8; 8],
+    pub numbers: u64,
+    pub state: usize,
+    pub agreed: usize,
+}
+
+// The words of the first n pending symbols on the way into the state s, at the front of `out`. Gives the turn after them.
+pub fn write_words(
+    core: Core,
+    planes: &[u64; 48],
+    picks: &[u64; 72],
+    s: usize,
+    n: usize,
+    out: &mut [u32],
+) -> u32
+    requires { ⌜ CoreFits core × (s < 16) × (n ≤ core .pending) × (n ≤ length (now out)) ⌝ }
+    ensures { λ r. ⌜ r ≡ after turnAfter (core .turn) (take n (wayFrom core (now (planes .entry)) (now (picks .entry)) s)) ⌝ }
+    ensures { λ _. ⌜ now (out .exit) ≡ wordsFrom (core .u) (core .turn) (take n (wayFrom core (now (planes .entry)) (now (picks .entry)) s)) ++ drop n (now (out .entry)) ⌝ }
+{
+    let way = planes::registers_of(planes, s);
+    let oldest = core.slot + 64 - core.pending;
+    let mut turn = core.turn;
+    let mut j: usize = 0;
+    while j < n {
+        let age = core.pending - 1 - j;
+        let k = planes::subset_at(way, age);
+        let said = picks::word_in(core.u, turn, picks, (oldest + j) % 64, age, k);
+        out[j] = said.word;
+        turn = said.turn;
+        j += 1;
+    }
+    turn
+}
+
+// What a symbol would make of the receiver. Nothing is stored: the receiver is only read.
+fn look_ahead(
+    t: &[i8; 512],
+    core: Core,
+    sums: &[u64; 16],
+    planes: &[u64; 48],
+    first: Received,
+    second: Received,
+) -> Outlook
+    requires { ⌜ (now t ≡ coordinates) × InRange first × InRange second ⌝ }
+    requires { ⌜ Ready core (now sums) × (core .taken < 4294967295) ⌝ }
+    ensures { λ r. ⌜ r ≡ outlookOf (whole core (now (sums .entry)) (now (planes .entry)) []) (heardAs first second) ⌝ }
+{
+    let w = nearest::weigh(t, core.u, first, second);
+    let costs = w.costs;
+    let i3 = w.i3;
+    let w1 = w.w1;
+    let w2 = w.w2;
+    let next = select::advance(sums, &costs);
+    let new_sums = next.sums;
+    let steps = next.steps;
+    let moved = planes::shifted(planes, steps);
+    let new_planes = moved.planes;
+    let agreed = planes::agreed(moved.apart, core.pending);
+    Outlook {
+        sums: new_sums,
+        planes: new_planes,
+        i3: i3,
+        numbers: picks::numbers_of(w1, w2),
+        state: (steps[0] / 8 % 16) as usize,
+        agreed: agreed,
+    }
+}
+
+// A refused symbol leaves all as it was.
+fn refused(core: Core, why: Why) -> Took
+    ensures { λ r. ⌜ r ≡ record { core = core; written = 0; why = why } ⌝ }
+{
+    Took {
+        core: core,
+        written: 0,
+        why: why,
+    }
+}
+
+// The numbers after a symbol is taken, with the turn after its words and with so many pending.
+fn moved_on(core: Core, turn: u32, pending: usize) -> Core
+    requires { ⌜ (core .taken < 4294967295) × (core .slot < 64) ⌝ }
+    ensures { λ r. ⌜ r ≡ record { u = core .u; window = core .window; taken = core .taken + 1; turn = turn; slot = (core .slot + 1) % 64; pending = pending } ⌝ }
+{
+    Core {
+        u: core.u,
+        window: core.window,
+        taken: core.taken + 1,
+        turn: turn,
+        slot: (core.slot + 1) % 64,
+        pending: pending,
+    }
+}
+
+// One symbol. It is refused with number 7, 6 or 8, in this order, and then nothing has been stored; or it is taken, and the words
+// that all live states now agree on stand at the front of `out`.
+pub fn take_symbol(
+    t: &[i8; 512],
+    core: Core,
+    sums: &mut [u64; 16],
+    planes: &mut [u64; 48],
+    picks: &mut [u64; 72],
+    first: Received,
+    second: Received,
+    out: &mut [u32],
+) -> Took
+    requires { ⌜ (now t ≡ coordinates) × InRange first × InRange second ⌝ }
+    requires { ⌜ Ready core (now sums) ⌝ }
+    ensures { λ r. ⌜ TookIs (taking (whole core (now (sums .entry)) (now (planes .entry)) (now (picks .entry))) (heardAs first second) (length (now (out .entry)))) r (now (sums .exit)) (now (planes .exit)) (now (picks .exit)) (now (out .entry)) (now (out .exit)) ⌝ }
+{
+    if core.taken == 4294967295 {
+        return refused(core, Why::TooMany);
+    }
+    let o = look_ahead(t, core, sums, planes, first, second);
+    let n = o.agreed;
+    let kept = core.pending + 1 - n;
+    if core.window < kept {
+        return refused(core, Why::Full);
+    }
+    if out.len() < n {
+        return refused(core, Why::NoRoom);
+    }
+    let turn = write_words(core, planes, picks, o.state, n, out);
+    let new_sums = o.sums;
+    let new_planes = o.planes;
+    let i3 = o.i3;
+    *sums = new_sums;
+    *planes = new_planes;
+    picks::keep(picks, core.slot, i3, o.numbers);
+    Took {
+        core: moved_on(core, turn, kept),
+        written: n,
+        why: Why::Done,
+    }
+}

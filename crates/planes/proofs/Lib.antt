@@ -1,0 +1,4 @@
+pub mod Registers
+pub mod Oldest
+pub mod Count
+pub mod Round

@@ -1,0 +1,4 @@
+pub mod Lists
+pub mod UpTo
+pub mod Followed
+pub mod CodeSelect

@@ -1,0 +1,3 @@
+pub mod Select
+-- how the code goes
+pub mod Ways

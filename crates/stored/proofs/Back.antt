@@ -1,0 +1,121 @@
+-- Words that hold an end give it back: reading undoes writing, whatever stands behind it.
+--   SenderFits, ReceiverFits    the record's numbers fit their types, and its lists have their lengths
+--   sender-back, receiver-back  the law; a record that is not live reads as closed
+--   sender-stored, receiver-stored    so a record that was put into words is read from them
+use mathlib.Core.Path.{_≡_, refl, sym, ap, _∙_}
+use mathlib.Core.Bool.{Bool, true, false}
+use mathlib.Core.List.{List, [], _∷_, _++_, append-assoc}
+use Prim.Native.Nat.{ℕ, zero, suc, _+_, _-_, _*_, _/_, _%_, _^_, _≤_, _<_}
+use native.Mathlib.Omega.{arith}
+use borrow.Author.Tests.{lt-ltb, le-leb}
+use lib.Dec.{leb}
+use lib.ListN.{getD, length, take, drop, length-append}
+use lib.Seq.{take-at, drop-at, drop-drop}
+use Rattle.sender.specs.declared.Sender.{Sender}
+use Rattle.sender.specs.Send as sender
+use Rattle.machine.specs.declared.Receiver.{Receiver}
+use Rattle.machine.specs.Machine as machine
+use Rattle.stored.specs.Layout.{receiverTag, senderLength, receiverLength}
+use Rattle.stored.specs.State.{holds, senderIn, wordsOfSender, coreIn, receiverIn, wordsOfCore, wordsOfReceiver, readSender, readReceiver, SenderStored, ReceiverStored}
+
+-- ---- a sender
+
+pub record SenderFits (s : Sender) : Type 0 where
+  pub u : s .u < 2 ^ 32
+  pub turn : s .turn < 2 ^ 32
+  pub state : s .state < 2 ^ 32
+
+sender-live : (s : Sender) (rest : List ℕ) → SenderFits s → s .live ≡ true → senderIn (wordsOfSender s ++ rest) ≡ s
+unfolding senderIn holds wordsOfSender
+sender-live s rest f e =
+    let a = lt-ltb (s .u) (2 ^ 32) (f .u) in
+    let b = lt-ltb (s .turn) (2 ^ 32) (f .turn) in
+    let d = lt-ltb (s .state) (2 ^ 32) (f .state) in
+    let n : leb 4 (length (wordsOfSender s ++ rest)) ≡ true = le-leb 4 (length (wordsOfSender s ++ rest)) (omega arith) in
+    rw (n, e, a, b, d)
+
+sender-shut : (s : Sender) (rest : List ℕ) → s .live ≡ false → senderIn (wordsOfSender s ++ rest) ≡ sender.shut
+unfolding senderIn holds wordsOfSender
+sender-shut s rest e =
+    let n : leb 4 (length (wordsOfSender s ++ rest)) ≡ true = le-leb 4 (length (wordsOfSender s ++ rest)) (omega arith) in
+    rw (n, e)
+
+pub sender-back : (s : Sender) (rest : List ℕ) → SenderFits s → senderIn (wordsOfSender s ++ rest) ≡ readSender s
+sender-back s rest f = go (s .live) refl where
+  go : (b : Bool) → s .live ≡ b → senderIn (wordsOfSender s ++ rest) ≡ readSender s
+  go true e = sender-live s rest f e ∙ rw e
+  go false e = sender-shut s rest e ∙ rw e
+
+pub sender-stored : (s : Sender) (l : List ℕ) {o : List ℕ} → SenderFits s → o ≡ wordsOfSender s ++ drop senderLength l → SenderStored s l o
+sender-stored s l f e = record { words = e; reads = ap senderIn e ∙ sender-back s (drop senderLength l) f }
+
+-- ---- a receiver
+
+pub record ReceiverFits (rx : Receiver) : Type 0 where
+  pub u : rx .core .u < 2 ^ 32
+  pub taken : rx .core .taken < 2 ^ 32
+  pub turn : rx .core .turn < 2 ^ 32
+  pub sums : length (rx .sums) ≡ 16
+  pub planes : length (rx .planes) ≡ 48
+  pub picks : length (rx .picks) ≡ 72
+
+module _ (rx : Receiver) (rest : List ℕ) where
+  abbrev state : List ℕ
+  state = wordsOfReceiver rx ++ rest
+
+  abbrev head : List ℕ
+  head = wordsOfCore (rx .live) (rx .core)
+
+  -- the four parts and what stands behind them
+  parts : state ≡ head ++ (rx .sums ++ (rx .planes ++ (rx .picks ++ rest)))
+  unfolding wordsOfReceiver
+  parts = simp append-assoc
+
+  module _ (f : ReceiverFits rx) where
+    long : receiverLength ≤ length state
+    long =
+        rw (parts, length-append head, length-append (rx .sums), length-append (rx .planes), length-append (rx .picks), f .sums, f .planes, f .picks)
+        (omega arith)
+
+    sums-at : drop 7 state ≡ rx .sums ++ (rx .planes ++ (rx .picks ++ rest))
+    sums-at = rw parts
+
+    planes-at : drop 23 state ≡ rx .planes ++ (rx .picks ++ rest)
+    planes-at = sym (drop-drop 16 7 state) ∙ rw sums-at (drop-at (rx .sums) (rx .planes ++ (rx .picks ++ rest)) 16 (f .sums))
+
+    picks-at : drop 71 state ≡ rx .picks ++ rest
+    picks-at = sym (drop-drop 48 23 state) ∙ rw planes-at (drop-at (rx .planes) (rx .picks ++ rest) 48 (f .planes))
+
+    held-yes : rx .live ≡ true → holds receiverLength receiverTag state ≡ true
+    unfolding holds wordsOfReceiver
+    held-yes e =
+        let n = le-leb receiverLength (length state) long in
+        let a = lt-ltb (rx .core .u) (2 ^ 32) (f .u) in
+        let b = lt-ltb (rx .core .taken) (2 ^ 32) (f .taken) in
+        let d = lt-ltb (rx .core .turn) (2 ^ 32) (f .turn) in
+        rw (n, e, a, b, d)
+
+    core-at : coreIn state ≡ rx .core
+    unfolding wordsOfReceiver
+    core-at = refl
+
+    receiver-live : rx .live ≡ true → receiverIn (wordsOfReceiver rx ++ rest) ≡ rx
+    unfolding receiverIn
+    receiver-live e =
+        let s : take 16 (drop 7 state) ≡ rx .sums = rw sums-at (take-at (rx .sums) (rx .planes ++ (rx .picks ++ rest)) 16 (f .sums)) in
+        let t : take 48 (drop 23 state) ≡ rx .planes = rw planes-at (take-at (rx .planes) (rx .picks ++ rest) 48 (f .planes)) in
+        let p : take 72 (drop 71 state) ≡ rx .picks = rw picks-at (take-at (rx .picks) rest 72 (f .picks)) in
+        rw (held-yes e) (λ i. record { live = sym e i; core = core-at i; sums = s i; planes = t i; picks = p i })
+
+    receiver-shut : rx .live ≡ false → receiverIn (wordsOfReceiver rx ++ rest) ≡ machine.shut
+    unfolding receiverIn holds wordsOfReceiver
+    receiver-shut e = let n = le-leb receiverLength (length state) long in rw (n, e)
+
+    pub receiver-back : receiverIn (wordsOfReceiver rx ++ rest) ≡ readReceiver rx
+    receiver-back = go (rx .live) refl where
+      go : (b : Bool) → rx .live ≡ b → receiverIn (wordsOfReceiver rx ++ rest) ≡ readReceiver rx
+      go true e = receiver-live e ∙ rw e
+      go false e = receiver-shut e ∙ rw e
+
+pub receiver-stored : (rx : Receiver) (l : List ℕ) {o : List ℕ} → ReceiverFits rx → o ≡ wordsOfReceiver rx ++ drop receiverLength l → ReceiverStored rx l o
+receiver-stored rx l f e = record { words = e; reads = ap receiverIn e ∙ receiver-back rx (drop receiverLength l) f }

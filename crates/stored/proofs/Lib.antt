@@ -1,0 +1,3 @@
+pub mod Lent
+pub mod Held
+pub mod Back

@@ -1,0 +1,61 @@
+-- `holds_record`: each test decides where it fails.
+use mathlib.Core.Path.{_≡_, sym, _∙_}
+use denote.Ref.{now}
+use borrow.Author.Tests.{not-true, not-false}
+use Rattle.stored.proofs.Held.{held-short, held-other, held-by}
+use borrow.Author.Needs.{needs}
+use Rattle.stored.proofs.holds_record.Statement.{statement}
+use Rattle.stored.proofs.holds_record.Tie as tie
+
+returns : tie.Need-returns
+returns c = let s = c .before .before in let ws = now (s .args .words) in sym (held-short (s .args .size) (s .args .tag) ws (c .if1 .taken))
+
+shared-slice-read-if2 : tie.Need-shared-slice-read-if2
+shared-slice-read-if2 c = search needs
+
+returns-2 : tie.Need-returns-2
+returns-2 c = let s = c .before .before .before .before in let ws = now (s .args .words) in sym (held-other (s .args .size) (s .args .tag) ws (c .before .before .if1 .left) (c .if2 .taken))
+
+shared-slice-read-is-half : tie.Need-shared-slice-read-is-half
+shared-slice-read-is-half c = search needs
+
+is-half-requires : tie.Need-is-half-requires
+is-half-requires c κs = search needs
+
+returns-3 : tie.Need-returns-3
+returns-3 c = let s = c .before .before .before .before .before .before .before in let ws = now (s .args .words) in let no = sym (c .before .is-half .ensures) ∙ not-true (c .before .is-half .result) (c .if3 .taken) in sym (held-by (s .args .size) (s .args .tag) ws (c .before .before .before .before .before .if1 .left) (c .before .before .before .if2 .left) ∙ rw no)
+
+shared-slice-read-is-half-2 : tie.Need-shared-slice-read-is-half-2
+shared-slice-read-is-half-2 c = search needs
+
+is-half-requires-2 : tie.Need-is-half-requires-2
+is-half-requires-2 c κs = search needs
+
+returns-4 : tie.Need-returns-4
+returns-4 c = let s = c .before .before .before .before .before .before .before .before .before .before in let ws = now (s .args .words) in let yes = sym (c .before .before .before .before .is-half .ensures) ∙ not-false (c .before .before .before .before .is-half .result) (c .before .before .before .if3 .left) in let no = sym (c .before .is-half2 .ensures) ∙ not-true (c .before .is-half2 .result) (c .if4 .taken) in sym (held-by (s .args .size) (s .args .tag) ws (c .before .before .before .before .before .before .before .before .if1 .left) (c .before .before .before .before .before .before .if2 .left) ∙ rw (yes, no))
+
+shared-slice-read-is-half-3 : tie.Need-shared-slice-read-is-half-3
+shared-slice-read-is-half-3 c = search needs
+
+is-half-requires-3 : tie.Need-is-half-requires-3
+is-half-requires-3 c κs = search needs
+
+returns-5 : tie.Need-returns-5
+returns-5 c = let s = c .before .before .before .before .before .before .before .before .before .before .before .before in let ws = now (s .args .words) in let yes = sym (c .before .before .before .before .before .before .is-half .ensures) ∙ not-false (c .before .before .before .before .before .before .is-half .result) (c .before .before .before .before .before .if3 .left) in let also = sym (c .before .before .before .is-half2 .ensures) ∙ not-false (c .before .before .before .is-half2 .result) (c .before .before .if4 .left) in c .is-half3 .ensures ∙ sym (held-by (s .args .size) (s .args .tag) ws (c .before .before .before .before .before .before .before .before .before .before .if1 .left) (c .before .before .before .before .before .before .before .before .if2 .left) ∙ rw (yes, also))
+
+pub holds-record-spec : {M : Type 1} → statement M
+holds-record-spec =
+    tie.close
+    (tie.spec
+    returns
+    shared-slice-read-if2
+    returns-2
+    shared-slice-read-is-half
+    is-half-requires
+    returns-3
+    shared-slice-read-is-half-2
+    is-half-requires-2
+    returns-4
+    shared-slice-read-is-half-3
+    is-half-requires-3
+    returns-5)

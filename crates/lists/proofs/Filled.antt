@@ -3,14 +3,15 @@
 --   tabled-length, tabled-at    how long a table is, and what stands in it
 --   tabled-more                 one store more
 --   listed, all-listed          a list is the table of its places
+--   tabled-same, tabled-set     two tables that are equal place by place; one place changed
 --   fill-length, fill-at, fill-past, fill-next   partly filled: the length, a place that is filled, one that is not yet, the next
 use mathlib.Core.Path.{_≡_, refl, sym, ap, _∙_}
 use mathlib.Core.List.{List, [], _∷_, _++_}
 use Prim.Native.Nat.{ℕ, zero, suc, _+_, _≤_, _<_}
-use native.Mathlib.Decide.{decLt}
+use native.Mathlib.Decide.{decLt, ℕ-discrete}
 use native.Mathlib.Omega.{arith}
-use lib.ListN.{List·getD-append, length, getD, take, drop, set, length-append, length-drop}
-use lib.Seq.{take-suc, drop-cons, append-snoc, set-at, getD-at, getD-append-add, getD-drop, take-length}
+use lib.ListN.{List·getD-append, length, getD, take, drop, set, length-append, length-drop, length-set}
+use lib.Seq.{take-suc, drop-cons, append-snoc, set-at, getD-at, getD-append-add, getD-drop, getD-set-same, getD-set-other, ext-getD, take-length}
 use Rattle.lists.specs.Tabled.{tabled}
 
 module _ {A : Type 0} where
@@ -63,3 +64,21 @@ fill-next f n l = ap (λ (m : ℕ). getD (tabled f n ++ drop n l) m 0) (add-none
   where
     add-none : (m : ℕ) → m ≡ m + 0
     add-none m = omega arith
+
+-- ── tables by place ──
+pub tabled-same : (f g : ℕ → ℕ) (n : ℕ) → ((i : ℕ) → i < n → f i ≡ g i) → tabled f n ≡ tabled g n
+tabled-same f g n h =
+    ext-getD 0 (tabled f n) (tabled g n) (tabled-length f n ∙ sym (tabled-length g n))
+    (λ i k. let l : i < n = omega (arith, tabled-length f n) in tabled-at f n i l ∙ h i l ∙ sym (tabled-at g n i l))
+
+pub tabled-set : (f g : ℕ → ℕ) (n j v : ℕ) → j < n → g j ≡ v → ((i : ℕ) → i < n → (i ≡ j → ⊥) → g i ≡ f i) → set (tabled f n) j v ≡ tabled g n
+tabled-set f g n j v h e o =
+    ext-getD 0 (set (tabled f n) j v) (tabled g n) (length-set (tabled f n) j v ∙ tabled-length f n ∙ sym (tabled-length g n))
+    (λ i k. let l : i < n = omega (arith, length-set (tabled f n) j v, tabled-length f n) in go i l (ℕ-discrete i j))
+  where
+    go : (i : ℕ) → i < n → Dec (i ≡ j) → getD (set (tabled f n) j v) i 0 ≡ getD (tabled g n) i 0
+    go i l (yes z) =
+        ap (λ (m : ℕ). getD (set (tabled f n) j v) m 0) z
+        ∙ getD-set-same (tabled f n) j v 0 (omega (arith, tabled-length f n))
+        ∙ sym (tabled-at g n i l ∙ ap g z ∙ e)
+    go i l (no z) = getD-set-other (tabled f n) j i v 0 z ∙ tabled-at f n i l ∙ sym (tabled-at g n i l ∙ o i l z)

@@ -29,9 +29,8 @@ use Rattle.machine.specs.declared.Outlook.{Outlook}
 use Rattle.machine.specs.declared.Took.{Took}
 use Rattle.machine.specs.declared.Why.{Why}
 use Rattle.machine.specs.declared.Why.the-variants.{Done, TooMany, Full, NoRoom}
-use Rattle.planes.specs.declared.Next.{Next}
-use Rattle.planes.specs.Planes.{movedOf, sameAt, apartOf, oldest, clearAt}
-use Rattle.planes.proofs.Oldest.{oldest-le, agreed-is}
+use Rattle.planes.specs.Planes.{wordsBefore, movedOf, sameAt, oldest}
+use Rattle.planes.proofs.Oldest.{oldest-le}
 use Rattle.select.specs.Select.{sixteen, sumAt, stepAt, prevIn}
 use Rattle.picks.specs.Picks.{numbersOf, keptIn}
 use Rattle.machine.specs.Machine.{nextSums, nextSteps, numbersIn, wayFrom, agreedOf, releasedOf, grown, refused, taking}
@@ -52,25 +51,24 @@ summable core sums g h w r few a b e =
       costs-below = rw e (costs-below (core .u) (heardAs g h) (r .core-fits .width) (record { first-in = a; second-in = b }));
     }
 
-pub looked : (core : Core) (sums planes : List ℕ) (y : Two Received) (w : Weighed) (next : Selected) (moved : Next) (n numbers : ℕ)
+pub looked : (core : Core) (sums planes : List ℕ) (y : Two Received) (w : Weighed) (next : Selected) (ways : List ℕ) (n numbers : ℕ)
     → w ≡ weighedOf (core .u) y
     → next ≡ record { sums = sixteen (sumAt sums (w .costs)); steps = sixteen (stepAt sums (w .costs)) }
-    → moved ≡ record { planes = movedOf planes (next .steps); apart = apartOf planes (next .steps) }
-    → n ≡ oldest (clearAt (moved .apart)) (core .pending)
+    → ways ≡ wordsBefore planes (next .steps) 0
+    → n ≡ oldest (sameAt planes (next .steps)) (core .pending)
     → numbers ≡ numbersOf (w .w1) (w .w2)
-    → record { sums = next .sums; planes = moved .planes; i3 = w .i3; numbers = numbers; state = getD (next .steps) 0 0 / 8 % 16; agreed = n } ≡ outlookOf (whole core sums planes []) y
+    → record { sums = next .sums; steps = next .steps; ways = ways; i3 = w .i3; numbers = numbers; state = getD (next .steps) 0 0 / 8 % 16; agreed = n } ≡ outlookOf (whole core sums planes []) y
 unfolding agreedOf
-looked core sums planes y w next moved n numbers ew es em en ek =
+looked core sums planes y w next ways n numbers ew es em en ek =
     let rx = whole core sums planes [] in
     let a : next .sums ≡ nextSums rx y = ap (λ (x : Selected). x .sums) es ∙ rw ew in
     let b : next .steps ≡ nextSteps rx y = ap (λ (x : Selected). x .steps) es ∙ rw ew in
-    let f : moved .planes ≡ movedOf planes (nextSteps rx y) = ap (λ (x : Next). x .planes) em ∙ ap (movedOf planes) b in
+    let f : ways ≡ wordsBefore planes (nextSteps rx y) 0 = em ∙ ap (λ (l : List ℕ). wordsBefore planes l 0) b in
     let c : w .i3 ≡ weighedOf (core .u) y .i3 = ap (λ (x : Weighed). x .i3) ew in
     let k : numbers ≡ numbersIn rx y = ek ∙ ap (λ (x : Weighed). numbersOf (x .w1) (x .w2)) ew in
     let s : getD (next .steps) 0 0 / 8 % 16 ≡ prevIn (nextSteps rx y) 0 = ap (λ (m : List ℕ). prevIn m 0) b in
-    let m : n ≡ oldest (sameAt planes (nextSteps rx y)) (core .pending) =
-    en ∙ ap (λ (x : Next). oldest (clearAt (x .apart)) (core .pending)) em ∙ agreed-is planes (next .steps) (core .pending) ∙ ap (λ (l : List ℕ). oldest (sameAt planes l) (core .pending)) b in
-    λ i. record { sums = a i; planes = f i; i3 = c i; numbers = k i; state = s i; agreed = m i }
+    let m : n ≡ oldest (sameAt planes (nextSteps rx y)) (core .pending) = en ∙ ap (λ (l : List ℕ). oldest (sameAt planes l) (core .pending)) b in
+    λ i. record { sums = a i; steps = b i; ways = f i; i3 = c i; numbers = k i; state = s i; agreed = m i }
 
 -- ---- the outcome
 module _ (core : Core) (sums planes picks : List ℕ) (y : Two Received) (out : List ℕ) where
@@ -92,6 +90,9 @@ module _ (core : Core) (sums planes picks : List ℕ) (y : Two Received) (out : 
 
     pub few : o .agreed ≤ core .pending
     few = rw agreed-same (agreed-few rx y)
+
+    pub ways-are : o .ways ≡ wordsBefore planes (o .steps) 0
+    ways-are = rw is
 
     pub state-below : o .state < 16
     state-below = rw is (omega arith)
@@ -122,7 +123,7 @@ module _ (core : Core) (sums planes picks : List ℕ) (y : Two Received) (out : 
             → turn ≡ after turnAfter (core .turn) released
             → out′ ≡ wordsFrom (core .u) (core .turn) released ++ drop (o .agreed) out
             → sums′ ≡ o .sums
-            → planes′ ≡ o .planes
+            → planes′ ≡ movedOf (core .pending + 1) planes (o .steps)
             → picks′ ≡ keptIn picks (core .slot) (o .i3) (o .numbers)
             → core′ ≡ record { u = core .u; window = core .window; taken = core .taken + 1; turn = turn; slot = (core .slot + 1) % 64; pending = core .pending + 1 - o .agreed }
             → TookIs (taking rx y (length out)) (record { core = core′; written = o .agreed; why = Done }) sums′ planes′ picks′ out out′

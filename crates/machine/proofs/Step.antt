@@ -12,7 +12,7 @@ use lib.Dec.{T, ltb→lt}
 use lib.ListN.{length, getD, take, drop, length-drop}
 use borrow.Author.Tests.{lt-ltb}
 use Rattle.planes.specs.Planes.{cameFrom}
-use Rattle.planes.proofs.Registers.{moved-length}
+use Rattle.planes.proofs.Moved.{moved-length}
 use Rattle.trellis.specs.Lists.{Every}
 use Rattle.trellis.specs.Best.{Surv}
 use Rattle.trellis.specs.Choose.{up}
@@ -166,7 +166,7 @@ module _ (b : Start) (g : GoodStart b) (ys : List (Two Received)) (good : Every 
         sums-long = refl;
         slot-below = omega arith;
         pending-fits = h;
-        planes-long = moved-length (rx .planes) (nextSteps rx y);
+        planes-long = moved-length (rx .core .pending + 1) (rx .planes) (nextSteps rx y);
         picks-long = kept-length (rx .picks) (rx .core .slot) (W .i3) (numbersIn rx y) (o .picks-long) (o .slot-below);
         top = λ s. omega (arith, top-next u small y fine (length ys) (rx .sums) (o .top) s);
       }

@@ -11,7 +11,7 @@ use native.Mathlib.Nat.{add-mod-right}
 use lib.ListN.{length, getD, take, drop, length-append, length-drop, List·getD-append}
 use lib.Seq.{ext-getD, getD-take, getD-drop, getD-at, length-take-le}
 use Rattle.planes.specs.Planes.{subsetIn, cameFrom, movedOf}
-use Rattle.planes.proofs.Registers.{newest-subset, older-subset}
+use Rattle.planes.proofs.Moved.{newest-subset, older-subset}
 use Rattle.wei.specs.Symbol.{Symbol}
 use Rattle.machine.specs.declared.Core.{Core}
 use Rattle.picks.specs.Picks.{typeAt, numbersAt, symbolBy, symbolIn, keptIn}
@@ -66,6 +66,9 @@ age-at p k i h = omega arith
 young-at : (p k i : ℕ) → k + i < p → p + 1 - k ≤ 64 → p - 1 - (k + i) < 63
 young-at p k i h l = omega arith
 
+among : (p m : ℕ) → m < p → suc (p - 1 - m) < p + 1
+among p m h = omega arith
+
 inside : (p k i : ℕ) → p + 1 - k ≤ 64 → p - (k + i) < 64
 inside p k i l = omega arith
 
@@ -92,7 +95,7 @@ module _ (c : Core) (planes picks steps i3 : List ℕ) (n window taken turn k : 
   now = symbolBy (c .u) (getD i3 (getD steps s 0 % 8) 0 % 2) n (getD steps s 0 % 8)
 
   abbrev moved : List ℕ
-  moved = movedOf planes steps
+  moved = movedOf (c .pending + 1) planes steps
 
   abbrev stored : List ℕ
   stored = keptIn picks (c .slot) i3 n
@@ -106,7 +109,7 @@ module _ (c : Core) (planes picks steps i3 : List ℕ) (n window taken turn k : 
       let e₂ : ageOf c′ i ≡ suc q = age-at (c .pending) k i l in
       let young : q < 63 = young-at (c .pending) k i l kept in
       let z₁ : numbersAt stored a ≡ numbersAt picks a = other-slot picks (c .slot) i3 n long slot-below a (another (c .slot) (c .pending) (k + i) slot-below held l (inside (c .pending) k i kept)) in
-      let z₂ : subsetIn moved s (suc q) ≡ x = older-subset planes steps s h q young in
+      let z₂ : subsetIn moved s (suc q) ≡ x = older-subset (c .pending + 1) planes steps s h q young (among (c .pending) (k + i) l) in
       let z₃ : typeAt stored x (suc q) ≡ typeAt picks x q = older-type picks (c .slot) i3 n long slot-below x q (omega arith) young in
       ap₂ (λ (i j : ℕ). symbolIn (c .u) stored i j (subsetIn moved s j)) e₁ e₂
       ∙ ap (symbolIn (c .u) stored a (suc q)) z₂
@@ -118,7 +121,7 @@ module _ (c : Core) (planes picks steps i3 : List ℕ) (n window taken turn k : 
       let e₁ : slotOf c′ i ≡ c .slot = omega arith in
       let e₂ : ageOf c′ i ≡ 0 = omega arith in
       ap₂ (λ (i j : ℕ). symbolIn (c .u) stored i j (subsetIn moved s j)) e₁ e₂
-      ∙ ap (symbolIn (c .u) stored (c .slot) 0) (newest-subset planes steps s h)
+      ∙ ap (symbolIn (c .u) stored (c .slot) 0) (newest-subset (c .pending + 1) planes steps s h)
       ∙ ap₂ (λ (t m : ℕ). symbolBy (c .u) t m (step % 8)) (newest-type picks (c .slot) i3 n long slot-below (step % 8) (omega arith)) (kept-slot picks (c .slot) i3 n long slot-below)
       ∙ sym (getD-at was now [] now (k + i) (way-length c planes picks (cameFrom step) ∙ sym l))
 
@@ -129,7 +132,7 @@ module _ (c : Core) (planes picks steps i3 : List ℕ) (n window taken turn k : 
       go (yes g) = older i g
       go (no g) = newest i (omega arith)
 
-  pub way-grown : wayFrom (record { u = c .u; window = window; taken = taken; turn = turn; slot = (c .slot + 1) % 64; pending = c .pending + 1 - k }) (movedOf planes steps) (keptIn picks (c .slot) i3 n) s
+  pub way-grown : wayFrom (record { u = c .u; window = window; taken = taken; turn = turn; slot = (c .slot + 1) % 64; pending = c .pending + 1 - k }) (movedOf (c .pending + 1) planes steps) (keptIn picks (c .slot) i3 n) s
       ≡ drop k (wayFrom c planes picks (cameFrom (getD steps s 0)) ++ (symbolBy (c .u) (getD i3 (getD steps s 0 % 8) 0 % 2) n (getD steps s 0 % 8) ∷ []))
   way-grown =
       let l = wayFrom c′ moved stored s in

@@ -104,7 +104,7 @@ grown rx y =
             pending = keptOf rx y;
           };
       sums = nextSums rx y;
-      planes = movedOf (rx .planes) (nextSteps rx y);
+      planes = movedOf (rx .core .pending + 1) (rx .planes) (nextSteps rx y);
       picks = keptIn (rx .picks) (rx .core .slot) (weighedOf (rx .core .u) y .i3) (numbersIn rx y);
     }
 

@@ -18,7 +18,7 @@ use Rattle.machine.specs.declared.Core.{Core}
 use Rattle.machine.specs.declared.Receiver.{Receiver}
 use Rattle.machine.specs.declared.Outlook.{Outlook}
 use Rattle.machine.specs.declared.Took.{Took}
-use Rattle.planes.specs.Planes.{movedOf}
+use Rattle.planes.specs.Planes.{wordsBefore}
 use Rattle.select.specs.Select.{prevIn}
 use Rattle.machine.specs.Machine.{nextSums, nextSteps, numbersIn, agreedOf, Outcome, topSum}
 
@@ -44,7 +44,8 @@ abbrev pub outlookOf : Receiver → Two Received → Outlook
 outlookOf rx y =
     record {
       sums = nextSums rx y;
-      planes = movedOf (rx .planes) (nextSteps rx y);
+      steps = nextSteps rx y;
+      ways = wordsBefore (rx .planes) (nextSteps rx y) 0;
       i3 = weighedOf (rx .core .u) y .i3;
       numbers = numbersIn rx y;
       state = prevIn (nextSteps rx y) 0;

@@ -1,7 +1,7 @@
 // The inside of one symbol. `Receiver` is the whole state of the receiving end, and `take_symbol` takes it over one received
-// symbol: `look_ahead` weighs the symbol (crate nearest), adds, compares and selects (select), moves the registers of all states
-// on and counts how many symbols all live states now agree on (planes). Nothing is stored so far, so a refusal leaves all as it was.
-// Then the agreed words are written, and sums, registers and picks (picks) are stored. At the end of a line `write_words` gives the
+// symbol: `look_ahead` weighs the symbol (crate nearest), adds, compares and selects (select), and counts how many
+// symbols all live states now agree on (planes). Nothing is stored so far, so a refusal leaves all as it was. Then the agreed words are
+// written, sums and picks (picks) are stored, and the registers move on. At the end of a line `write_words` gives the
 // words of the answer.
 //
 // The arrays are lent and copied nowhere: a caller that holds a receiver takes it apart once for a whole piece. Every function
@@ -59,11 +59,12 @@ pub struct Took {
     pub why: Why,
 }
 
-// What a symbol would make of the receiver: the new sums and registers, what is picked, how many pending symbols are agreed then, and a
-// state whose way begins with them.
+// What a symbol would make of the receiver: the new sums, the step into each state and the first word of the state before it, what is
+// picked, how many pending symbols are agreed then, and a state whose way begins with them.
 pub struct Outlook {
     pub sums: [u64; 16],
-    pub planes: [u64; 48],
+    pub steps: [u8; 16],
+    pub ways: [u64; 16],
     pub i3: [u8; 8],
     pub numbers: u64,
     pub state: usize,
@@ -83,13 +84,12 @@ pub fn write_words(
     ensures { λ r. ⌜ r ≡ after turnAfter (core .turn) (take n (wayFrom core (now (planes .entry)) (now (picks .entry)) s)) ⌝ }
     ensures { λ _. ⌜ now (out .exit) ≡ wordsFrom (core .u) (core .turn) (take n (wayFrom core (now (planes .entry)) (now (picks .entry)) s)) ++ drop n (now (out .entry)) ⌝ }
 {
-    let way = planes::registers_of(planes, s);
     let oldest = core.slot + 64 - core.pending;
     let mut turn = core.turn;
     let mut j: usize = 0;
     while j < n {
         let age = core.pending - 1 - j;
-        let k = planes::subset_at(way, age);
+        let k = planes::subset_at(planes, s, age);
         let said = picks::word_in(core.u, turn, picks, (oldest + j) % 64, age, k);
         out[j] = said.word;
         turn = said.turn;
@@ -119,12 +119,12 @@ fn look_ahead(
     let next = select::advance(sums, &costs);
     let new_sums = next.sums;
     let steps = next.steps;
-    let moved = planes::shifted(planes, steps);
-    let new_planes = moved.planes;
-    let agreed = planes::agreed(moved.apart, core.pending);
+    let ways = planes::words_before(planes, &steps, 0);
+    let agreed = planes::agreed(planes, &steps, &ways, core.pending);
     Outlook {
         sums: new_sums,
-        planes: new_planes,
+        steps: steps,
+        ways: ways,
         i3: i3,
         numbers: picks::numbers_of(w1, w2),
         state: (steps[0] / 8 % 16) as usize,
@@ -188,10 +188,11 @@ pub fn take_symbol(
     }
     let turn = write_words(core, planes, picks, o.state, n, out);
     let new_sums = o.sums;
-    let new_planes = o.planes;
+    let steps = o.steps;
+    let ways = o.ways;
     let i3 = o.i3;
     *sums = new_sums;
-    *planes = new_planes;
+    planes::shift(planes, &steps, &ways, core.pending + 1);
     picks::keep(picks, core.slot, i3, o.numbers);
     Took {
         core: moved_on(core, turn, kept),

@@ -2,17 +2,27 @@
 --   kept-length               the length stays
 --   newest-type, older-type   I3' of the new symbol, and of one that came before
 --   kept-slot, other-slot     the numbers in the slot, and in any other
-use mathlib.Core.Path.{_≡_, ap, _∙_}
+use mathlib.Core.Path.{_≡_, sym, ap, _∙_}
 use mathlib.Core.List.{List, _++_}
-use Prim.Native.Nat.{ℕ, suc, _+_, _%_, _≤_, _<_}
+use Prim.Native.Nat.{ℕ, suc, _+_, _*_, _/_, _%_, _^_, _≤_, _<_}
 use native.Mathlib.Omega.{arith}
 use lib.ListN.{length, getD, drop, length-set}
+use lib.Pow.{shr-shr}
 use lib.Seq.{getD-set-same, getD-set-other}
 use Rattle.lists.specs.Tabled.{tabled}
 use Rattle.lists.proofs.Filled.{fill-length, fill-at, fill-past}
 use Rattle.planes.specs.Planes.{bitAt}
-use Rattle.planes.proofs.Registers.{newest-bit, older-bit}
-use Rattle.picks.specs.Picks.{typeAt, numbersAt, longerAt, keptIn}
+use Rattle.planes.proofs.Words.{low-bits}
+use Rattle.picks.specs.Picks.{longer, typeAt, numbersAt, longerAt, keptIn}
+
+newest-bit : (r b : ℕ) → b < 2 → bitAt (longer r b) 0 ≡ b
+newest-bit r b h = omega arith
+
+older-bit : (r b q : ℕ) → b < 2 → q < 63 → bitAt (longer r b) (suc q) ≡ bitAt r q
+older-bit r b q h k =
+    let half : longer r b / 2 ≡ r % 2 ^ 63 = omega arith in
+    let up : suc q ≡ 1 + q = omega arith in
+    ap (λ (k : ℕ). longer r b / 2 ^ k % 2) up ∙ ap (λ (x : ℕ). x % 2) (sym (shr-shr (longer r b) 1 q)) ∙ ap (λ (x : ℕ). x / 2 ^ q % 2) half ∙ low-bits r 63 q k
 
 module _ (picks : List ℕ) (i : ℕ) (i3 : List ℕ) (n : ℕ) (long : length picks ≡ 72) (h : i < 64) where
   abbrev longer-all : List ℕ

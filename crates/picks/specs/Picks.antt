@@ -14,7 +14,7 @@ use Prim.Native.Nat.{ℕ, _+_, _*_, _/_, _%_, _^_}
 use mathlib.Core.List.{List, _++_}
 use lib.ListN.{getD, set, drop}
 use Rattle.lists.specs.Tabled.{tabled}
-use Rattle.planes.specs.Planes.{bitAt, longer}
+use Rattle.planes.specs.Planes.{bitAt}
 use Rattle.wei.specs.Label.{turnOf, secondLabel}
 use Rattle.wei.specs.Symbol.{Symbol}
 use Rattle.trellis.specs.Words.{word, turnAfter}
@@ -56,6 +56,10 @@ numbersAt picks i = getD picks (8 + i) 0
 
 abbrev pub symbolIn : ℕ → List ℕ → ℕ → ℕ → ℕ → Symbol
 symbolIn u picks i q k = symbolBy u (typeAt picks k q) (numbersAt picks i) k
+
+-- a register with b as its newest bit; the oldest is forgotten
+abbrev pub longer : ℕ → ℕ → ℕ
+longer r b = r % 2 ^ 63 * 2 + b
 
 -- register k after a symbol
 abbrev pub longerAt : List ℕ → List ℕ → ℕ → ℕ

@@ -2,11 +2,11 @@
 // shift registers, the numbers of the nearest points in a ring of 64 slots, eight bytes to a word. A symbol is read off them by its
 // subset, its slot and how many symbols came after it.
 //
-// Leans on `planes` for a register that grows by a bit, and on `wei` for labels, turns and words.
+// Leans on `wei` for labels, turns and words.
 use wei::word::Parts;
 ghost use mathlib.Core.Path.{_≡_};
 ghost use Prim.Native.Nat.{_+_, _*_, _^_, _≤_, _<_};
-ghost use Rattle.picks.specs.Picks.{byteAt, numbersOf, typeAt, symbolBy, symbolIn, keptIn, saidOf};
+ghost use Rattle.picks.specs.Picks.{byteAt, numbersOf, typeAt, symbolBy, symbolIn, longer, keptIn, saidOf};
 
 // A word, and the turn after it.
 pub struct Said {
@@ -28,6 +28,21 @@ pub fn numbers_of(w1: [u8; 4], w2: [u8; 4]) -> u64
     four_of(w1[0], w1[1], w1[2], w1[3]) + four_of(w2[0], w2[1], w2[2], w2[3]) * 4294967296
 }
 
+// A byte as a register.
+fn wide(x: u8) -> u64
+    ensures { λ r. ⌜ r ≡ x ⌝ }
+{
+    x as u64
+}
+
+// A register with one bit more. The oldest is forgotten.
+fn longer_by(register: u64, bit: u8) -> u64
+    requires { ⌜ bit < 2 ⌝ }
+    ensures { λ r. ⌜ r ≡ longer register bit ⌝ }
+{
+    (register << 1) | wide(bit)
+}
+
 // Keeps a symbol: I3' of each subset as the newest bit of its register, and the numbers in their slot.
 pub fn keep(picks: &mut [u64; 72], slot: usize, i3: [u8; 8], numbers: u64)
     requires { ⌜ slot < 64 ⌝ }
@@ -37,7 +52,7 @@ pub fn keep(picks: &mut [u64; 72], slot: usize, i3: [u8; 8], numbers: u64)
     let all: &[u64] = picks;
     let mut k: usize = 0;
     while k < 8 {
-        picks[k] = planes::longer_by(picks[k], i3[k] % 2);
+        picks[k] = longer_by(picks[k], i3[k] % 2);
         k += 1;
     }
     picks[8 + slot] = numbers;

@@ -1,4 +1,5 @@
-pub mod Registers
+pub mod Words
+pub mod Moved
 pub mod Oldest
 pub mod Count
-pub mod Round
+pub mod Put

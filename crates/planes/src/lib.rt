@@ -1,59 +1,13 @@
-// The subsets of the pending symbols, kept for each state on its own best way, as bits. Three registers of 64 bits stand for a state:
-// bit n of the first, second and third is bit 0, 1 and 2 of the subset of the symbol n before the newest. A new symbol moves them
-// all: a state takes over the registers of the state that its best way comes from, and each gets one bit more. How many of the
-// oldest pending symbols all states agree on is then read off the bits in which their registers differ: nothing is walked.
+// The subsets of the pending symbols, kept for each state on its own best way. Three words stand for a state, 192 bits, three to a symbol and
+// the newest lowest. A new symbol moves them all: a state takes over the words of the state that its best way comes from, and each gets
+// three bits more. How many of the oldest pending symbols all states agree on is then read off the bits in which their words differ:
+// nothing is walked. Where few symbols are pending, only the words that hold them are moved: one for up to 20, as on a quiet line.
 //
-// A step is 8 times the state before and the 4D subset, as `walk` selects it.
+// A step is 8 times the state before and the 4D subset, as `select` selects it.
 ghost use mathlib.Core.Path.{_≡_};
-ghost use Prim.Native.Nat.{_<_, _≤_};
-ghost use Rattle.planes.specs.Planes.{cameFrom, registersOf, subsetAt, longer, movedOf, differing, apartOf, oldest, clearAt};
-
-// The three registers of a state.
-pub struct Three {
-    pub low: u64,
-    pub middle: u64,
-    pub high: u64,
-}
-
-// The registers after a symbol, and where those that it moved differ: no bit is set where all sixteen states have one subset.
-pub struct Next {
-    pub planes: [u64; 48],
-    pub apart: u64,
-}
-
-// A byte as a register.
-fn wide(x: u8) -> u64
-    ensures { λ r. ⌜ r ≡ x ⌝ }
-{
-    x as u64
-}
-
-// A register with one bit more. The oldest is forgotten.
-pub fn longer_by(register: u64, bit: u8) -> u64
-    requires { ⌜ bit < 2 ⌝ }
-    ensures { λ r. ⌜ r ≡ longer register bit ⌝ }
-{
-    (register << 1) | wide(bit)
-}
-
-// The registers of the state s.
-pub fn registers_of(planes: &[u64; 48], s: usize) -> Three
-    requires { ⌜ s < 16 ⌝ }
-    ensures { λ r. ⌜ r ≡ registersOf (now (planes .entry)) s ⌝ }
-{
-    Three {
-        low: planes[3 * s],
-        middle: planes[3 * s + 1],
-        high: planes[3 * s + 2],
-    }
-}
-
-// The bits in which the registers of two states differ.
-fn difference(a: Three, b: Three) -> u64
-    ensures { λ r. ⌜ r ≡ differing a b ⌝ }
-{
-    (a.low ^ b.low) | ((a.middle ^ b.middle) | (a.high ^ b.high))
-}
+ghost use Prim.Native.Nat.{_/_, _%_, _^_, _<_, _≤_};
+ghost use lib.ListN.{getD};
+ghost use Rattle.planes.specs.Planes.{cameFrom, bitIn, subsetIn, longer, wordsBefore, movedOf, sameAt, oldest, apartOf, lowest, partedOf, aboveOf, reachOf, putWord};
 
 // The state before, of a step.
 fn came_from(step: u8) -> usize
@@ -62,45 +16,168 @@ fn came_from(step: u8) -> usize
     (step / 8 % 16) as usize
 }
 
-// All sixteen states by one symbol. The bits that differ are those before it: what is in hand is not agreed by anyone.
-pub fn shifted(planes: &[u64; 48], steps: [u8; 16]) -> Next
-    ensures { λ r. ⌜ r ≡ record { planes = movedOf (now (planes .entry)) steps; apart = apartOf (now (planes .entry)) steps } ⌝ }
+// Word b of the states before all sixteen.
+pub fn words_before(planes: &[u64; 48], steps: &[u8; 16], b: usize) -> [u64; 16]
+    requires { ⌜ b < 3 ⌝ }
+    ensures { λ r. ⌜ r ≡ wordsBefore (now (planes .entry)) (now (steps .entry)) b ⌝ }
 {
-    let first = registers_of(planes, came_from(steps[0]));
-    let mut next = [0u64; 48];
-    let mut apart: u64 = 0;
+    let mut ways = [0u64; 16];
     let mut s: usize = 0;
     while s < 16 {
-        let step = steps[s];
-        let from = registers_of(planes, came_from(step));
-        apart = apart | difference(from, first);
-        next[3 * s] = longer_by(from.low, step % 2);
-        next[3 * s + 1] = longer_by(from.middle, step / 2 % 2);
-        next[3 * s + 2] = longer_by(from.high, step / 4 % 2);
+        ways[s] = planes[16 * b + came_from(steps[s])];
         s += 1;
     }
-    Next {
-        planes: next,
-        apart: apart,
+    ways
+}
+
+// The bits in which sixteen words differ.
+fn apart(ways: &[u64; 16]) -> u64
+    ensures { λ r. ⌜ r ≡ apartOf (now (ways .entry)) ⌝ }
+{
+    // as a slice the array shows its length
+    let all: &[u64] = ways;
+    let first = ways[0];
+    let mut bits: u64 = 0;
+    let mut s: usize = 0;
+    while s < 16 {
+        bits = bits | (ways[s] ^ first);
+        s += 1;
+    }
+    bits
+}
+
+// The lowest n bits.
+fn lowest_of(bits: u64, n: usize) -> u64
+    ensures { λ r. ⌜ r ≡ lowest bits n ⌝ }
+{
+    if 64 <= n {
+        return bits;
+    }
+    bits & ((1u64 << n) - 1)
+}
+
+// How many of the lowest n bits reach up to the highest in which the words differ; 0 where they do not differ.
+fn parted(ways: &[u64; 16], n: usize) -> usize
+    ensures { λ r. ⌜ (r ≡ partedOf (now (ways .entry)) n) × (r ≤ 64) ⌝ }
+{
+    let bits = lowest_of(apart(ways), n);
+    64 - u64::leading_zeros(bits) as usize
+}
+
+// How far the differences reach where a word stands above `base` bits: as far as those below it where it has none.
+fn above(high: usize, base: usize, low: usize) -> usize
+    requires { ⌜ (high ≤ 64) × (base ≤ 128) ⌝ }
+    ensures { λ r. ⌜ r ≡ aboveOf high base low ⌝ }
+{
+    if high == 0 { low } else { base + high }
+}
+
+// How many of the lowest n bits of the states before reach up to the highest in which they differ; `ways` is their first word.
+fn reach(planes: &[u64; 48], steps: &[u8; 16], ways: &[u64; 16], n: usize) -> usize
+    requires { ⌜ now ways ≡ wordsBefore (now planes) (now steps) 0 ⌝ }
+    ensures { λ r. ⌜ r ≡ reachOf (now (planes .entry)) (now (steps .entry)) n ⌝ }
+{
+    if n <= 64 {
+        return parted(ways, n);
+    }
+    let middle = words_before(planes, steps, 1);
+    if n <= 128 {
+        return above(parted(&middle, n - 64), 64, parted(ways, 64));
+    }
+    let high = words_before(planes, steps, 2);
+    let low = above(parted(&middle, 64), 64, parted(ways, 64));
+    above(parted(&high, n - 128), 128, low)
+}
+
+// How many of the oldest pending symbols the states before all sixteen agree on; `ways` is their first word. The symbol in hand is not asked:
+// nobody agrees on it.
+pub fn agreed(planes: &[u64; 48], steps: &[u8; 16], ways: &[u64; 16], pending: usize) -> usize
+    requires { ⌜ (pending ≤ 64) × (now ways ≡ wordsBefore (now planes) (now steps) 0) ⌝ }
+    ensures { λ r. ⌜ r ≡ oldest (sameAt (now (planes .entry)) (now (steps .entry))) pending ⌝ }
+{
+    // as a slice the array shows its length
+    let all: &[u8] = steps;
+    let up = reach(planes, steps, ways, 3 * pending);
+    pending - (up + 2) / 3
+}
+
+// A word with three bits more. The three highest are forgotten.
+fn longer_by(word: u64, bits: u64) -> u64
+    requires { ⌜ bits < 8 ⌝ }
+    ensures { λ r. ⌜ r ≡ longer word bits ⌝ }
+{
+    (word << 3) | bits
+}
+
+// Word b of all states, where the words before and those below them are given.
+fn move_up(planes: &mut [u64; 48], b: usize, ways: &[u64; 16], below: &[u64; 16])
+    requires { ⌜ b < 3 ⌝ }
+    ensures { λ _. ⌜ now (planes .exit) ≡ putWord b (λ s. longer (getD (now (ways .entry)) s 0) (getD (now (below .entry)) s 0 / 2 ^ 61 % 8)) (now (planes .entry)) ⌝ }
+{
+    // as a slice the array shows its length
+    let all: &[u64] = planes;
+    let mut s: usize = 0;
+    while s < 16 {
+        planes[16 * b + s] = longer_by(ways[s], (below[s] >> 61) % 8);
+        s += 1;
     }
 }
 
-// How many of the oldest pending symbols no bit parts: the oldest is brought to the top, and the zeros above the first set bit counted.
-pub fn agreed(apart: u64, pending: usize) -> usize
-    requires { ⌜ pending ≤ 64 ⌝ }
-    ensures { λ r. ⌜ r ≡ oldest (clearAt apart) pending ⌝ }
+// A byte as a word.
+fn wide(x: u8) -> u64
+    ensures { λ r. ⌜ r ≡ x ⌝ }
 {
-    if pending == 0 {
-        return 0;
-    }
-    let zeros = u64::leading_zeros(apart << (64 - pending)) as usize;
-    if zeros < pending { zeros } else { pending }
+    x as u64
 }
 
-// The subset of the symbol `age` before the newest.
-pub fn subset_at(r: Three, age: usize) -> usize
-    requires { ⌜ age < 64 ⌝ }
-    ensures { λ k. ⌜ (k ≡ subsetAt r age) × (k < 8) ⌝ }
+// The first word of all states, where the words before are given: the subset comes in.
+fn move_first(planes: &mut [u64; 48], ways: &[u64; 16], steps: &[u8; 16])
+    ensures { λ _. ⌜ now (planes .exit) ≡ putWord 0 (λ s. longer (getD (now (ways .entry)) s 0) (getD (now (steps .entry)) s 0 % 8)) (now (planes .entry)) ⌝ }
 {
-    (4 * ((r.high >> age) % 2) + 2 * ((r.middle >> age) % 2) + (r.low >> age) % 2) as usize
+    // as a slice the array shows its length
+    let all: &[u64] = planes;
+    let mut s: usize = 0;
+    while s < 16 {
+        planes[s] = longer_by(ways[s], wide(steps[s] % 8));
+        s += 1;
+    }
+}
+
+// All sixteen states by one symbol, where n are pending with it; `ways` is the first word of the states before. The highest word goes first, for
+// it needs the one below as it was.
+pub fn shift(planes: &mut [u64; 48], steps: &[u8; 16], ways: &[u64; 16], n: usize)
+    requires { ⌜ now ways ≡ wordsBefore (now planes) (now steps) 0 ⌝ }
+    ensures { λ _. ⌜ now (planes .exit) ≡ movedOf n (now (planes .entry)) (now (steps .entry)) ⌝ }
+{
+    if n <= 21 {
+        move_first(planes, ways, steps);
+    } else {
+        let middle = words_before(planes, steps, 1);
+        if n <= 42 {
+            move_up(planes, 1, &middle, ways);
+            move_first(planes, ways, steps);
+        } else {
+            let high = words_before(planes, steps, 2);
+            move_up(planes, 2, &high, &middle);
+            move_up(planes, 1, &middle, ways);
+            move_first(planes, ways, steps);
+        }
+    }
+}
+
+// A bit of a state.
+fn bit_in(planes: &[u64; 48], s: usize, i: usize) -> usize
+    requires { ⌜ (s < 16) × (i < 192) ⌝ }
+    ensures { λ r. ⌜ (r ≡ bitIn (now (planes .entry)) s i) × (r < 2) ⌝ }
+{
+    ((planes[16 * (i / 64) + s] >> (i % 64)) % 2) as usize
+}
+
+// The subset that the state s has at an age: of the symbol that so many came after.
+pub fn subset_at(planes: &[u64; 48], s: usize, age: usize) -> usize
+    requires { ⌜ (s < 16) × (age < 64) ⌝ }
+    ensures { λ k. ⌜ (k ≡ subsetIn (now (planes .entry)) s age) × (k < 8) ⌝ }
+{
+    let i = 3 * age;
+    4 * bit_in(planes, s, i + 2) + 2 * bit_in(planes, s, i + 1) + bit_in(planes, s, i)
 }

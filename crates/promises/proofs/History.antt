@@ -23,7 +23,7 @@ use Rattle.points.specs.Turn.{pointOf}
 use Rattle.trellis.specs.Measure.{Two, free, GoodStart}
 use Rattle.trellis.specs.Pick.{keepN, least, near, gapOf, typeSum, bestI3}
 use Rattle.planes.specs.Planes.{subsetIn, movedOf, sameAt, oldest}
-use Rattle.planes.proofs.Registers.{newest-subset, older-subset}
+use Rattle.planes.proofs.Moved.{newest-subset, older-subset}
 use Rattle.planes.proofs.Oldest.{same-in, oldest-most}
 use Rattle.nearest.specs.declared.Received.{Received}
 use Rattle.nearest.specs.Line.{BothInRange, distance, lineDistance}
@@ -157,14 +157,14 @@ module _ (n : ℕ) (S : Steady n) (more : n < 4294967295) where
       go (yes h) = omega arith
       go (no h) = omega (arith, S .few, agrees (omega (arith, S .few)))
 
-  moved-is : movedOf (rx .planes) (nextSteps rx zeros) ≡ movedOf (rx .planes) steps
-  moved-is = ap (movedOf (rx .planes)) next-steps
+  moved-is : movedOf (rx .core .pending + 1) (rx .planes) (nextSteps rx zeros) ≡ movedOf (rx .core .pending + 1) (rx .planes) steps
+  moved-is = ap (movedOf (rx .core .pending + 1) (rx .planes)) next-steps
 
-  next-newest : (s : ℕ) → s < 16 → subsetIn (movedOf (rx .planes) (nextSteps rx zeros)) s 0 ≡ getD steps s 0 % 8
-  next-newest s h = ap (λ (l : List ℕ). subsetIn l s 0) moved-is ∙ newest-subset (rx .planes) steps s h
+  next-newest : (s : ℕ) → s < 16 → subsetIn (movedOf (rx .core .pending + 1) (rx .planes) (nextSteps rx zeros)) s 0 ≡ getD steps s 0 % 8
+  next-newest s h = ap (λ (l : List ℕ). subsetIn l s 0) moved-is ∙ newest-subset (rx .core .pending + 1) (rx .planes) steps s h
 
-  next-older : (s : ℕ) → s < 16 → 2 ≤ keptOf rx zeros → subsetIn (movedOf (rx .planes) (nextSteps rx zeros)) s 1 ≡ getD steps (prevIn steps s) 0 % 8
-  next-older s h k = ap (λ (l : List ℕ). subsetIn l s 1) moved-is ∙ older-subset (rx .planes) steps s h 0 (omega arith) ∙ S .newest (prevIn steps s) (omega arith) (omega arith)
+  next-older : (s : ℕ) → s < 16 → 2 ≤ keptOf rx zeros → subsetIn (movedOf (rx .core .pending + 1) (rx .planes) (nextSteps rx zeros)) s 1 ≡ getD steps (prevIn steps s) 0 % 8
+  next-older s h k = ap (λ (l : List ℕ). subsetIn l s 1) moved-is ∙ older-subset (rx .core .pending + 1) (rx .planes) steps s h 0 (omega arith) (omega arith) ∙ S .newest (prevIn steps s) (omega arith) (omega arith)
 
   grown-steady : (machineOf (told (suc n)) ≡ grown rx zeros) → Steady (suc n)
   unfolding grown

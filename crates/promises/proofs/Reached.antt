@@ -28,7 +28,7 @@ use Rattle.nearest.specs.Found.{costOf, weighedOf}
 use Rattle.machine.specs.declared.Receiver.{Receiver}
 use Rattle.machine.specs.declared.Why.{Why}
 use Rattle.lists.specs.Tabled.{tabled}
-use Rattle.planes.specs.Planes.{movedOf, sameFrom, oldest}
+use Rattle.planes.specs.Planes.{carried, movedWords, movedOf, sameFrom, oldest}
 use Rattle.select.specs.Select.{arrive, winner, sumAt, firstStep, reachedOf, liveOf, followed, stepAt}
 use Rattle.machine.specs.Machine.{freshSums, opened, shut, wayFrom, agreedOf, releasedOf, grown, taking, soundCore, sound}
 use Rattle.select.specs.Select.{allUpTo}
@@ -83,5 +83,5 @@ many-reached = refl
 pub machine-reached : (row (hearing (opened 0 1 free) (replicate 8 (pos 128)) 0) ≡ 6 ∷ 0 ∷ 1 ∷ 0 ∷ [])
     × (row (hearing (opened 0 64 free) (replicate 4 (pos 8192) ++ zeros) 0) ≡ 8 ∷ 0 ∷ 1 ∷ 0 ∷ [])
     × (row (finishing (hearing (opened 0 64 free) zeros 0 .receiver) 0) ≡ 8 ∷ 0 ∷ 0 ∷ 0 ∷ [])
-unfolding hearing finishing sound soundCore allUpTo opened freshSums running symbolAt faultOf taking agreedOf grown releasedOf oldest sameFrom movedOf tabled followed liveOf reachedOf sumAt stepAt firstStep winner arrive weighedOf costOf bestI3 typeSum gapOf near least lineDistance distance pointOf aPoint coordinates secondLabel before between carryI1 carryI2 wayFrom range speak after
+unfolding hearing finishing sound soundCore allUpTo opened freshSums running symbolAt faultOf taking agreedOf grown releasedOf oldest sameFrom carried movedWords movedOf tabled followed liveOf reachedOf sumAt stepAt firstStep winner arrive weighedOf costOf bestI3 typeSum gapOf near least lineDistance distance pointOf aPoint coordinates secondLabel before between carryI1 carryI2 wayFrom range speak after
 machine-reached = (refl, refl, refl)

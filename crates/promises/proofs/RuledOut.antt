@@ -30,7 +30,7 @@ use Rattle.nearest.specs.declared.Received.{Received}
 use Rattle.nearest.specs.Line.{distance, lineDistance}
 use Rattle.nearest.specs.Found.{costOf, weighedOf}
 use Rattle.lists.specs.Tabled.{tabled}
-use Rattle.planes.specs.Planes.{movedOf, sameFrom, oldest}
+use Rattle.planes.specs.Planes.{carried, movedWords, movedOf, sameFrom, oldest}
 use Rattle.select.specs.Select.{arrive, winner, sumAt, firstStep, reachedOf, liveOf, followed, stepAt}
 use Rattle.picks.specs.Picks.{numbersOf, symbolBy, keptIn}
 use Rattle.machine.specs.Machine.{freshSums, opened, wayFrom, agreedOf, releasedOf, grown, taking, lastSymbols, soundCore, sound}
@@ -50,7 +50,7 @@ computed : (hearing (opened 0 64 free) (replicate 4 (pos 0)) 0 .taken ≡ 1)
     × (finishing (hearing (opened 0 64 (named 0)) clean-one 1 .receiver) 1 .words ≡ 1 ∷ [])
     × (finishing (hearing (opened 0 64 (named 0)) (replicate 4 (pos 128) ++ clean-one) 2 .receiver) 2 .words ≡ 0 ∷ 1 ∷ [])
     × (hearing (opened 0 64 (named 0)) (replicate 20 (pos 128)) 5 .words ≡ 0 ∷ [])
-unfolding hearing finishing sound soundCore allUpTo opened freshSums running symbolAt faultOf taking agreedOf grown releasedOf oldest sameFrom movedOf tabled followed liveOf reachedOf sumAt stepAt firstStep winner arrive weighedOf costOf bestI3 typeSum gapOf near least lineDistance distance pointOf aPoint coordinates secondLabel before between carryI1 carryI2 wayFrom range speak trellis.after endOf lastSymbols symbolBy numbersOf keptIn word wordParts packed
+unfolding hearing finishing sound soundCore allUpTo opened freshSums running symbolAt faultOf taking agreedOf grown releasedOf oldest sameFrom carried movedWords movedOf tabled followed liveOf reachedOf sumAt stepAt firstStep winner arrive weighedOf costOf bestI3 typeSum gapOf near least lineDistance distance pointOf aPoint coordinates secondLabel before between carryI1 carryI2 wayFrom range speak trellis.after endOf lastSymbols symbolBy numbersOf keptIn word wordParts packed
 computed = (refl, refl, refl, refl)
 
 -- all zeros once, into no room

@@ -9,7 +9,7 @@ use Prim.Native.Nat.{ℕ, suc, _+_, _-_, _*_, _≤_, _<_}
 use native.Mathlib.Omega.{arith}
 use lib.Dec.{ltb}
 use lib.ListN.{length, getD}
-use borrow.Author.Tests.{lt-ltb, le-ltb}
+use borrow.Author.Tests.{lt-ltb, le-ltb, ltb-true, ltb-false}
 use Rattle.wei.specs.State.{before, between}
 use Rattle.trellis.specs.Pick.{keepN, least}
 use Rattle.select.specs.declared.ways.Way.{Way}
@@ -33,11 +33,26 @@ module _ (sums costs : List ℕ) (t : ℕ) where
   unfolding wayBy least
   one-more n = kept (ltb (arrive sums costs t (suc n)) (arrive sums costs t (least (arrive sums costs t) n))) (least (arrive sums costs t) n) (suc n)
 
-  module _ (w0 w1 w2 w3 v1 v2 v3 : Way) (e0 : w0 ≡ wayBy sums costs t 0) (f1 : v1 ≡ wayBy sums costs t 1) (f2 : v2 ≡ wayBy sums costs t 2) (f3 : v3 ≡ wayBy sums costs t 3)
-      (e1 : w1 ≡ nearerOf w0 v1) (e2 : w2 ≡ nearerOf w1 v2) (e3 : w3 ≡ nearerOf w2 v3) where
-    pub best : w3 ≡ wayAt sums costs t
+  -- of three ways it is one whether the first two or the last two are compared first
+  nearer-assoc : (p z w : Way) → nearerOf p (nearerOf z w) ≡ nearerOf (nearerOf p z) w
+  nearer-assoc p z w = go (ltb (z .sum) (p .sum)) (ltb (w .sum) (z .sum)) refl refl
+    where
+      go : (a b : Bool) → ltb (z .sum) (p .sum) ≡ a → ltb (w .sum) (z .sum) ≡ b → nearerOf p (keepWay b z w) ≡ nearerOf (keepWay a p z) w
+      go true true e f = rw (f, lt-ltb (w .sum) (p .sum) (omega (arith, ltb-true (z .sum) (p .sum) e, ltb-true (w .sum) (z .sum) f)))
+      go false true e f = refl
+      go true false e f = rw (e, f)
+      go false false e f = rw (e, le-ltb (w .sum) (p .sum) (omega (arith, ltb-false (z .sum) (p .sum) e, ltb-false (w .sum) (z .sum) f)))
+
+  module _ (v0 v1 v2 v3 a b r : Way) (f0 : v0 ≡ wayBy sums costs t 0) (f1 : v1 ≡ wayBy sums costs t 1) (f2 : v2 ≡ wayBy sums costs t 2) (f3 : v3 ≡ wayBy sums costs t 3)
+      (ea : a ≡ nearerOf v0 v1) (eb : b ≡ nearerOf v2 v3) (er : r ≡ nearerOf a b) where
+    pub best : r ≡ wayAt sums costs t
     unfolding wayAt wayBy firstStep sumAt winner least
-    best = e3 ∙ rw (f3, e2, f2, e1, f1, e0) (ap (λ (w : Way). nearerOf (nearerOf w (wayBy sums costs t 2)) (wayBy sums costs t 3)) (one-more 0) ∙ ap (λ (w : Way). nearerOf w (wayBy sums costs t 3)) (one-more 1) ∙ one-more 2)
+    best =
+        er ∙ rw (ea, eb, f0, f1, f2, f3)
+        (nearer-assoc (nearerOf (wayBy sums costs t 0) (wayBy sums costs t 1)) (wayBy sums costs t 2) (wayBy sums costs t 3)
+        ∙ ap (λ (w : Way). nearerOf (nearerOf w (wayBy sums costs t 2)) (wayBy sums costs t 3)) (one-more 0)
+        ∙ ap (λ (w : Way). nearerOf w (wayBy sums costs t 3)) (one-more 1)
+        ∙ one-more 2)
 
 -- the steps of the states that are followed
 followed-steps : (sums costs : List ℕ) → sixteen (followedStep (sixteen (sumAt sums costs)) (sixteen (firstStep sums costs))) ≡ sixteen (stepAt sums costs)

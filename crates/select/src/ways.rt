@@ -51,10 +51,9 @@ fn best_into(sums: &[u64; 16], costs: &[u32; 8], t: u32) -> Way
     requires { ⌜ Summable (now sums) (now costs) × (t < 16) ⌝ }
     ensures { λ r. ⌜ r ≡ wayAt (now (sums .entry)) (now (costs .entry)) t ⌝ }
 {
-    let w0 = way_by(sums, costs, t, 0);
-    let w1 = nearer(w0, way_by(sums, costs, t, 1));
-    let w2 = nearer(w1, way_by(sums, costs, t, 2));
-    nearer(w2, way_by(sums, costs, t, 3))
+    let low = nearer(way_by(sums, costs, t, 0), way_by(sums, costs, t, 1));
+    let high = nearer(way_by(sums, costs, t, 2), way_by(sums, costs, t, 3));
+    nearer(low, high)
 }
 
 // The sums of all sixteen ways, by state.

@@ -15,30 +15,30 @@ advance-requires c κs =
     let s = w .before in
     summable (s .args .core) (s .args .sums .now) (s .args .first) (s .args .second) (w .weigh .result) (s .pre .1 .0) (s .pre .1 .1) (s .pre .0 .1) (s .pre .0 .2) (w .weigh .ensures)
 
-shifted-requires : tie.Need-shifted-requires
-shifted-requires c κs = search needs
+words-before-requires : tie.Need-words-before-requires
+words-before-requires c κs = search needs
 
 agreed-requires : tie.Need-agreed-requires
-agreed-requires c κs = let f = c .before .before .before .before .before .before .before .before .before .before .before .pre .1 .0 .core-fits in omega (arith, f .held, f .small-window)
+agreed-requires c κs = let f = c .before .before .before .before .before .before .before .before .before .before .before .before .before .pre .1 .0 .core-fits in (omega (arith, f .held, f .small-window), c .before .before .words-before .ensures)
 
 numbers-of-requires : tie.Need-numbers-of-requires
 numbers-of-requires c κs = search needs
 
-array-read-t23 : tie.Need-array-read-t23
-array-read-t23 c = search needs
+array-read-t26 : tie.Need-array-read-t26
+array-read-t26 c = search needs
 
-cast-t26 : tie.Need-cast-t26
-cast-t26 c = search needs
+cast-t29 : tie.Need-cast-t29
+cast-t29 c = search needs
 
 returns : tie.Need-returns
 returns c =
     let g = c .before in
-    let m = g .before .before in
-    let n = m .before .before .before in
+    let m = g .before .before .before in
+    let n = m .before .before .before .before in
     let w = n .before .before .before .before .before .before in
     let a = w .before .args in
-    looked (a .core) (a .sums .now) (a .planes .now) (heardAs (a .first) (a .second)) (w .weigh .result) (n .advance .result) (m .shifted .result) (g .agreed .result) (c .numbers-of .result)
-    (w .weigh .ensures) (n .advance .ensures) (m .shifted .ensures) (g .agreed .ensures) (c .numbers-of .ensures)
+    looked (a .core) (a .sums .now) (a .planes .now) (heardAs (a .first) (a .second)) (w .weigh .result) (n .advance .result) (m .words-before .result) (g .agreed .result) (c .numbers-of .result)
+    (w .weigh .ensures) (n .advance .ensures) (m .words-before .ensures) (g .agreed .ensures) (c .numbers-of .ensures)
 
 pub look-ahead-spec : {M : Type 1} → statement M
 look-ahead-spec =
@@ -46,9 +46,9 @@ look-ahead-spec =
     (tie.spec
     weigh-requires
     advance-requires
-    shifted-requires
+    words-before-requires
     agreed-requires
     numbers-of-requires
-    array-read-t23
-    cast-t26
+    array-read-t26
+    cast-t29
     returns)

@@ -1,10 +1,11 @@
 -- `take_symbol`: one law for each outcome.
 use Prim.Native.Nat.{_≤_, _<_}
-use mathlib.Core.Path.{refl}
+use mathlib.Core.Path.{_≡_, refl}
 use native.Mathlib.Omega.{arith}
 use borrow.Author.Needs.{needs}
+use Rattle.planes.specs.Planes.{wordsBefore}
 use Rattle.nearest.specs.Found.{heardAs}
-use Rattle.machine.proofs.CodeTaken.{many, full, short, done, few, state-below}
+use Rattle.machine.proofs.CodeTaken.{many, full, short, done, few, ways-are, state-below}
 use Rattle.machine.proofs.take_symbol.Statement.{statement}
 use Rattle.machine.proofs.take_symbol.Tie as tie
 
@@ -33,6 +34,9 @@ few-agreed l = let a = l .before .before .before .before .before .before .args i
 low : (l : tie.After-look-ahead) → l .look-ahead .result .state < 16
 low l = let a = l .before .before .before .before .before .before .args in state-below (a .core) (a .sums .now) (a .planes .now) (a .picks .now) (heardAs (a .first) (a .second)) (a .out .now) (l .look-ahead .result) (l .look-ahead .ensures)
 
+ways : (l : tie.After-look-ahead) → l .look-ahead .result .ways ≡ wordsBefore (l .before .before .before .before .before .before .args .planes .now) (l .look-ahead .result .steps) 0
+ways l = let a = l .before .before .before .before .before .before .args in ways-are (a .core) (a .sums .now) (a .planes .now) (a .picks .now) (heardAs (a .first) (a .second)) (a .out .now) (l .look-ahead .result) (l .look-ahead .ensures)
+
 sub-kept : tie.Need-sub-kept
 sub-kept c = omega (arith, few-agreed (c .before))
 
@@ -59,21 +63,30 @@ write-words-requires c κs =
     let l = c .before .before .before .before .before .before .before in
     (c .before .before .before .before .before .before .before .before .before .before .before .before .before .pre .1 .core-fits, low l, few-agreed l, c .before .before .before .if3 .left)
 
+add-shift : tie.Need-add-shift
+add-shift c = let f = c .before .before .before .before .before .before .before .before .before .before .before .before .before .before .before .before .before .before .before .before .before .before .before .before .pre .1 .core-fits in record { fits = omega (arith, f .held, f .small-window) }
+
+shift-requires : tie.Need-shift-requires
+shift-requires c κs = ways (c .before .before .before .before .before .before .before .before .before .before .before .before .before .before .before .before .before .before)
+
 keep-requires : tie.Need-keep-requires
-keep-requires c κs = c .before .before .before .before .before .before .before .before .before .before .before .before .before .before .before .before .before .before .before .before .pre .1 .core-fits .slot-below
+keep-requires c κs = c .before .before .before .before .before .before .before .before .before .before .before .before .before .before .before .before .before .before .before .before .before .before .before .before .before .before .pre .1 .core-fits .slot-below
 
 moved-on-requires : tie.Need-moved-on-requires
-moved-on-requires c κs = (fresh (c .before .before .before .before .before .before .before .before .before .before .before .before .before .before .before .before .before .before), c .before .before .before .before .before .before .before .before .before .before .before .before .before .before .before .before .before .before .before .before .before .pre .1 .core-fits .slot-below)
+moved-on-requires c κs = (fresh (c .before .before .before .before .before .before .before .before .before .before .before .before .before .before .before .before .before .before .before .before .before .before .before .before), c .before .before .before .before .before .before .before .before .before .before .before .before .before .before .before .before .before .before .before .before .before .before .before .before .before .before .before .pre .1 .core-fits .slot-below)
 
 same-length : tie.Need-same-length
 same-length c = search needs
 
 returns-4 : tie.Need-returns-4
 returns-4 c =
-    let l = c .before .before .before .before .before .before .before .before .before .before .before .before .before .before .before .before in
+    let k = c .before in
+    let m = k .before .before in
+    let w = m .before .before .before .before .before .before .before .before .before .before .before in
+    let e = w .before .before .before .before in
+    let l = e .before .before .before .before in
     let a = l .before .before .before .before .before .before .args in
-    let w = c .before .before .before .before .before .before .before .before in
-    done (a .core) (a .sums .now) (a .planes .now) (a .picks .now) (heardAs (a .first) (a .second)) (a .out .now) (l .look-ahead .result) (l .look-ahead .ensures) (l .before .before .before .if1 .left) (c .before .before .before .before .before .before .before .before .before .before .before .before .before .if2 .left) _ _ _ _ _ _ (c .before .before .before .before .before .before .before .before .before .before .before .before .if3 .left) (w .write-words .ensures .0) (w .write-words .ensures .1) refl refl (c .before .keep .ensures) (c .moved-on .ensures)
+    done (a .core) (a .sums .now) (a .planes .now) (a .picks .now) (heardAs (a .first) (a .second)) (a .out .now) (l .look-ahead .result) (l .look-ahead .ensures) (l .before .before .before .if1 .left) (e .before .if2 .left) _ _ _ _ _ _ (e .if3 .left) (w .write-words .ensures .0) (w .write-words .ensures .1) refl (m .shift .ensures) (k .keep .ensures) (c .moved-on .ensures)
 
 pub take-symbol-spec : {M : Type 1} → statement M
 take-symbol-spec =
@@ -89,6 +102,8 @@ take-symbol-spec =
     refused-requires-3
     returns-3
     write-words-requires
+    add-shift
+    shift-requires
     keep-requires
     moved-on-requires
     same-length

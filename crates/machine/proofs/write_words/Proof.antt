@@ -4,8 +4,7 @@ use mathlib.Core.Path.{_≡_, refl, ap, _∙_}
 use mathlib.Core.List.{_++_}
 use native.Mathlib.Omega.{arith}
 use lib.ListN.{length, take, drop, length-set}
-use Rattle.planes.specs.declared.Three.{Three}
-use Rattle.planes.specs.Planes.{subsetAt, subsetIn}
+use Rattle.planes.specs.Planes.{subsetIn}
 use Rattle.trellis.specs.Speak.{speak, after}
 use Rattle.trellis.specs.Words.{wordsFrom, turnAfter}
 use Rattle.picks.specs.Picks.{symbolIn, saidOf}
@@ -15,7 +14,7 @@ use Rattle.machine.proofs.write_words.Statement.{statement}
 use Rattle.machine.proofs.write_words.Tie as tie
 
 abbrev Inv-loop : tie.InvT-loop
-Inv-loop core planes picks s n out₀ way oldest turn₀ j₀ out turn j =
+Inv-loop core planes picks s n out₀ oldest turn₀ j₀ out turn j =
     (j ≤ n)
     × (length out ≡ length out₀)
     × (turn < 4)
@@ -23,44 +22,41 @@ Inv-loop core planes picks s n out₀ way oldest turn₀ j₀ out turn j =
     × (out ≡ wordsFrom (core .u) (core .turn) (take j (wayFrom core planes picks s)) ++ drop j out₀)
 
 abbrev μ-loop : tie.MeasureT-loop
-μ-loop core planes picks s n out₀ way oldest turn₀ j₀ out turn j = n - j
-
-registers-of-requires : tie.Need-registers-of-requires Inv-loop μ-loop
-registers-of-requires c κs = c .before .pre .1
+μ-loop core planes picks s n out₀ oldest turn₀ j₀ out turn j = n - j
 
 add-oldest : tie.Need-add-oldest Inv-loop μ-loop
-add-oldest c = let p = c .before .before .before .pre in record { fits = omega (arith, p .0 .slot-below) }
+add-oldest c = let p = c .before .before .pre in record { fits = omega (arith, p .0 .slot-below) }
 
 sub-oldest : tie.Need-sub-oldest Inv-loop μ-loop
-sub-oldest c = let p = c .before .before .before .before .pre in omega (arith, p .0 .held, p .0 .small-window)
+sub-oldest c = let p = c .before .before .before .pre in omega (arith, p .0 .held, p .0 .small-window)
 
 loop-holds : tie.Need-loop-holds Inv-loop μ-loop
 unfolding speak after
-loop-holds c = let p = c .before .before .before .before .pre in (omega arith, refl, p .0 .turn-below, refl, refl)
+loop-holds c = let p = c .before .before .before .pre in (omega arith, refl, p .0 .turn-below, refl, refl)
 
 sub-age : tie.Need-sub-age Inv-loop μ-loop
-sub-age c = let p = c .before .before .before .before .before .before .before .pre in omega (arith, p .2)
+sub-age c = let p = c .before .before .before .before .before .before .pre in omega (arith, p .2)
 
 sub-age-2 : tie.Need-sub-age-2 Inv-loop μ-loop
-sub-age-2 c = let p = c .before .before .before .before .before .before .before .pre in omega (arith, p .2)
+sub-age-2 c = let p = c .before .before .before .before .before .before .pre in omega (arith, p .2)
 
 subset-at-requires : tie.Need-subset-at-requires Inv-loop μ-loop
-subset-at-requires c κs = let p = c .before .before .before .before .before .before .before .pre in omega (arith, p .2, p .0 .held, p .0 .small-window)
+subset-at-requires c κs = let p = c .before .before .before .before .before .before .pre in (p .1, omega (arith, p .2, p .0 .held, p .0 .small-window))
 
 add-word-in : tie.Need-add-word-in Inv-loop μ-loop
-add-word-in c = let p = c .before .before .before .before .before .before .before .before .pre in record { fits = omega (arith, p .0 .slot-below, p .0 .held, p .0 .small-window) }
+add-word-in c = let p = c .before .before .before .before .before .before .before .pre in record { fits = omega (arith, p .0 .slot-below, p .0 .held, p .0 .small-window) }
 
 word-in-requires : tie.Need-word-in-requires Inv-loop μ-loop
-word-in-requires c κs = let p = c .before .before .before .before .before .before .before .before .pre in (p .0 .width, c .before .before .before .loop .inv .2, omega arith, omega (arith, p .2, p .0 .held, p .0 .small-window), c .subset-at .ensures .1)
+word-in-requires c κs = let p = c .before .before .before .before .before .before .before .pre in (p .0 .width, c .before .before .before .loop .inv .2, omega arith, omega (arith, p .2, p .0 .held, p .0 .small-window), c .subset-at .ensures .1)
 
 mul-out : tie.Need-mul-out Inv-loop μ-loop
-mul-out c = let p = c .before .before .before .before .before .before .before .before .before .pre in record { fits = omega (arith, p .0 .held, p .0 .small-window) }
+mul-out c = let p = c .before .before .before .before .before .before .before .before .pre in record { fits = omega (arith, p .0 .held, p .0 .small-window) }
 
 slice-write-out : tie.Need-slice-write-out Inv-loop μ-loop
-slice-write-out c = let p = c .before .before .before .before .before .before .before .before .before .pre in omega (arith, p .3)
+slice-write-out c = let p = c .before .before .before .before .before .before .before .before .pre in omega (arith, p .3)
 
 add-j : tie.Need-add-j Inv-loop μ-loop
-add-j c = let p = c .before .before .before .before .before .before .before .before .before .pre in record { fits = omega (arith, p .0 .held, p .0 .small-window) }
+add-j c = let p = c .before .before .before .before .before .before .before .before .pre in record { fits = omega (arith, p .0 .held, p .0 .small-window) }
 
 loop-less : tie.Need-loop-less Inv-loop μ-loop
 loop-less c = omega arith
@@ -68,14 +64,12 @@ loop-less c = omega arith
 loop-again : tie.Need-loop-again Inv-loop μ-loop
 loop-again c =
     let at = c .before .before .before .before in
-    let way = at .before .before .before in
-    let s = way .before .before in
+    let s = at .before .before .before .before in
     let a = s .args in
     let p = s .pre in
     let more = c .before .before .before .loop-test .taken in
     let age = a .core .pending - 1 - at .loop .j in
-    let k : c .before .subset-at .result ≡ subsetIn (a .planes .now) (a .s) age = c .before .subset-at .ensures .0 ∙ ap (λ (r : Three). subsetAt r age) (way .registers-of .ensures) in
-    let is = c .word-in .ensures ∙ ap (λ (x : ℕ). saidOf (a .core .u) (at .loop .turn) (symbolIn (a .core .u) (a .picks .now) (slotOf (a .core) (at .loop .j)) age x)) k in (
+    let is = c .word-in .ensures ∙ ap (λ (x : ℕ). saidOf (a .core .u) (at .loop .turn) (symbolIn (a .core .u) (a .picks .now) (slotOf (a .core) (at .loop .j)) age x)) (c .before .subset-at .ensures .0) in (
       omega arith,
       simp length-set (at .loop .inv .1),
       turn-below (a .core) (a .planes .now) (a .picks .now) (a .out .now) (at .loop .out) (a .s) (a .n) (at .loop .j) (at .loop .turn) (p .2) more (c .word-in .result) is,
@@ -89,7 +83,7 @@ same-length c = c .before .loop .inv .1
 returns : tie.Need-returns Inv-loop μ-loop
 returns c =
     let at = c .before in
-    let end : at .loop .j ≡ at .before .before .before .before .before .args .n = omega arith in
+    let end : at .loop .j ≡ at .before .before .before .before .args .n = omega arith in
     (at .loop .inv .3 ∙ rw end, at .loop .inv .4 ∙ rw end)
 
 pub write-words-spec : {M : Type 1} → statement M
@@ -98,7 +92,6 @@ write-words-spec =
     (tie.spec
     Inv-loop
     μ-loop
-    registers-of-requires
     add-oldest
     sub-oldest
     loop-holds

@@ -7,8 +7,7 @@ use native.Mathlib.Omega.{arith}
 use lib.ListN.{length, getD, set, drop}
 use Rattle.lists.specs.Tabled.{tabled}
 use Rattle.lists.proofs.Filled.{tabled-more, fill-next}
-use Rattle.planes.specs.Planes.{longer}
-use Rattle.picks.specs.Picks.{longerAt, keptIn}
+use Rattle.picks.specs.Picks.{longer, longerAt, keptIn}
 use Rattle.picks.proofs.keep.Statement.{statement}
 use Rattle.picks.proofs.keep.Tie as tie
 

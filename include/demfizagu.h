@@ -40,7 +40,8 @@
  *   - slices of one call do not overlap;
  *   - the words of a state are used by one thread at a time. Different states are independent: the library has no other
  *     memory;
- *   - the program is for x86-64 Linux: the archive holds no other code.
+ *   - the program is for the kind of machine that the archive was made for: it holds no other code;
+ *   - the stack has room: a call to hear takes 4 kilobytes at most, every other call less.
  *
  * STATES
  *

@@ -1,4 +1,4 @@
--- What the doors do to any record, as functions: the machine of `walk` behind the tests that come first. The code equals these
+-- What the doors do to any record, as functions: the machine behind the tests that come first. The code equals these
 -- functions; what they owe is said in specs/Meaning.
 --   Opening, opening u w b    what an opening gives: 1, 2, 3 in this order, each leaving a closed receiver, or a fresh one
 --   plainOpening u            window 64 and a free start

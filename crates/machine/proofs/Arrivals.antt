@@ -20,8 +20,8 @@ use borrow.Author.Tests.{ltb-true, ltb-false, lt-ltb, le-ltb}
 use Rattle.trellis.specs.Best.{Surv, absent, alive}
 use Rattle.trellis.specs.Choose.{keep, better, choose, raise, tag, bare, up, stateOf}
 use Rattle.trellis.specs.Search.{range}
-use Rattle.trellis.specs.Columns.{acs, end-state, Off}
-use Rattle.trellis.specs.Measure.{Start, Two, farOf}
+use Rattle.trellis.specs.Cells.{acs, end-state, Off}
+use Rattle.trellis.specs.Measure.{Start, Two}
 use Rattle.trellis.specs.Pick.{keepN, least, befores}
 use Rattle.trellis.proofs.Select.{choose-ext}
 use Rattle.trellis.proofs.Off.{off-next}
@@ -29,7 +29,7 @@ use Rattle.trellis.proofs.Least.{least-is}
 use Rattle.trellis.proofs.Branches.{befores-below}
 use Rattle.wei.specs.State.{before, between}
 use Rattle.nearest.specs.declared.Received.{Received}
-use Rattle.nearest.specs.Line.{lineDistance}
+use Rattle.nearest.specs.Line.{lineMeasure}
 use Rattle.nearest.specs.Found.{weighedOf}
 use Rattle.select.specs.Select.{limit, sixteen, arrive, winner, sumAt, fromAt, rowOf}
 use Rattle.select.specs.Select.{endOf}
@@ -128,7 +128,7 @@ module _ (u : ℕ) (b : Start) (y : Two Received) (sums : List ℕ) (room : Room
   abbrev sumVia : ℕ → ℕ → ℕ
   sumVia t s = getD sums s 0 + getD costs (between s t) 0
 
-  via : (t s : ℕ) → s < 16 → tag s (raise (farOf Received lineDistance y (pickOf u y s t)) (rowOf sums s)) ≡ sealed (sumVia t s) s
+  via : (t s : ℕ) → s < 16 → tag s (raise (lineMeasure .far y (pickOf u y s t)) (rowOf sums s)) ≡ sealed (sumVia t s) s
   via t s h =
       ap (λ (d : ℕ). tag s (raise d (rowOf sums s))) (cost-at u y s t)
       ∙ raise-sealed (getD sums s 0) (getD costs (between s t) 0) s (room s t h)
@@ -136,7 +136,7 @@ module _ (u : ℕ) (b : Start) (y : Two Received) (sums : List ℕ) (room : Room
   acs-is : (t : ℕ) → t < 16 → acs (searchOf u b) y (rowOf sums) t ≡ sealed (sumAt sums costs t) (before t (winner sums costs t))
   unfolding acs arrive winner sumAt
   acs-is t h =
-      choose-ext (λ s. tag s (raise (farOf Received lineDistance y (pickOf u y s t)) (rowOf sums s))) (λ s. sealed (sumVia t s) s) (befores t)
+      choose-ext (λ s. tag s (raise (lineMeasure .far y (pickOf u y s t)) (rowOf sums s))) (λ s. sealed (sumVia t s) s) (befores t)
       (λ s i. via t s (befores-below s t h i))
       ∙ choose-least (sumVia t) (before t) 3
 

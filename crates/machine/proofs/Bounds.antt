@@ -15,22 +15,21 @@ use lib.Seq.{drop-cons}
 use borrow.Author.Tests.{lt-ltb, le-ltb, ltb-true, ltb-false, le-leb, lt-leb, leb-true, leb-false}
 use Rattle.trellis.specs.Lists.{Every}
 use Rattle.trellis.specs.Best.{alive}
-use Rattle.trellis.specs.Columns.{Off}
+use Rattle.trellis.specs.Cells.{Off}
 use Rattle.trellis.specs.Measure.{Start, Two, Near}
 use Rattle.trellis.specs.Same.{sameSymbol}
-use Rattle.trellis.specs.Pick.{bestOf}
 use Rattle.trellis.proofs.Bound.{branch-fits}
 use Rattle.wei.specs.State.{bitW4, carryI1, carryI2, before, between}
 use Rattle.wei.proofs.States.{carryI1-below, carryI2-below}
 use Rattle.nearest.specs.declared.Received.{Received}
-use Rattle.nearest.specs.Line.{BothInRange, lineDistance, lineMeasure}
+use Rattle.nearest.specs.Line.{BothInRange, lineMeasure, lineChoice}
 use Rattle.nearest.specs.Found.{weighedOf}
-use Rattle.nearest.proofs.Laws.{far-below, costs-below}
+use Rattle.nearest.proofs.Laws.{far-below, costs-below, line-chooses}
 use Rattle.select.specs.Select.{limit, sixteen, arrive, winner, sumAt, rowOf}
 use Rattle.machine.specs.Machine.{topSum}
 use Rattle.select.specs.Select.{allUpTo}
 use Rattle.select.proofs.Lists.{sixteen-most}
-use Rattle.machine.proofs.Trellis.{searchOf, pickOf, chooses, cost-at}
+use Rattle.machine.proofs.Trellis.{searchOf, pickOf, cost-at}
 use Rattle.machine.proofs.Arrivals.{Room}
 
 -- "The squared distance of a 4D point from a received symbol stays below 2^30"
@@ -41,9 +40,9 @@ module _ (u : ℕ) (small : u ≤ 8) (b : Start) (ys : List (Two Received)) (goo
   pub room : (sums : List ℕ) (m : ℕ) → Off (searchOf u b) ys m (rowOf sums) → Room sums (weighedOf u y .costs)
   room sums m off s t h k =
       let e : rowOf sums s ≡ alive (getD sums s 0) tt = rw (lt-ltb (getD sums s 0) limit k) in
-      let v = chooses u .is-first y (bitW4 s) (carryI1 s t) (carryI2 s t) (omega arith) (carryI1-below s t) (carryI2-below s t) .valid in
+      let v = line-chooses u .is-first y (bitW4 s) (carryI1 s t) (carryI2 s t) (omega arith) (carryI1-below s t) (carryI2-below s t) .valid in
       subst (λ (d : ℕ). getD sums s 0 + d < limit) (cost-at u y s t)
-      (branch-fits u lineMeasure BothInRange (near u small) b (bestOf u lineDistance) (chooses u) sameSymbol ys good m (rowOf sums) off s (getD sums s 0) h e y (pickOf u y s t) fine v (omega arith))
+      (branch-fits u lineMeasure BothInRange (near u small) b (lineChoice u) (line-chooses u) sameSymbol ys good m (rowOf sums) off s (getD sums s 0) h e y (pickOf u y s t) fine v (omega arith))
 
 pub top-next : (u : ℕ) → u ≤ 8 → (y : Two Received) → BothInRange y → (n : ℕ) (sums : List ℕ) → ((s : ℕ) → getD sums s 0 ≤ topSum n) → (s : ℕ) → getD (sixteen (sumAt sums (weighedOf u y .costs))) s 0 ≤ topSum (n + 1)
 unfolding sumAt arrive

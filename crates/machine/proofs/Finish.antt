@@ -12,7 +12,6 @@ use Rattle.trellis.specs.Code.{Path, symbols}
 use Rattle.trellis.specs.Best.{Answer}
 use Rattle.trellis.specs.Common.{common}
 use Rattle.trellis.specs.Measure.{Start, GoodStart, Two}
-use Rattle.trellis.specs.Pick.{bestOf}
 use Rattle.trellis.specs.Words.{word, turnAfter, wordsFrom}
 use Rattle.trellis.specs.Said.{spokenWords, answerWords}
 use Rattle.trellis.proofs.Onward.{some-answer}
@@ -20,7 +19,7 @@ use Rattle.trellis.proofs.Invariant.{holds-finish}
 use Rattle.trellis.proofs.Speak.{speak-length, spoken-rest}
 use Rattle.wei.specs.Symbol.{Symbol}
 use Rattle.nearest.specs.declared.Received.{Received}
-use Rattle.nearest.specs.Line.{lineDistance, lineMeasure}
+use Rattle.nearest.specs.Line.{lineMeasure, lineChoice}
 use Rattle.machine.specs.declared.Receiver.{Receiver}
 use Rattle.select.specs.Select.{limit, rowOf}
 use Rattle.machine.specs.Machine.{wayFrom, lastSymbols, lastWords}
@@ -42,7 +41,7 @@ finish-is u b g ys rx k p a =
     ∙ ap (λ (m : ℕ). common (searchOf u b) ys ++ way m) (sym (end-is u b (rx .sums) s h l))
 
 pub last-words : (u : ℕ) (b : Start) → GoodStart b → (ys : List (Two Received)) (rx : Receiver) → Keeps u b ys rx →
-    lastWords rx ≡ drop (length (saidOf u b ys)) (answerWords u lineMeasure (bestOf u lineDistance) b ys)
+    lastWords rx ≡ drop (length (saidOf u b ys)) (answerWords u lineMeasure (lineChoice u) b ys)
 unfolding spokenWords answerWords
 last-words u b g ys rx k =
     let (p, a) = some-answer (searchOf u b) (laws u b) (onward u b g) ys in

@@ -12,7 +12,7 @@ use lib.ListN.{length, getD, replicate, length-replicate}
 use Rattle.trellis.specs.Choose.{bare, raise}
 use Rattle.trellis.specs.Search.{first, range, surv}
 use Rattle.trellis.specs.Common.{common, reach}
-use Rattle.trellis.specs.Columns.{Off}
+use Rattle.trellis.specs.Cells.{Off}
 use Rattle.trellis.specs.Invariant.{Holds}
 use Rattle.trellis.specs.Measure.{Start, free, named, Two}
 use Rattle.trellis.specs.Speak.{after, carried}

@@ -22,15 +22,14 @@ use lib.ListN.{length}
 use Rattle.calls.specs.Calls.{Speaks, fresh, rest}
 use Rattle.trellis.specs.Lists.{Every}
 use Rattle.trellis.specs.Measure.{Start, GoodStart, Two}
-use Rattle.trellis.specs.Pick.{bestOf}
 use Rattle.trellis.specs.Words.{wordsFrom}
 use Rattle.trellis.proofs.Lists.{every-drop}
 use Rattle.trellis.proofs.Spoken.{grows, final, spoken-none, spoken-reach, spoken-below, answer-below}
 use Rattle.nearest.specs.declared.Received.{Received}
-use Rattle.nearest.specs.Line.{BothInRange, lineDistance, lineMeasure}
+use Rattle.nearest.proofs.Laws.{line-chooses}
+use Rattle.nearest.specs.Line.{BothInRange, lineMeasure, lineChoice}
 use Rattle.machine.specs.Machine.{sound, agreedOf, keptOf, releasedOf, grown, taking, lastWords, opened}
 use Rattle.machine.specs.Told.{Told, withHeard, speakerOf, pendingAfter, judgeSymbol, Fine, machineAfter, machineOf}
-use Rattle.machine.proofs.Trellis.{chooses}
 use Rattle.machine.proofs.Owes.{owes, owes-step, owes-sound}
 use Rattle.machine.proofs.Finish.{last-words, last-many}
 use Rattle.machine.proofs.Telling.{telling-machine, telling-fine}
@@ -53,7 +52,7 @@ module _ (t : Told) (f : Fine t) where
   taken-told = owes t f .keeps .taken
 
   pub pending-told : machineOf t .core .pending ≡ pendingAfter t (t .heard)
-  pending-told = omega (arith, owes t f .keeps .holds .count, spoken-reach (t .u) lineMeasure (bestOf (t .u) lineDistance) (chooses (t .u)) (t .start) (f .good-start) (t .heard))
+  pending-told = omega (arith, owes t f .keeps .holds .count, spoken-reach (t .u) lineMeasure (lineChoice (t .u)) (line-chooses (t .u)) (t .start) (f .good-start) (t .heard))
 
   pub pending-fits : machineOf t .core .pending ≤ t .window
   pending-fits = owes t f .fits
@@ -102,19 +101,19 @@ module _ (t : Told) (f : Fine t) where
   pub fresh-below : (ys : List (Two Received)) (y : Two Received) → Every (λ n. n < 2 ^ (3 + 2 * t .u)) (fresh (speakerOf t) ys y)
   fresh-below ys y =
       every-drop (λ n. n < 2 ^ (3 + 2 * t .u)) (length (speakerOf t .spoken ys)) (speakerOf t .spoken (y ∷ ys))
-      (spoken-below (t .u) lineMeasure (bestOf (t .u) lineDistance) (chooses (t .u)) (t .start) (f .good-start) (y ∷ ys))
+      (spoken-below (t .u) lineMeasure (lineChoice (t .u)) (line-chooses (t .u)) (t .start) (f .good-start) (y ∷ ys))
 
   pub rest-below : (ys : List (Two Received)) → Every (λ n. n < 2 ^ (3 + 2 * t .u)) (rest (speakerOf t) ys)
   rest-below ys =
       every-drop (λ n. n < 2 ^ (3 + 2 * t .u)) (length (speakerOf t .spoken ys)) (speakerOf t .answered ys)
-      (answer-below (t .u) lineMeasure (bestOf (t .u) lineDistance) (chooses (t .u)) (t .start) (f .good-start) ys)
+      (answer-below (t .u) lineMeasure (lineChoice (t .u)) (line-chooses (t .u)) (t .start) (f .good-start) ys)
 
   pub speaks : Speaks (speakerOf t)
   speaks =
       record {
-        starts = spoken-none (t .u) lineMeasure (bestOf (t .u) lineDistance) (chooses (t .u)) (t .start) (f .good-start);
-        grows = λ ys y. grows (t .u) lineMeasure (bestOf (t .u) lineDistance) (chooses (t .u)) (t .start) (f .good-start) (y ∷ []) ys;
-        within = λ ys. final (t .u) lineMeasure (bestOf (t .u) lineDistance) (chooses (t .u)) (t .start) (f .good-start) [] ys;
+        starts = spoken-none (t .u) lineMeasure (lineChoice (t .u)) (line-chooses (t .u)) (t .start) (f .good-start);
+        grows = λ ys y. grows (t .u) lineMeasure (lineChoice (t .u)) (line-chooses (t .u)) (t .start) (f .good-start) (y ∷ []) ys;
+        within = λ ys. final (t .u) lineMeasure (lineChoice (t .u)) (line-chooses (t .u)) (t .start) (f .good-start) [] ys;
       }
 
 -- ── an opening ──

@@ -10,9 +10,8 @@ use native.Mathlib.Nat.{mod-eq-of-lt}
 use native.Mathlib.Omega.{arith}
 use lib.ListN.{getD}
 use lib.Pow.{pow-mono}
-use Rattle.trellis.specs.Columns.{cell}
+use Rattle.trellis.specs.Cells.{cell}
 use Rattle.trellis.specs.Measure.{Start, Two}
-use Rattle.trellis.specs.Pick.{bestOf}
 use Rattle.wei.specs.Label.{turnOf, secondLabel}
 use Rattle.wei.specs.State.{between, bitW4, carryI1, carryI2, subsetOf}
 use Rattle.wei.specs.Symbol.{Symbol}
@@ -20,7 +19,7 @@ use Rattle.wei.proofs.Labels.{second-below}
 use Rattle.wei.proofs.States.{before-below, between-below, carryI1-below, carryI2-below}
 use Rattle.nearest.specs.declared.Received.{Received}
 use Rattle.nearest.specs.declared.Weighed.{Weighed}
-use Rattle.nearest.specs.Line.{lineDistance}
+use Rattle.nearest.specs.Line.{lineChoice}
 use Rattle.nearest.specs.Found.{weighedOf, symbolFrom}
 use Rattle.nearest.proofs.Laws.{least-le, i3s-below, w1-below, w2-below, best-read}
 use Rattle.select.specs.Select.{limit, sixteen, arrive, winner, sumAt, fromAt, firstStep, followed, stepAt, rowOf}
@@ -56,7 +55,7 @@ step-from sums costs t h =
 
 -- ── symbols ──
 symbol-at : (u : ℕ) (y : Two Received) (a b c : ℕ) → u ≤ 8 → a < 2 → b < 2 → c < 2 → let W = weighedOf u y in let k = subsetOf a b c in
-    symbolBy u (getD (W .i3) k 0 % 2) (numbersOf (W .w1) (W .w2)) k ≡ bestOf u lineDistance y a b c
+    symbolBy u (getD (W .i3) k 0 % 2) (numbersOf (W .w1) (W .w2)) k ≡ lineChoice u y a b c
 unfolding symbolBy symbolFrom
 symbol-at u y a b c small ha hb hc =
     let W : Weighed = weighedOf u y in

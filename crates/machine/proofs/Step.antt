@@ -18,11 +18,10 @@ use Rattle.trellis.specs.Best.{Surv}
 use Rattle.trellis.specs.Choose.{up}
 use Rattle.trellis.specs.Search.{Search}
 use Rattle.trellis.specs.Common.{common, reach}
-use Rattle.trellis.specs.Columns.{Off}
+use Rattle.trellis.specs.Cells.{Off}
 use Rattle.trellis.specs.Invariant.{Holds, Agreed, before, longer}
 use Rattle.trellis.specs.Measure.{Start, GoodStart, Two}
 use Rattle.trellis.specs.Same.{sameSymbol}
-use Rattle.trellis.specs.Pick.{bestOf}
 use Rattle.trellis.specs.Speak.{after}
 use Rattle.trellis.specs.Words.{word, turnAfter, wordsFrom}
 use Rattle.trellis.specs.Said.{spokenWords}
@@ -33,13 +32,14 @@ use Rattle.trellis.proofs.Spoken.{spoken-reach}
 use Rattle.wei.specs.Symbol.{Symbol}
 use Rattle.nearest.specs.declared.Received.{Received}
 use Rattle.nearest.specs.declared.Weighed.{Weighed}
-use Rattle.nearest.specs.Line.{BothInRange, lineDistance, lineMeasure}
+use Rattle.nearest.proofs.Laws.{line-chooses}
+use Rattle.nearest.specs.Line.{BothInRange, lineMeasure, lineChoice}
 use Rattle.nearest.specs.Found.{weighedOf}
 use Rattle.machine.specs.declared.Receiver.{Receiver}
 use Rattle.select.specs.Select.{limit, fromAt, firstStep, followed, rowOf}
 use Rattle.picks.proofs.Kept.{kept-length}
 use Rattle.machine.specs.Machine.{costsOf, nextSums, nextSteps, numbersIn, wayFrom, agreedOf, keptOf, releasedOf, grown}
-use Rattle.machine.proofs.Trellis.{codeOf, searchOf, laws, onward, chooses, some-up}
+use Rattle.machine.proofs.Trellis.{codeOf, searchOf, laws, onward, some-up}
 use Rattle.machine.proofs.Arrivals.{Room, up-sealed, off-new}
 use Rattle.select.proofs.Followed.{followed-live, followed-below, followed-up}
 use Rattle.machine.proofs.Picked.{step-at, step-from, before-is, newSymbol, symbol-is}
@@ -49,7 +49,7 @@ use Rattle.machine.proofs.Keeps.{Keeps}
 use Rattle.machine.proofs.Bounds.{room, top-next}
 
 abbrev pub saidOf : ℕ → Start → List (Two Received) → List ℕ
-saidOf u b ys = spokenWords u lineMeasure (bestOf u lineDistance) b ys
+saidOf u b ys = spokenWords u lineMeasure (lineChoice u) b ys
 
 abbrev pub newWords : ℕ → Start → List (Two Received) → Two Received → List ℕ
 newWords u b ys y = drop (length (saidOf u b ys)) (saidOf u b (y ∷ ys))
@@ -122,7 +122,7 @@ module _ (b : Start) (g : GoodStart b) (ys : List (Two Received)) (good : Every 
 
   -- the newest symbol is never agreed
   newest : reach S (y ∷ ys) ≤ length ys
-  newest = newest-kept u lineMeasure (bestOf u lineDistance) (chooses u) sameSymbol b g y ys
+  newest = newest-kept u lineMeasure (lineChoice u) (line-chooses u) sameSymbol b g y ys
 
   n-few : agreedOf rx y ≤ p
   n-few = agree .few
@@ -172,7 +172,7 @@ module _ (b : Start) (g : GoodStart b) (ys : List (Two Received)) (good : Every 
       }
 
   said-many : (zs : List (Two Received)) → length (saidOf u b zs) ≡ reach (searchOf u b) zs
-  said-many zs = spoken-reach u lineMeasure (bestOf u lineDistance) (chooses u) b g zs
+  said-many zs = spoken-reach u lineMeasure (lineChoice u) (line-chooses u) b g zs
 
   words-are : wordsFrom u (rx .core .turn) (releasedOf rx y) ≡ newWords u b ys y
   unfolding spokenWords

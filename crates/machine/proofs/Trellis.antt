@@ -18,10 +18,10 @@ use Rattle.trellis.specs.Best.{Surv}
 use Rattle.trellis.specs.Choose.{up}
 use Rattle.trellis.specs.Search.{Search, Laws}
 use Rattle.trellis.specs.Common.{common}
-use Rattle.trellis.specs.Columns.{Off}
-use Rattle.trellis.specs.Measure.{Start, GoodStart, Two, farOf, weiCode}
+use Rattle.trellis.specs.Cells.{Off}
+use Rattle.trellis.specs.Measure.{Start, GoodStart, Two, weiCode}
 use Rattle.trellis.specs.Same.{sameSymbol}
-use Rattle.trellis.specs.Pick.{Chooses, weiSearch, bestOf}
+use Rattle.trellis.specs.Pick.{Chooses, weiSearch}
 use Rattle.trellis.specs.Speak.{after, carried}
 use Rattle.trellis.specs.Words.{turnAfter}
 use Rattle.trellis.proofs.Optimal.{best-below}
@@ -31,36 +31,32 @@ use Rattle.trellis.proofs.Final.{common-final}
 use Rattle.trellis.proofs.Common.{common-common}
 use Rattle.trellis.proofs.Onward.{some-reached, some-answer}
 use Rattle.trellis.proofs.WeiLaws.{wei-laws, wei-onward}
-use Rattle.trellis.proofs.Pairs.{pairs-chooses}
 use Rattle.trellis.proofs.Paths.{allowed-runs}
 use Rattle.trellis.proofs.IvEight.{allowed-valid}
 use Rattle.wei.specs.State.{bitW4, carryI1, carryI2, between}
 use Rattle.wei.specs.Symbol.{Symbol, firstLabel, Valid}
 use Rattle.wei.proofs.States.{carryI1-below, carryI2-below}
 use Rattle.nearest.specs.declared.Received.{Received}
-use Rattle.nearest.specs.Line.{lineDistance, lineMeasure}
+use Rattle.nearest.specs.Line.{lineMeasure, lineChoice}
 use Rattle.nearest.specs.Found.{weighedOf}
-use Rattle.nearest.proofs.Laws.{best-cost, costs-at}
+use Rattle.nearest.proofs.Laws.{best-cost, costs-at, line-chooses}
 
 abbrev pub codeOf : ℕ → Start → Code
 codeOf u b = weiCode u lineMeasure b
 
 abbrev pub searchOf : (u : ℕ) (b : Start) → Search (codeOf u b)
-searchOf u b = weiSearch u lineMeasure (bestOf u lineDistance) sameSymbol b
-
-pub chooses : (u : ℕ) → Chooses u lineMeasure (bestOf u lineDistance)
-chooses u = pairs-chooses u lineDistance
+searchOf u b = weiSearch u lineMeasure (lineChoice u) sameSymbol b
 
 pub laws : (u : ℕ) (b : Start) → Laws (searchOf u b)
-laws u b = wei-laws u lineMeasure (bestOf u lineDistance) (chooses u) sameSymbol b
+laws u b = wei-laws u lineMeasure (lineChoice u) (line-chooses u) sameSymbol b
 
 pub onward : (u : ℕ) (b : Start) → GoodStart b → Onward (codeOf u b)
 onward u b g = wei-onward u lineMeasure b g
 
 abbrev pub pickOf : ℕ → Two Received → ℕ → ℕ → Symbol
-pickOf u y s t = bestOf u lineDistance y (bitW4 s) (carryI1 s t) (carryI2 s t)
+pickOf u y s t = lineChoice u y (bitW4 s) (carryI1 s t) (carryI2 s t)
 
-pub cost-at : (u : ℕ) (y : Two Received) (s t : ℕ) → farOf Received lineDistance y (pickOf u y s t) ≡ getD (weighedOf u y .costs) (between s t) 0
+pub cost-at : (u : ℕ) (y : Two Received) (s t : ℕ) → lineMeasure .far y (pickOf u y s t) ≡ getD (weighedOf u y .costs) (between s t) 0
 unfolding between
 cost-at u y s t =
     best-cost u y (bitW4 s) (carryI1 s t) (carryI2 s t)

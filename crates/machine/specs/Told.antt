@@ -18,10 +18,9 @@ use lib.Dec.{eqb, leb, ltb}
 use lib.ListN.{length}
 use Rattle.calls.specs.Calls.{Speaker, Judge, fresh}
 use Rattle.trellis.specs.Measure.{Start, GoodStart, Two}
-use Rattle.trellis.specs.Pick.{bestOf}
 use Rattle.trellis.specs.Said.{spokenWords, answerWords}
 use Rattle.nearest.specs.declared.Received.{Received}
-use Rattle.nearest.specs.Line.{isCoordinate, BothInRange, lineDistance, lineMeasure}
+use Rattle.nearest.specs.Line.{isCoordinate, BothInRange, lineMeasure, lineChoice}
 use Rattle.machine.specs.declared.Receiver.{Receiver}
 use Rattle.machine.specs.declared.Why.{Why}
 use Rattle.machine.specs.declared.Why.the-variants.{Done, BadWidth, BadWindow, BadStart, BadSample, Full, TooMany, NoRoom, Closed, Uneven}
@@ -41,8 +40,8 @@ speakerOf t =
     record {
       Y = Two Received;
       W = ℕ;
-      spoken = spokenWords (t .u) lineMeasure (bestOf (t .u) lineDistance) (t .start);
-      answered = answerWords (t .u) lineMeasure (bestOf (t .u) lineDistance) (t .start);
+      spoken = spokenWords (t .u) lineMeasure (lineChoice (t .u)) (t .start);
+      answered = answerWords (t .u) lineMeasure (lineChoice (t .u)) (t .start);
     }
 
 -- "Taken and not yet released symbols are pending"

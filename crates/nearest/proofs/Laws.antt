@@ -4,6 +4,7 @@
 --   far-below                          "The squared distance of a 4D point from a received symbol stays below 2^30"
 --   best-cost, cost-below              a subset's cost is the distance of its best symbol, so it is below 2^30
 --   costs-at, best-read                a subset's cost and its best symbol, read off what `weigh` answers
+--   line-chooses                       the choice of the line is the first of its subset
 --   d-below, costs-below, i3s-below, w1-below, w2-below   the rows of `search` and `weigh`
 use mathlib.Core.Path.{_≡_, refl}
 use mathlib.Core.Bool.{Bool, true, false}
@@ -21,9 +22,10 @@ use Rattle.wei.proofs.Labels.{second-below}
 use Rattle.points.specs.Turn.{pointOf}
 use Rattle.points.proofs.Turns.{small-point}
 use Rattle.trellis.specs.Measure.{Two, farOf}
-use Rattle.trellis.specs.Pick.{keepN, least, near, gapOf, typeSum, bestI3, bestOf}
+use Rattle.trellis.specs.Pick.{keepN, least, near, gapOf, typeSum, bestI3, bestOf, Chooses}
+use Rattle.trellis.proofs.Pairs.{pairs-chooses}
 use Rattle.nearest.specs.declared.Received.{Received}
-use Rattle.nearest.specs.Line.{isCoordinate, InRange, BothInRange, lineDistance}
+use Rattle.nearest.specs.Line.{isCoordinate, InRange, BothInRange, lineDistance, lineMeasure, lineChoice}
 use Rattle.nearest.specs.Found.{nearestOf, costOf, weighedOf, symbolFrom}
 use Rattle.nearest.proofs.Distances.{distance-below}
 use Rattle.nearest.proofs.Rows.{four-at, eight-at, four-each, eight-each}
@@ -126,3 +128,7 @@ module _ (u : ℕ) (y : Two Received) where
         let q = turnOf i2 (bestI3 u lineDistance y y0 i1 i2) in
         rw (eight-at (bestI3 u lineDistance y) y0 i1 i2 a b c)
         (cc (four-at (near u lineDistance (y .first)) q (omega (arith, i3-below u lineDistance y y0 i1 i2)), four-at (near u lineDistance (y .second)) (secondLabel q y0 i1) (second-below q y0 i1)))
+
+-- the choice is the first of its subset
+pub line-chooses : (u : ℕ) → Chooses u lineMeasure (lineChoice u)
+line-chooses u = pairs-chooses u lineDistance

@@ -7,13 +7,16 @@
 --   distance h p         the squared distance of h from the point p
 --   lineDistance h l w   its squared distance from the point with label l and number w
 --   lineMeasure          01's measure: what is heard is two received points
+--   lineChoice u         the symbol of each subset that it puts first
 use Prim.Native.Nat.{ℕ, _+_, _*_, _≤_}
 use mathlib.Core.Bool.{Bool}
 use lib.Dec.{leb}
 use lib.IntN.{ℤ, pos, natAbs, _-ℤ_, _*ℤ_}
 use Rattle.points.specs.declared.Point.{Point}
 use Rattle.points.specs.Turn.{pointOf}
+use Rattle.wei.specs.Symbol.{Symbol}
 use Rattle.trellis.specs.Measure.{Measure, Two, pairs}
+use Rattle.trellis.specs.Pick.{bestOf}
 use Rattle.nearest.specs.declared.Received.{Received}
 
 -- "A received coordinate is a whole number from -8192 to 8192, both included"
@@ -44,3 +47,7 @@ lineDistance h l w = distance h (pointOf l w)
 -- "A received symbol is four coordinates: x, y of the first point, x, y of the second"
 abbrev pub lineMeasure : Measure
 lineMeasure = pairs Received lineDistance
+
+-- the symbol of each subset that 01's order puts first, found
+abbrev pub lineChoice : ℕ → Two Received → ℕ → ℕ → ℕ → Symbol
+lineChoice u = bestOf u lineDistance

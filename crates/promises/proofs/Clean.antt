@@ -73,7 +73,7 @@ one-point h p q e f =
     let y : p .y ≡ q .y = one-coordinate (h .y) (p .y) (q .y) (omega arith) (omega arith) in
     λ i. record { x = x i; y = y i }
 
-far-points : (y : Two Received) (c : Symbol) → farOf Received lineDistance y c ≡ distance (y .first) (firstPoint c) + distance (y .second) (secondPoint c)
+far-points : (y : Two Received) (c : Symbol) → lineMeasure .far y c ≡ distance (y .first) (firstPoint c) + distance (y .second) (secondPoint c)
 unfolding farOf lineDistance firstPoint secondPoint
 far-points y c = refl
 

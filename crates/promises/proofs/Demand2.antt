@@ -28,15 +28,16 @@ use Rattle.trellis.specs.Lists.{Every}
 use Rattle.trellis.specs.Code.{Path, symbols}
 use Rattle.trellis.specs.Best.{Answer}
 use Rattle.trellis.specs.Measure.{Two, weiCode}
-use Rattle.trellis.specs.Pick.{bestOf, pairSearch}
+use Rattle.trellis.specs.Same.{sameSymbol}
+use Rattle.trellis.specs.Pick.{weiSearch}
 use Rattle.trellis.specs.Words.{words}
 use Rattle.trellis.proofs.Answer.{answer-only}
 use Rattle.trellis.proofs.Onward.{some-answer}
-use Rattle.trellis.proofs.WeiTheorems.{laws, onward}
-use Rattle.trellis.proofs.Pairs.{pairs-chooses}
+use Rattle.trellis.proofs.WeiLaws.{wei-laws, wei-onward}
 use Rattle.trellis.proofs.Clean as trellis
 use Rattle.nearest.specs.declared.Received.{Received}
-use Rattle.nearest.specs.Line.{lineDistance, lineMeasure}
+use Rattle.nearest.proofs.Laws.{line-chooses}
+use Rattle.nearest.specs.Line.{lineMeasure, lineChoice}
 use Rattle.machine.specs.declared.Receiver.{Receiver}
 use Rattle.machine.specs.Told.{Fine, speakerOf}
 use Rattle.receiver.specs.declared.Start.{Start}
@@ -65,8 +66,8 @@ ended-fine u w b took ws (ends {ws = vs} {rx = q} k out o r h z) = follows u w b
 
 pub least : (u w : ℕ) (b : Start) (took : List (Two Received)) (ws : List ℕ) → Ended u w b took ws → LeastWords u b took ws
 least u w b took ws k =
-    let L = laws u lineDistance (startOf b) in
-    let (p, a) = some-answer (pairSearch u lineDistance (startOf b)) L (onward u lineDistance (startOf b) (ended-fine u w b took ws k .good-start)) (reverse took) in
+    let L = wei-laws u lineMeasure (lineChoice u) (line-chooses u) sameSymbol (startOf b) in
+    let (p, a) = some-answer (weiSearch u lineMeasure (lineChoice u) sameSymbol (startOf b)) L (wei-onward u lineMeasure (startOf b) (ended-fine u w b took ws k .good-start)) (reverse took) in
     record {
       path = p;
       is-answer = a;
@@ -82,7 +83,7 @@ any-cut u v w b took ws vs k l = answers u v b took ws k ∙ sym (answers u w b 
 module _ (u w : ℕ) (b : Start) (z : StartsAtZero b) (sent : List ℕ) (e : Every (λ n. isWord u n ≡ true) sent) where
   clean-answer : Fine (toldOf u w b (cleanly u sent)) → speakerOf (toldOf u w b (cleanly u sent)) .answered (reverse (cleanly u sent)) ≡ sent
   clean-answer f =
-      trellis.round-trip u lineMeasure (bestOf u lineDistance) (pairs-chooses u lineDistance) (exact u (f .width)) (startOf b) (f .good-start) 0 (omega arith) z (cleanly u sent) sent e
+      trellis.round-trip u lineMeasure (lineChoice u) (line-chooses u) (exact u (f .width)) (startOf b) (f .good-start) 0 (omega arith) z (cleanly u sent) sent e
       (hits (symbolsFrom u 0 0 sent))
 
   clean-ended : (ws : List ℕ) → Ended u w b (cleanly u sent) ws → ws ≡ sent

@@ -14,14 +14,13 @@ use Prim.Native.Nat.{ℕ}
 use Rattle.trellis.specs.Code.{Path, symbols}
 use Rattle.trellis.specs.Best.{Answer, Longest}
 use Rattle.trellis.specs.Measure.{Two, weiCode}
-use Rattle.trellis.specs.Pick.{bestOf}
 use Rattle.trellis.specs.Words.{words}
 use Rattle.trellis.specs.Said.{spokenWords}
-use Rattle.trellis.proofs.Pairs.{pairs-chooses}
 use Rattle.trellis.proofs.Spoken as spoken
 use Rattle.wei.specs.Symbol.{Symbol}
 use Rattle.nearest.specs.declared.Received.{Received}
-use Rattle.nearest.specs.Line.{lineDistance, lineMeasure}
+use Rattle.nearest.proofs.Laws.{line-chooses}
+use Rattle.nearest.specs.Line.{lineMeasure, lineChoice}
 use Rattle.machine.specs.declared.Receiver.{Receiver}
 use Rattle.receiver.specs.declared.Start.{Start}
 use Rattle.receiver.specs.Given.{startOf}
@@ -32,17 +31,17 @@ module _ (u w : ℕ) (b : Start) (took : List (Two Received)) (ws : List ℕ) wh
   pub exact : (rx : Receiver) → Talk u w b took ws rx → (l : List Symbol) → Longest (weiCode u lineMeasure (startOf b)) (reverse took) l → ws ≡ words u l
   exact rx k l h =
       let f = follows u w b took ws rx k in
-      f .said ∙ spoken.spoken-longest u lineMeasure (bestOf u lineDistance) (pairs-chooses u lineDistance) (startOf b) (f .fine .good-start) took l h
+      f .said ∙ spoken.spoken-longest u lineMeasure (lineChoice u) (line-chooses u) (startOf b) (f .fine .good-start) took l h
 
   pub final : (rx : Receiver) → Talk u w b took ws rx → (zs : List (Two Received)) (p : Path Symbol) → Answer (weiCode u lineMeasure (startOf b)) (reverse (took ++ zs)) p → IsPrefix ws (words u (symbols p))
   final rx k zs p a =
       let f = follows u w b took ws rx k in
       let g = f .fine .good-start in
       rw (f .said)
-      (subst (IsPrefix (spokenWords u lineMeasure (bestOf u lineDistance) (startOf b) (reverse took))) (spoken.answer-words u lineMeasure (bestOf u lineDistance) (pairs-chooses u lineDistance) (startOf b) g (took ++ zs) p a)
-      (spoken.spoken-answer u lineMeasure (bestOf u lineDistance) (pairs-chooses u lineDistance) (startOf b) g took zs))
+      (subst (IsPrefix (spokenWords u lineMeasure (lineChoice u) (startOf b) (reverse took))) (spoken.answer-words u lineMeasure (lineChoice u) (line-chooses u) (startOf b) g (took ++ zs) p a)
+      (spoken.spoken-answer u lineMeasure (lineChoice u) (line-chooses u) (startOf b) g took zs))
 
   pub whole : Ended u w b took ws → (p : Path Symbol) → Answer (weiCode u lineMeasure (startOf b)) (reverse took) p → ws ≡ words u (symbols p)
   whole k p a =
       answers u w b took ws k
-      ∙ spoken.answer-words u lineMeasure (bestOf u lineDistance) (pairs-chooses u lineDistance) (startOf b) (start-of u w b took ws k) took p a
+      ∙ spoken.answer-words u lineMeasure (lineChoice u) (line-chooses u) (startOf b) (start-of u w b took ws k) took p a

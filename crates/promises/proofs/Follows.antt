@@ -16,11 +16,10 @@ use Rattle.calls.specs.Calls.{Speaks, Ended as WalkEnded, walk, rest}
 use Rattle.calls.proofs.Steps.{walk-heard, walk-said}
 use Rattle.calls.proofs.Prefixes.{joined}
 use Rattle.trellis.specs.Measure.{Two, GoodStart}
-use Rattle.trellis.specs.Pick.{bestOf}
-use Rattle.trellis.proofs.Pairs.{pairs-chooses}
 use Rattle.trellis.proofs.Line.{wei-speaks}
 use Rattle.nearest.specs.declared.Received.{Received}
-use Rattle.nearest.specs.Line.{lineDistance, lineMeasure}
+use Rattle.nearest.proofs.Laws.{line-chooses}
+use Rattle.nearest.specs.Line.{lineMeasure, lineChoice}
 use Rattle.machine.specs.declared.Receiver.{Receiver}
 use Rattle.machine.specs.Machine.{shut}
 use Rattle.machine.specs.Told.{Told, Reason, speakerOf, judgeOf, Fine, machineOf, givenOf, withHeard}
@@ -37,7 +36,7 @@ abbrev pub toldOf : ℕ → ℕ → Start → List (Two Received) → Told
 toldOf u w b took = record { u = u; window = w; start = startOf b; heard = reverse took }
 
 pub speaks : (t : Told) → Fine t → Speaks (speakerOf t)
-speaks t f = wei-speaks (t .u) lineMeasure (bestOf (t .u) lineDistance) (pairs-chooses (t .u) lineDistance) (t .start) (f .good-start)
+speaks t f = wei-speaks (t .u) lineMeasure (lineChoice (t .u)) (line-chooses (t .u)) (t .start) (f .good-start)
 
 -- the words of a call are those at the front of the output
 front : (ws out o : List ℕ) (n : ℕ) → n ≡ length ws → o ≡ ws ++ drop (length ws) out → take n o ≡ ws

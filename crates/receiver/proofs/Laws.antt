@@ -17,14 +17,13 @@ use Rattle.calls.specs.Calls.{walk, after, fresh, rest}
 use Rattle.calls.proofs.Steps.{walk-said}
 use Rattle.trellis.specs.Lists.{Every}
 use Rattle.trellis.specs.Measure.{Two}
-use Rattle.trellis.specs.Pick.{bestOf}
 use Rattle.trellis.specs.Words.{word, wordsFrom, turnAfter}
-use Rattle.trellis.proofs.Pairs.{pairs-chooses}
 use Rattle.trellis.proofs.Speak.{speak-length}
 use Rattle.trellis.proofs.Lists.{every-drop}
 use Rattle.trellis.proofs.Spoken.{spoken-below}
 use Rattle.nearest.specs.declared.Received.{Received}
-use Rattle.nearest.specs.Line.{BothInRange, lineDistance, lineMeasure}
+use Rattle.nearest.proofs.Laws.{line-chooses}
+use Rattle.nearest.specs.Line.{BothInRange, lineMeasure, lineChoice}
 use Rattle.machine.specs.declared.Receiver.{Receiver}
 use Rattle.machine.specs.declared.Why.the-variants.{Done, NoRoom, Closed, Uneven}
 use Rattle.select.specs.Select.{prevIn}
@@ -122,7 +121,7 @@ module _ (t : Told) (f : Fine t) where
       go true =
           rw said-is
           (every-drop IsWord (length (speakerOf t .spoken (t .heard))) (speakerOf t .spoken ys)
-          (spoken-below (t .u) lineMeasure (bestOf (t .u) lineDistance) (pairs-chooses (t .u) lineDistance) (t .start) (f .good-start) ys))
+          (spoken-below (t .u) lineMeasure (lineChoice (t .u)) (line-chooses (t .u)) (t .start) (f .good-start) ys))
 
   pub finish-below : (room : ℕ) → Every IsWord (finishOwed t room .words)
   unfolding finishOwed

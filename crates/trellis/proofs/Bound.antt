@@ -13,7 +13,7 @@ use lib.ListN.{length}
 use Rattle.trellis.specs.Lists.{Every}
 use Rattle.trellis.specs.Code.{Path, Allowed, cost}
 use Rattle.trellis.specs.Best.{Surv, alive}
-use Rattle.trellis.specs.Columns.{Off}
+use Rattle.trellis.specs.Cells.{Off}
 use Rattle.trellis.specs.Measure.{Start, Measure, Near, weiCode}
 use Rattle.trellis.specs.Pick.{Choice, Chooses, weiSearch}
 use Rattle.trellis.proofs.Onward.{cost-bound, row-bound}

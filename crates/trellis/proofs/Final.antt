@@ -10,7 +10,7 @@ use Rattle.trellis.specs.Code.{Code, Path, step, last, symbols, cost}
 use Rattle.trellis.specs.Best.{Surv, absent, alive, Best, Answer, Common}
 use Rattle.trellis.specs.Choose.{stateOf}
 use Rattle.trellis.specs.Search.{Search, Laws, extend, surv}
-use Rattle.trellis.specs.Columns.{acs, cell}
+use Rattle.trellis.specs.Cells.{acs, cell}
 use Rattle.trellis.proofs.Lists.{prefix-self, prefix-more, prefix-trans}
 use Rattle.trellis.proofs.Choose.{absent-alive}
 use Rattle.trellis.proofs.Optimal.{best-below}

@@ -13,7 +13,7 @@ use Rattle.trellis.specs.Best.{Surv, absent, alive, Best, Answer, Common
 use Rattle.trellis.specs.Choose.{up}
 use Rattle.trellis.specs.Search.{Search, Laws, range, surv, answer}
 use Rattle.trellis.specs.Common.{common, reach}
-use Rattle.trellis.specs.Columns.{Cell, cell, end-state, Off}
+use Rattle.trellis.specs.Cells.{Cell, cell, end-state, Off}
 use Rattle.trellis.specs.Invariant.{Shares, Agreed, Holds, before, longer}
 use Rattle.trellis.proofs.Lists.{prefix-self, prefix-onto, prefix-off, prefix-length, prefix-take, prefix-equal, take-prefix, state-below}
 use Rattle.trellis.proofs.Optimal.{best-below}

@@ -11,7 +11,7 @@ use Rattle.trellis.specs.Code.{Code, step}
 use Rattle.trellis.specs.Best.{Surv, absent, alive}
 use Rattle.trellis.specs.Choose.{keep, better, choose, mapS, raise, tag, bare, up, stateOf}
 use Rattle.trellis.specs.Search.{Search, Laws, range, extend, surv}
-use Rattle.trellis.specs.Columns.{acs, cell, end-state, Off}
+use Rattle.trellis.specs.Cells.{acs, cell, end-state, Off}
 use Rattle.trellis.proofs.Lists.{state-below}
 use Rattle.trellis.proofs.Select.{choose-ext, choose-bare}
 

@@ -11,7 +11,7 @@ use Rattle.trellis.specs.Code.{Code, Path, begin, step, last, Allowed, c
 use Rattle.trellis.specs.Best.{Surv, absent, alive, Answer, Answered}
 use Rattle.trellis.specs.Choose.{raise, bare}
 use Rattle.trellis.specs.Search.{Search, Laws, surv, answer}
-use Rattle.trellis.specs.Columns.{Off}
+use Rattle.trellis.specs.Cells.{Off}
 use Rattle.trellis.proofs.Optimal.{allowed-below}
 use Rattle.trellis.proofs.Answer.{surv-best, answer-answered}
 

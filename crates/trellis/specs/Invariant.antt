@@ -16,7 +16,7 @@ use Rattle.trellis.specs.Code.{Code, Path, symbols}
 use Rattle.trellis.specs.Best.{Surv, Best}
 use Rattle.trellis.specs.Search.{Search}
 use Rattle.trellis.specs.Common.{common, reach}
-use Rattle.trellis.specs.Columns.{cell, Off}
+use Rattle.trellis.specs.Cells.{cell, Off}
 
 module _ {C : Type 0} where
   abbrev pub Shares : ℕ → (ℕ → Bool) → (ℕ → List C) → ℕ → Type 0

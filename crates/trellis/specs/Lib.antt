@@ -8,7 +8,7 @@ pub mod Choose
 pub mod Search
 pub mod Common
 -- as a machine does it, from sums and pending symbols
-pub mod Columns
+pub mod Cells
 pub mod Invariant
 -- words from symbols
 pub mod Speak

@@ -5,7 +5,7 @@
 //
 // specs/ has first what must be believed: Code, Order and Best say what a code is, which sequences it allows, which of two
 // is before the other, and what is meant by the best sequence, the answer and the longest common beginning. Then how these
-// are found: Search and Common by recursion along the list; Columns and Invariant as a machine does it, from sums
+// are found: Search and Common by recursion along the list; Cells and Invariant as a machine does it, from sums
 // and the pending symbols of each state alone; Speak for the words. proofs/Theorems.antt is the summary, T1 to T4 in the order of time, and
 // proofs/Invariant.antt has the four laws that tie a machine to it.
 //

@@ -5,8 +5,9 @@
 //!
 //! - `Direct`: each squared distance as the scope words it. `Keyed`: the square multiplied out, distance and number in one
 //!   key, the two dot products of a point shared by its four turns; the compiler turns this loop into vector code.
-//! - `Columns`: each symbol keeps the states before, and the live states are walked back after every symbol.
-//!   `Planes`: each state keeps the subsets of its own undecided symbols as bits, moved on with the state.
+//! - In both memories each state keeps the subsets of its own undecided symbols as bits, moved on with the state.
+//!   `Registers`: three words a state, and of each symbol only what its word is put together from once it is released.
+//!   `Planes`: four words a state, which move in pairs, and of each symbol the words of all eight subsets, ready.
 
 /// The first 256 A points, 1 modulo 4 in both coordinates, by x² + y², equal sums by falling y.
 #[allow(long_running_const_eval)]
@@ -111,27 +112,41 @@ impl Search for Keyed {
     }
 }
 
-/// For each subset its least squared distance and its best symbol, as the symbol's word with the turn itself at bits 1, 2.
-struct Choices {
+/// For each subset its least squared distance and I3' of its best symbol; for each label the number of the nearest first
+/// point, then for each label that of the second.
+pub struct Choices {
     costs: [u64; 8],
-    words: [u32; 8],
+    i3: [bool; 8],
+    numbers: [u8; 8],
+}
+
+/// The labels of the two points of a subset's symbol. The first is the turn.
+#[inline(always)]
+fn labels(subset: usize, i3: bool) -> (usize, usize) {
+    let (y0, i1, i2t) = (subset >> 2, subset >> 1 & 1, subset & 1);
+    let turn = 2 * i3 as usize + i2t;
+    (turn, (turn + y0 + 2 * i1) % 4)
+}
+
+/// The word of a subset's symbol, with the turn itself at bits 1, 2.
+#[inline(always)]
+fn word(u: u32, subset: usize, i3: bool, number: impl Fn(usize) -> u32) -> u32 {
+    let (first, second) = labels(subset, i3);
+    (subset >> 1 & 1 | first << 1) as u32 | number(first) << 3 | number(4 + second) << (3 + u)
 }
 
 #[inline(always)]
 fn choices<S: Search>(u: u32, c: &[i32]) -> Choices {
-    let first = S::nearest(1 << u, c[0], c[1]);
-    let second = S::nearest(1 << u, c[2], c[3]);
-    let mut best = Choices { costs: [0; 8], words: [0; 8] };
+    let near = [S::nearest(1 << u, c[0], c[1]), S::nearest(1 << u, c[2], c[3])];
+    let numbers = std::array::from_fn(|n| near[n / 4][n % 4].1 as u8);
+    let mut best = Choices { costs: [0; 8], i3: [false; 8], numbers };
     for subset in 0..8 {
-        let (y0, i1, i2t) = (subset >> 2, subset >> 1 & 1, subset & 1);
-        let of_type = |turn: usize| {
-            let ((d1, w1), (d2, w2)) = (first[turn], second[(turn + y0 + 2 * i1) % 4]);
-            ((d1 + d2) as u64, i1 as u32 | (turn as u32) << 1 | w1 << 3 | w2 << (3 + u))
+        let cost = |i3: bool| {
+            let (first, second) = labels(subset, i3);
+            (near[0][first].0 + near[1][second].0) as u64
         };
-        let (zero, one) = (of_type(i2t), of_type(2 + i2t));
-        let chosen = if one.0 < zero.0 { one } else { zero };
-        best.costs[subset] = chosen.0;
-        best.words[subset] = chosen.1;
+        let (zero, one) = (cost(false), cost(true));
+        (best.costs[subset], best.i3[subset]) = if one < zero { (one, true) } else { (zero, false) };
     }
     best
 }
@@ -169,117 +184,24 @@ fn select(sums: &[u64; 16], costs: &[u64; 8]) -> ([u64; 16], [u8; 16]) {
     (new, from)
 }
 
-/// What is remembered of the undecided symbols.
+/// What is remembered of the undecided symbols: their subsets on the best way to each state, and the best of each subset.
 pub trait Memory: Copy {
+    /// What is kept of one symbol's choices.
+    type Pick;
+    /// A step into all states, not yet stored: the symbol may be refused.
+    type Step;
     fn new() -> Self;
-    /// How many of the oldest `pending` symbols all states agree on once `from` is the newest step.
-    fn agreed(&self, from: &[u8; 16], slot: usize, pending: usize) -> usize;
-    /// Keeps a step; the symbol goes to `slot`.
-    fn keep(&mut self, from: &[u8; 16], slot: usize);
-    /// The subsets of the oldest `count` of `pending` kept symbols on the way to `state`, the newest of them first.
-    fn path(&self, state: usize, slot: usize, pending: usize, count: usize, told: &mut [u8; 64]);
+    fn pick(u: u32, choices: &Choices) -> Self::Pick;
+    fn step(&self, from: [u8; 16]) -> Self::Step;
+    /// How many of the oldest `pending` symbols all states agree on once this is the newest step.
+    fn agreed(&self, step: &Self::Step, pending: usize) -> usize;
+    /// Keeps a step; what is picked goes to `slot`.
+    fn keep(&mut self, step: &Self::Step, pick: &Self::Pick, slot: usize);
+    /// The word of the symbol `age` before the newest, kept in `slot`, on the way to `state`. The turn itself is at bits 1, 2.
+    fn word(&self, u: u32, state: usize, slot: usize, age: usize) -> u32;
 }
 
-/// For each symbol, bit s of `low` and `high` is the low and the high bit of the k that state s came from.
-#[derive(Clone, Copy)]
-pub struct Columns {
-    pub ring: [Column; 64],
-}
-
-#[derive(Clone, Copy)]
-pub struct Column {
-    pub low: u16,
-    pub high: u16,
-}
-
-impl Column {
-    #[inline(always)]
-    fn of(from: &[u8; 16]) -> Column {
-        let (mut low, mut high) = (0, 0);
-        for s in 0..16 {
-            low |= (from[s] as u16 & 1) << s;
-            high |= (from[s] as u16 >> 1) << s;
-        }
-        Column { low, high }
-    }
-
-    /// The states before a set of states, all at once: bit s of lane k is set where s is in the set and came from k, then
-    /// each group of four becomes one bit of lane k.
-    #[inline(always)]
-    fn before(self, states: u16) -> u16 {
-        let (low, high) = (self.low, self.high);
-        let lane = |set: u16, k: u32| ((states & set) as u64) << (16 * k);
-        let mut x = lane(!high & !low, 0) | lane(!high & low, 1) | lane(high & !low, 2) | lane(high & low, 3);
-        x |= x >> 1;
-        x |= x >> 2;
-        x &= 0x1111_1111_1111_1111;
-        x |= x >> 3;
-        x |= x >> 6;
-        x &= 0x000f_000f_000f_000f;
-        (x | x >> 12 | x >> 24 | x >> 36) as u16
-    }
-
-    /// Whether these states came by one subset. Each bit of the subset is a set of states too.
-    #[inline(always)]
-    fn agree(self, states: u16) -> bool {
-        let one = |bits: u16| states & bits == 0 || states & !bits == 0;
-        one(0xf0f0) && one(0xaaaa ^ self.high ^ 0xff00) && one(0xcccc ^ self.low)
-    }
-
-    #[inline(always)]
-    fn k(self, s: usize) -> usize {
-        (self.low as usize >> s & 1) | (self.high as usize >> s & 1) << 1
-    }
-}
-
-impl Memory for Columns {
-    fn new() -> Columns {
-        Columns { ring: [Column { low: 0, high: 0 }; 64] }
-    }
-
-    #[inline(always)]
-    fn agreed(&self, from: &[u8; 16], slot: usize, pending: usize) -> usize {
-        // the newest symbol is never agreed; its column is not in the ring yet
-        let mut states = Column::of(from).before(0xffff);
-        let mut agreed = pending;
-        let mut age = 0;
-        while age < pending && states & (states - 1) != 0 {
-            let column = self.ring[(slot + 63 - age) & 63];
-            age += 1;
-            if !column.agree(states) {
-                agreed = pending - age;
-            }
-            states = column.before(states);
-        }
-        agreed
-    }
-
-    #[inline(always)]
-    fn keep(&mut self, from: &[u8; 16], slot: usize) {
-        self.ring[slot] = Column::of(from);
-    }
-
-    #[inline(always)]
-    fn path(&self, state: usize, slot: usize, pending: usize, count: usize, told: &mut [u8; 64]) {
-        let mut s = state;
-        for age in 0..pending {
-            let k = self.ring[(slot + 63 - age) & 63].k(s);
-            if age >= pending - count {
-                told[age - (pending - count)] = subset_of(s, k) as u8;
-            }
-            s = 4 * k + (s >> 2);
-        }
-    }
-}
-
-/// Bit n of plane b of state s is bit b of the subset of the symbol n before the newest, on the best way to s.
-#[derive(Clone, Copy)]
-pub struct Planes {
-    /// Four planes to a state, so that they move in pairs; the last stays empty.
-    pub bits: [[u64; 4]; 16],
-}
-
-/// The bits of the subset on the way to s from the k-th, one to a plane.
+/// The bits of the subset on the way to s from the k-th, one to a word.
 static NEWEST: [[[u64; 4]; 4]; 16] = {
     let mut table = [[[0; 4]; 4]; 16];
     let mut n = 0;
@@ -292,13 +214,122 @@ static NEWEST: [[[u64; 4]; 4]; 16] = {
     table
 };
 
-impl Memory for Planes {
-    fn new() -> Planes {
-        Planes { bits: [[0; 4]; 16] }
+/// The subset of the symbol `age` before the newest, from the words of its three bits.
+#[inline(always)]
+fn subset_at(low: u64, middle: u64, high: u64, age: usize) -> usize {
+    ((high >> age & 1) << 2 | (middle >> age & 1) << 1 | low >> age & 1) as usize
+}
+
+#[derive(Clone, Copy)]
+pub struct Registers {
+    /// Bit n of register b of state s is bit b of the subset of the symbol n before the newest, on the best way to s.
+    pub ways: [[u64; 3]; 16],
+    /// Bit n of a subset's register is I3' of its best symbol, for the symbol n before the newest.
+    pub i3: [u64; 8],
+    /// The numbers of each symbol's choices, a byte to each.
+    pub numbers: [u64; 64],
+}
+
+/// For each state the way to the state that it came from, and the k of that state.
+pub struct Before {
+    ways: [[u64; 3]; 16],
+    from: [u8; 16],
+}
+
+impl Memory for Registers {
+    type Pick = ([bool; 8], u64);
+    type Step = Before;
+
+    fn new() -> Registers {
+        Registers { ways: [[0; 3]; 16], i3: [0; 8], numbers: [0; 64] }
     }
 
     #[inline(always)]
-    fn agreed(&self, from: &[u8; 16], _slot: usize, pending: usize) -> usize {
+    fn pick(_u: u32, choices: &Choices) -> Self::Pick {
+        (choices.i3, u64::from_le_bytes(choices.numbers))
+    }
+
+    #[inline(always)]
+    fn step(&self, from: [u8; 16]) -> Before {
+        Before { ways: std::array::from_fn(|s| self.ways[4 * (from[s] as usize & 3) + (s >> 2)]), from }
+    }
+
+    #[inline(always)]
+    fn agreed(&self, before: &Before, pending: usize) -> usize {
+        if pending == 0 {
+            return 0;
+        }
+        let mut differ = [0; 3];
+        for s in 1..16 {
+            for b in 0..3 {
+                differ[b] |= before.ways[s][b] ^ before.ways[0][b];
+            }
+        }
+        // the oldest pending symbol comes to the top
+        let differ: u64 = (differ[0] | differ[1] | differ[2]) << (64 - pending);
+        (differ.leading_zeros() as usize).min(pending)
+    }
+
+    #[inline(always)]
+    fn keep(&mut self, before: &Before, (i3, numbers): &Self::Pick, slot: usize) {
+        for s in 0..16 {
+            let newest = &NEWEST[s][before.from[s] as usize & 3];
+            for b in 0..3 {
+                self.ways[s][b] = before.ways[s][b] << 1 | newest[b];
+            }
+        }
+        for subset in 0..8 {
+            self.i3[subset] = self.i3[subset] << 1 | i3[subset] as u64;
+        }
+        self.numbers[slot] = *numbers;
+    }
+
+    #[inline(always)]
+    fn word(&self, u: u32, state: usize, slot: usize, age: usize) -> u32 {
+        let [low, middle, high] = self.ways[state];
+        let subset = subset_at(low, middle, high, age);
+        let (i3, numbers) = (self.i3[subset] >> age & 1, self.numbers[slot]);
+        word(u, subset, i3 == 1, |n| (numbers >> (8 * n)) as u32 & 255)
+    }
+}
+
+#[derive(Clone, Copy)]
+pub struct Planes {
+    /// As in `Registers`, but four planes to a state, so that they move in pairs; the last stays empty.
+    pub bits: [[u64; 4]; 16],
+    /// The word of each subset's best symbol, for each symbol.
+    pub words: [[u32; 8]; 64],
+}
+
+impl Memory for Planes {
+    type Pick = [u32; 8];
+    type Step = [u8; 16];
+
+    fn new() -> Planes {
+        Planes { bits: [[0; 4]; 16], words: [[0; 8]; 64] }
+    }
+
+    #[inline(always)]
+    fn pick(u: u32, choices: &Choices) -> Self::Pick {
+        std::array::from_fn(|subset| {
+            // both are put together and one is taken, so that no number is looked up
+            let of_type = |i3| word(u, subset, i3, |n| choices.numbers[n] as u32);
+            let (zero, one) = (of_type(false), of_type(true));
+            if choices.i3[subset] {
+                one
+            } else {
+                zero
+            }
+        })
+    }
+
+    #[inline(always)]
+    fn step(&self, from: [u8; 16]) -> [u8; 16] {
+        from
+    }
+
+    #[inline(always)]
+    fn agreed(&self, from: &[u8; 16], pending: usize) -> usize {
         let first = self.bits[4 * (from[0] as usize & 3)];
         let mut differ = [0; 4];
         for s in 1..16 {
@@ -312,7 +343,7 @@ impl Memory for Planes {
     }
 
     #[inline(always)]
-    fn keep(&mut self, from: &[u8; 16], _slot: usize) {
+    fn keep(&mut self, from: &[u8; 16], words: &[u32; 8], slot: usize) {
         let old = self.bits;
         for s in 0..16 {
             let k = from[s] as usize & 3;
@@ -321,15 +352,13 @@ impl Memory for Planes {
                 self.bits[s][b] = way[b] << 1 | newest[b];
             }
         }
+        self.words[slot] = *words;
     }
 
     #[inline(always)]
-    fn path(&self, state: usize, _slot: usize, pending: usize, count: usize, told: &mut [u8; 64]) {
+    fn word(&self, _u: u32, state: usize, slot: usize, age: usize) -> u32 {
         let [low, middle, high, _] = self.bits[state];
-        for n in 0..count {
-            let age = pending - count + n;
-            told[n] = ((high >> age & 1) << 2 | (middle >> age & 1) << 1 | low >> age & 1) as u8;
-        }
+        self.words[slot][subset_at(low, middle, high, age)]
     }
 }
 
@@ -353,7 +382,6 @@ pub struct Receiver<S, M> {
     pub pending: usize,
     pub sums: [u64; 16],
     pub memory: M,
-    pub words: [[u32; 8]; 64],
     search: std::marker::PhantomData<S>,
 }
 
@@ -373,7 +401,6 @@ impl<S: Search, M: Memory> Receiver<S, M> {
             pending: 0,
             sums: [0; 16],
             memory: M::new(),
-            words: [[0; 8]; 64],
             search: std::marker::PhantomData,
         }
     }
@@ -402,11 +429,9 @@ impl<S: Search, M: Memory> Receiver<S, M> {
     /// Writes the words of the oldest `count` undecided symbols on the way to `state`.
     #[inline(always)]
     fn speak(&mut self, state: usize, count: usize, out: &mut [u32]) {
-        let mut subsets = [0; 64];
-        self.memory.path(state, self.slot, self.pending, count, &mut subsets);
         for n in 0..count {
             let oldest = (self.slot + 64 - self.pending + n) & 63;
-            let word = self.words[oldest][subsets[count - 1 - n] as usize & 7];
+            let word = self.memory.word(self.u, state, oldest, self.pending - 1 - n);
             let turn = word >> 1 & 3;
             out[n] = word & !6 | ((turn + 4 - self.turn) & 3) << 1;
             self.turn = turn;
@@ -423,10 +448,13 @@ impl<S: Search, M: Memory> Receiver<S, M> {
             return Err((7, 0));
         }
         let choices = choices::<S>(self.u, c);
+        // before the select, while what was compared is still at hand
+        let pick = M::pick(self.u, &choices);
         let (sums, from) = select(&self.sums, &choices.costs);
+        let step = self.memory.step(from);
         // From a named start four states are reached after one symbol and all after two. The first symbol releases nothing
         // whatever is reached, so every state may be taken for live here.
-        let agreed = self.memory.agreed(&from, self.slot, self.pending);
+        let agreed = self.memory.agreed(&step, self.pending);
         if self.pending + 1 - agreed > self.window as usize {
             return Err((6, 0));
         }
@@ -436,8 +464,7 @@ impl<S: Search, M: Memory> Receiver<S, M> {
         if agreed > 0 {
             self.speak(4 * from[0] as usize, agreed, out);
         }
-        self.memory.keep(&from, self.slot);
-        self.words[self.slot] = choices.words;
+        self.memory.keep(&step, &pick, self.slot);
         self.sums = sums;
         self.slot = (self.slot + 1) & 63;
         self.pending = self.pending + 1 - agreed;

@@ -4,7 +4,8 @@
 //! output; after a 6 it finishes and opens again, as the header advises. The words of all must be equal. Each is timed
 //! five times, in turn, by the processor time of the thread, and the best of the five counts.
 //!
-//! - `same`: the library's algorithm in Rust: every squared distance as the scope words it, columns walked back.
+//! - `same`: the library's algorithm in plain Rust: every squared distance as the scope words it, the subsets of the
+//!   undecided symbols in three registers a state, and a word put together when it is released.
 //! - `fastest`: the same results by the quickest means known that still try every point: see `fast.rs`.
 
 #[path = "fast.rs"]
@@ -19,7 +20,7 @@ mod reference;
 #[allow(dead_code)]
 mod rng;
 
-use fast::{Columns, Direct, Keyed, Memory, Planes, Search};
+use fast::{Direct, Keyed, Memory, Planes, Registers, Search};
 
 const WINDOW: u32 = 64;
 const NOISE: [(&str, f64); 2] = [("low", 20.0), ("high", 75.0)];
@@ -144,7 +145,7 @@ fn character(u: u32, line: &[i32]) -> (f64, usize) {
 
 fn row(u: u32, noise: &str, line: &[i32], piece: usize, rounds: usize) {
     let mut library = Library { state: vec![0; ffi::receiver_words()], told: [0; 3] };
-    let mut same = fast::Receiver::<Direct, Columns>::closed();
+    let mut same = fast::Receiver::<Direct, Registers>::closed();
     let mut fastest = fast::Receiver::<Keyed, Planes>::closed();
     let mut out = vec![vec![0; line.len() / 4]; 3];
     let mut best = [f64::MAX; 3];

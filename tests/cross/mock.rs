@@ -1,8 +1,8 @@
 //! A stand-in for the static library: the same C functions over the receiver written for speed (`bench/fast.rs`).
 //!
 //! It serves three ends. The test is tried on it before a proved library is at hand; deliberately broken copies of it
-//! (`mutants/*.edit`) must be caught; and running the test on it shows that the receiver that the bench measures
-//! equals the clear reference. It is never linked into anything that is handed out.
+//! (`mutants/*.edit`) must be caught; and running the test on it shows that the receivers that the bench measures equal
+//! the clear reference: `fastest`, or with `--cfg registers` `same`. It is never linked into anything that is handed out.
 
 #[path = "../../bench/fast.rs"]
 #[allow(dead_code)]
@@ -10,51 +10,64 @@ mod fast;
 
 use std::slice::{from_raw_parts, from_raw_parts_mut};
 
-#[cfg(columns)]
-use columns::*;
-#[cfg(not(columns))]
+#[cfg(not(registers))]
 use planes::*;
+#[cfg(registers)]
+use registers::*;
 
 /// The receiver with planes, and its memory as words.
-#[cfg(not(columns))]
+#[cfg(not(registers))]
 mod planes {
     use crate::fast::*;
     pub type Held = Receiver<Keyed, Planes>;
-    pub const MEMORY_WORDS: usize = 64;
+    pub const MEMORY_WORDS: usize = 64 + 256;
 
     pub fn put(memory: &Planes, words: &mut [u64]) {
-        words.copy_from_slice(memory.bits.as_flattened());
+        let (bits, ring) = words.split_at_mut(64);
+        bits.copy_from_slice(memory.bits.as_flattened());
+        ring.iter_mut().zip(memory.words.as_flattened().chunks(2)).for_each(|(w, two)| {
+            *w = two[0] as u64 | (two[1] as u64) << 32;
+        });
     }
 
     pub fn get(words: &[u64]) -> Planes {
-        Planes { bits: std::array::from_fn(|s| std::array::from_fn(|b| words[4 * s + b])) }
+        let mut memory = Planes::new();
+        let (bits, ring) = words.split_at(64);
+        memory.bits.as_flattened_mut().copy_from_slice(bits);
+        memory.words.as_flattened_mut().chunks_mut(2).zip(ring).for_each(|(two, &w)| {
+            two.copy_from_slice(&[w as u32, (w >> 32) as u32]);
+        });
+        memory
     }
 }
 
-/// The receiver with columns, and its memory as words.
-#[cfg(columns)]
-mod columns {
+/// The receiver with registers, and its memory as words.
+#[cfg(registers)]
+mod registers {
     use crate::fast::*;
-    pub type Held = Receiver<Direct, Columns>;
-    pub const MEMORY_WORDS: usize = 32;
+    pub type Held = Receiver<Direct, Registers>;
+    pub const MEMORY_WORDS: usize = 48 + 8 + 64;
 
-    pub fn put(memory: &Columns, words: &mut [u64]) {
-        let one = |c: Column| c.low as u64 | (c.high as u64) << 16;
-        words.iter_mut().zip(memory.ring.chunks(2)).for_each(|(w, two)| *w = one(two[0]) | one(two[1]) << 32);
+    pub fn put(memory: &Registers, words: &mut [u64]) {
+        words[..48].copy_from_slice(memory.ways.as_flattened());
+        words[48..56].copy_from_slice(&memory.i3);
+        words[56..].copy_from_slice(&memory.numbers);
     }
 
-    pub fn get(words: &[u64]) -> Columns {
-        let half = |slot: usize| words[slot / 2] >> (32 * (slot % 2));
-        let one = |slot| Column { low: half(slot) as u16, high: (half(slot) >> 16) as u16 };
-        Columns { ring: std::array::from_fn(one) }
+    pub fn get(words: &[u64]) -> Registers {
+        let mut memory = Registers::new();
+        memory.ways.as_flattened_mut().copy_from_slice(&words[..48]);
+        memory.i3.copy_from_slice(&words[48..56]);
+        memory.numbers.copy_from_slice(&words[56..]);
+        memory
     }
 }
 
 const SENDER_TAG: u64 = 0x5345_4e44_5f30_3031;
 const RECEIVER_TAG: u64 = 0x5245_4356_5f30_3031;
 const SENDER_WORDS: usize = 5;
-/// Tag; open, width, window, turn, taken, slot, pending; sums; words of the ring; memory.
-const RECEIVER_WORDS: usize = 24 + 256 + MEMORY_WORDS;
+/// Tag; open, width, window, turn, taken, slot, pending; sums; memory.
+const RECEIVER_WORDS: usize = 24 + MEMORY_WORDS;
 
 // ---- the sender
 
@@ -118,10 +131,7 @@ fn load(state: &[u64]) -> Option<Held> {
     let (_, mut r) = Held::open(u as u32, window as u32, 16);
     (r.turn, r.taken, r.slot, r.pending) = (turn as u32, taken as u32, slot as usize, pending as usize);
     r.sums.copy_from_slice(&state[8..24]);
-    r.words.as_flattened_mut().chunks_mut(2).zip(&state[24..280]).for_each(|(two, &w)| {
-        two.copy_from_slice(&[w as u32, (w >> 32) as u32]);
-    });
-    r.memory = get(&state[280..RECEIVER_WORDS]);
+    r.memory = get(&state[24..RECEIVER_WORDS]);
     Some(r)
 }
 
@@ -131,10 +141,7 @@ fn store(r: &Held, state: &mut [u64]) {
     state[1..6].copy_from_slice(&head);
     state[6..8].copy_from_slice(&[r.slot as u64, r.pending as u64]);
     state[8..24].copy_from_slice(&r.sums);
-    state[24..280].iter_mut().zip(r.words.as_flattened().chunks(2)).for_each(|(w, two)| {
-        *w = two[0] as u64 | (two[1] as u64) << 32;
-    });
-    put(&r.memory, &mut state[280..RECEIVER_WORDS]);
+    put(&r.memory, &mut state[24..RECEIVER_WORDS]);
 }
 
 fn tell(told: &mut [u64], taken: u64, written: u64, place: u64) {

@@ -6,8 +6,10 @@
 //! - `Direct`: each squared distance as the scope words it. `Keyed`: the square multiplied out, distance and number in one
 //!   key, the two dot products of a point shared by its four turns; the compiler turns this loop into vector code.
 //! - In both memories each state keeps the subsets of its own undecided symbols as bits, moved on with the state.
-//!   `Registers`: three words a state, and of each symbol only what its word is put together from once it is released.
-//!   `Planes`: four words a state, which move in pairs, and of each symbol the words of all eight subsets, ready.
+//!   `Registers`: three words a state, three bits a symbol. Only the words that hold undecided symbols are moved: one for
+//!   up to 21. Of each symbol it keeps only what its word is put together from once it is released.
+//!   `Planes`: four words a state, which move in pairs, one bit of a symbol in each of three. Of each symbol it keeps
+//!   the words of all eight subsets, ready.
 
 /// The first 256 A points, 1 modulo 4 in both coordinates, by x² + y², equal sums by falling y.
 #[allow(long_running_const_eval)]
@@ -195,10 +197,101 @@ pub trait Memory: Copy {
     fn step(&self, from: [u8; 16]) -> Self::Step;
     /// How many of the oldest `pending` symbols all states agree on once this is the newest step.
     fn agreed(&self, step: &Self::Step, pending: usize) -> usize;
-    /// Keeps a step; what is picked goes to `slot`.
-    fn keep(&mut self, step: &Self::Step, pick: &Self::Pick, slot: usize);
+    /// Keeps a step that comes after `pending` undecided symbols; what is picked goes to `slot`.
+    fn keep(&mut self, step: &Self::Step, pick: &Self::Pick, slot: usize, pending: usize);
     /// The word of the symbol `age` before the newest, kept in `slot`, on the way to `state`. The turn itself is at bits 1, 2.
     fn word(&self, u: u32, state: usize, slot: usize, age: usize) -> u32;
+}
+
+#[derive(Clone, Copy)]
+pub struct Registers {
+    /// State s has 192 bits, in `words[b][s]` for b 0 to 2. Bits 3n to 3n + 2 are the subset of the symbol n before the
+    /// newest, on the best way to s. A word that holds no undecided symbol is neither moved nor read.
+    pub words: [[u64; 16]; 3],
+    /// Bit n of a subset's register is I3' of its best symbol, for the symbol n before the newest.
+    pub i3: [u64; 8],
+    /// The numbers of each symbol's choices, a byte to each.
+    pub numbers: [u64; 64],
+}
+
+/// For each state the k of the state that it came from, and word 0 of that state.
+pub struct Before {
+    from: [u8; 16],
+    ways: [u64; 16],
+}
+
+/// For each state the word of the state that it came from.
+#[inline(always)]
+fn words_before(words: &[u64; 16], from: &[u8; 16]) -> [u64; 16] {
+    std::array::from_fn(|s| words[4 * (from[s] as usize & 3) + (s >> 2)])
+}
+
+/// The highest of the lowest n bits in which the words differ.
+#[inline(always)]
+fn highest_apart(words: &[u64; 16], n: usize) -> Option<u32> {
+    let apart = words.iter().fold(0, |bits, word| bits | (word ^ words[0]));
+    let lowest = if n < 64 { (1 << n) - 1 } else { u64::MAX };
+    (apart & lowest).checked_ilog2()
+}
+
+impl Memory for Registers {
+    type Pick = ([bool; 8], u64);
+    type Step = Before;
+
+    fn new() -> Registers {
+        Registers { words: [[0; 16]; 3], i3: [0; 8], numbers: [0; 64] }
+    }
+
+    #[inline(always)]
+    fn pick(_u: u32, choices: &Choices) -> Self::Pick {
+        (choices.i3, u64::from_le_bytes(choices.numbers))
+    }
+
+    #[inline(always)]
+    fn step(&self, from: [u8; 16]) -> Before {
+        Before { from, ways: words_before(&self.words[0], &from) }
+    }
+
+    #[inline(always)]
+    fn agreed(&self, before: &Before, pending: usize) -> usize {
+        let n = 3 * pending;
+        for b in [2, 1] {
+            if n > 64 * b {
+                let ways = words_before(&self.words[b], &before.from);
+                if let Some(bit) = highest_apart(&ways, n - 64 * b) {
+                    return pending - (64 * b + bit as usize) / 3 - 1;
+                }
+            }
+        }
+        highest_apart(&before.ways, n).map_or(pending, |bit| pending - bit as usize / 3 - 1)
+    }
+
+    #[inline(always)]
+    fn keep(&mut self, before: &Before, (i3, numbers): &Self::Pick, slot: usize, pending: usize) {
+        let Before { from, ways } = before;
+        let n = pending + 1;
+        if n > 21 {
+            let middle = words_before(&self.words[1], from);
+            if n > 42 {
+                let high = words_before(&self.words[2], from);
+                self.words[2] = std::array::from_fn(|s| high[s] << 3 | middle[s] >> 61);
+            }
+            self.words[1] = std::array::from_fn(|s| middle[s] << 3 | ways[s] >> 61);
+        }
+        self.words[0] = std::array::from_fn(|s| ways[s] << 3 | subset_of(s, from[s] as usize) as u64);
+        for subset in 0..8 {
+            self.i3[subset] = self.i3[subset] << 1 | i3[subset] as u64;
+        }
+        self.numbers[slot] = *numbers;
+    }
+
+    #[inline(always)]
+    fn word(&self, u: u32, state: usize, slot: usize, age: usize) -> u32 {
+        let bit = |n: usize| (self.words[n / 64][state] >> (n % 64)) as usize & 1;
+        let subset = bit(3 * age + 2) << 2 | bit(3 * age + 1) << 1 | bit(3 * age);
+        let (i3, numbers) = (self.i3[subset] >> age & 1, self.numbers[slot]);
+        word(u, subset, i3 == 1, |n| (numbers >> (8 * n)) as u32 & 255)
+    }
 }
 
 /// The bits of the subset on the way to s from the k-th, one to a word.
@@ -221,81 +314,9 @@ fn subset_at(low: u64, middle: u64, high: u64, age: usize) -> usize {
 }
 
 #[derive(Clone, Copy)]
-pub struct Registers {
-    /// Bit n of register b of state s is bit b of the subset of the symbol n before the newest, on the best way to s.
-    pub ways: [[u64; 3]; 16],
-    /// Bit n of a subset's register is I3' of its best symbol, for the symbol n before the newest.
-    pub i3: [u64; 8],
-    /// The numbers of each symbol's choices, a byte to each.
-    pub numbers: [u64; 64],
-}
-
-/// For each state the way to the state that it came from, and the k of that state.
-pub struct Before {
-    ways: [[u64; 3]; 16],
-    from: [u8; 16],
-}
-
-impl Memory for Registers {
-    type Pick = ([bool; 8], u64);
-    type Step = Before;
-
-    fn new() -> Registers {
-        Registers { ways: [[0; 3]; 16], i3: [0; 8], numbers: [0; 64] }
-    }
-
-    #[inline(always)]
-    fn pick(_u: u32, choices: &Choices) -> Self::Pick {
-        (choices.i3, u64::from_le_bytes(choices.numbers))
-    }
-
-    #[inline(always)]
-    fn step(&self, from: [u8; 16]) -> Before {
-        Before { ways: std::array::from_fn(|s| self.ways[4 * (from[s] as usize & 3) + (s >> 2)]), from }
-    }
-
-    #[inline(always)]
-    fn agreed(&self, before: &Before, pending: usize) -> usize {
-        if pending == 0 {
-            return 0;
-        }
-        let mut differ = [0; 3];
-        for s in 1..16 {
-            for b in 0..3 {
-                differ[b] |= before.ways[s][b] ^ before.ways[0][b];
-            }
-        }
-        // the oldest pending symbol comes to the top
-        let differ: u64 = (differ[0] | differ[1] | differ[2]) << (64 - pending);
-        (differ.leading_zeros() as usize).min(pending)
-    }
-
-    #[inline(always)]
-    fn keep(&mut self, before: &Before, (i3, numbers): &Self::Pick, slot: usize) {
-        for s in 0..16 {
-            let newest = &NEWEST[s][before.from[s] as usize & 3];
-            for b in 0..3 {
-                self.ways[s][b] = before.ways[s][b] << 1 | newest[b];
-            }
-        }
-        for subset in 0..8 {
-            self.i3[subset] = self.i3[subset] << 1 | i3[subset] as u64;
-        }
-        self.numbers[slot] = *numbers;
-    }
-
-    #[inline(always)]
-    fn word(&self, u: u32, state: usize, slot: usize, age: usize) -> u32 {
-        let [low, middle, high] = self.ways[state];
-        let subset = subset_at(low, middle, high, age);
-        let (i3, numbers) = (self.i3[subset] >> age & 1, self.numbers[slot]);
-        word(u, subset, i3 == 1, |n| (numbers >> (8 * n)) as u32 & 255)
-    }
-}
-
-#[derive(Clone, Copy)]
 pub struct Planes {
-    /// As in `Registers`, but four planes to a state, so that they move in pairs; the last stays empty.
+    /// Bit n of plane b of state s is bit b of the subset of the symbol n before the newest, on the best way to s. A state
+    /// has four planes, so that they move in pairs; the last stays empty.
     pub bits: [[u64; 4]; 16],
     /// The word of each subset's best symbol, for each symbol.
     pub words: [[u32; 8]; 64],
@@ -343,7 +364,7 @@ impl Memory for Planes {
     }
 
     #[inline(always)]
-    fn keep(&mut self, from: &[u8; 16], words: &[u32; 8], slot: usize) {
+    fn keep(&mut self, from: &[u8; 16], words: &[u32; 8], slot: usize, _pending: usize) {
         let old = self.bits;
         for s in 0..16 {
             let k = from[s] as usize & 3;
@@ -464,7 +485,7 @@ impl<S: Search, M: Memory> Receiver<S, M> {
         if agreed > 0 {
             self.speak(4 * from[0] as usize, agreed, out);
         }
-        self.memory.keep(&step, &pick, self.slot);
+        self.memory.keep(&step, &pick, self.slot, self.pending);
         self.sums = sums;
         self.slot = (self.slot + 1) & 63;
         self.pending = self.pending + 1 - agreed;

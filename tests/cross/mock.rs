@@ -49,14 +49,14 @@ mod registers {
     pub const MEMORY_WORDS: usize = 48 + 8 + 64;
 
     pub fn put(memory: &Registers, words: &mut [u64]) {
-        words[..48].copy_from_slice(memory.ways.as_flattened());
+        words[..48].copy_from_slice(memory.words.as_flattened());
         words[48..56].copy_from_slice(&memory.i3);
         words[56..].copy_from_slice(&memory.numbers);
     }
 
     pub fn get(words: &[u64]) -> Registers {
         let mut memory = Registers::new();
-        memory.ways.as_flattened_mut().copy_from_slice(&words[..48]);
+        memory.words.as_flattened_mut().copy_from_slice(&words[..48]);
         memory.i3.copy_from_slice(&words[48..56]);
         memory.numbers.copy_from_slice(&words[56..]);
         memory

@@ -1,7 +1,7 @@
 // The inside of one symbol. `Receiver` is the whole state of the receiving end, and `take_symbol` takes it over one received
 // symbol: `look_ahead` weighs the symbol (crate nearest), adds, compares and selects (select), and counts how many
 // symbols all live states now agree on (planes). Nothing is stored so far, so a refusal leaves all as it was. Then the agreed words are
-// written, sums and picks (picks) are stored, and the registers move on. At the end of a line `write_words` gives the
+// written, sums and picks (picks) are stored, and the registers move on (shift). At the end of a line `write_words` gives the
 // words of the answer.
 //
 // The arrays are lent and copied nowhere: a caller that holds a receiver takes it apart once for a whole piece. Every function
@@ -192,7 +192,7 @@ pub fn take_symbol(
     let ways = o.ways;
     let i3 = o.i3;
     *sums = new_sums;
-    planes::shift(planes, &steps, &ways, core.pending + 1);
+    shift::shift(planes, &steps, &ways, core.pending + 1);
     picks::keep(picks, core.slot, i3, o.numbers);
     Took {
         core: moved_on(core, turn, kept),

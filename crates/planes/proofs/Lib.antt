@@ -2,4 +2,3 @@ pub mod Words
 pub mod Moved
 pub mod Oldest
 pub mod Count
-pub mod Put

@@ -15,7 +15,6 @@
 --   apartOf ways               the bits in which the words differ
 --   partedOf ways n            how many of the lowest n bits reach up to the highest that differs
 --   reachOf planes steps n     the same of the 192 bits of the states that the steps name
---   putWord b f planes         word b of each state s is f s
 use Prim.Native.Nat.{ℕ, zero, suc, _+_, _-_, _*_, _/_, _%_, _^_}
 use mathlib.Core.Bool.{Bool, true, cond, _&&_}
 use mathlib.Core.List.{List, [], _∷_}
@@ -107,15 +106,3 @@ reachOf planes steps n =
     cond (leb n 64) (partedOf (words 0) n)
     (cond (leb n 128) (aboveOf (partedOf (words 1) (n - 64)) 64 (partedOf (words 0) 64))
     (aboveOf (partedOf (words 2) (n - 128)) 128 (aboveOf (partedOf (words 1) 64) 64 (partedOf (words 0) 64))))
-
--- ---- words put in their places
-
-abbrev pub placePut : ℕ → (ℕ → ℕ) → List ℕ → ℕ → ℕ → ℕ
-placePut b f planes n i = cond (eqb (i / 16) b && ltb (i % 16) n) (f (i % 16)) (getD planes i 0)
-
--- those of the states below n
-unfoldable pub putBelow : ℕ → (ℕ → ℕ) → List ℕ → ℕ → List ℕ
-putBelow b f planes n = tabled (placePut b f planes n) 48
-
-abbrev pub putWord : ℕ → (ℕ → ℕ) → List ℕ → List ℕ
-putWord b f planes = putBelow b f planes 16

@@ -1,13 +1,11 @@
 // The subsets of the pending symbols, kept for each state on its own best way. Three words stand for a state, 192 bits, three to a symbol and
-// the newest lowest. A new symbol moves them all: a state takes over the words of the state that its best way comes from, and each gets
-// three bits more. How many of the oldest pending symbols all states agree on is then read off the bits in which their words differ:
-// nothing is walked. Where few symbols are pending, only the words that hold them are moved: one for up to 20, as on a quiet line.
+// the newest lowest. How many of the oldest pending symbols all states agree on is read off the bits in which the words of the states before
+// differ: nothing is walked. How a new symbol moves the words on is in `shift`.
 //
 // A step is 8 times the state before and the 4D subset, as `select` selects it.
 ghost use mathlib.Core.Path.{_≡_};
-ghost use Prim.Native.Nat.{_/_, _%_, _^_, _<_, _≤_};
-ghost use lib.ListN.{getD};
-ghost use Rattle.planes.specs.Planes.{cameFrom, bitIn, subsetIn, longer, wordsBefore, movedOf, sameAt, oldest, apartOf, lowest, partedOf, aboveOf, reachOf, putWord};
+ghost use Prim.Native.Nat.{_<_, _≤_};
+ghost use Rattle.planes.specs.Planes.{cameFrom, bitIn, subsetIn, wordsBefore, sameAt, oldest, apartOf, lowest, partedOf, aboveOf, reachOf};
 
 // The state before, of a step.
 fn came_from(step: u8) -> usize
@@ -99,70 +97,6 @@ pub fn agreed(planes: &[u64; 48], steps: &[u8; 16], ways: &[u64; 16], pending: u
     let all: &[u8] = steps;
     let up = reach(planes, steps, ways, 3 * pending);
     pending - (up + 2) / 3
-}
-
-// A word with three bits more. The three highest are forgotten.
-fn longer_by(word: u64, bits: u64) -> u64
-    requires { ⌜ bits < 8 ⌝ }
-    ensures { λ r. ⌜ r ≡ longer word bits ⌝ }
-{
-    (word << 3) | bits
-}
-
-// Word b of all states, where the words before and those below them are given.
-fn move_up(planes: &mut [u64; 48], b: usize, ways: &[u64; 16], below: &[u64; 16])
-    requires { ⌜ b < 3 ⌝ }
-    ensures { λ _. ⌜ now (planes .exit) ≡ putWord b (λ s. longer (getD (now (ways .entry)) s 0) (getD (now (below .entry)) s 0 / 2 ^ 61 % 8)) (now (planes .entry)) ⌝ }
-{
-    // as a slice the array shows its length
-    let all: &[u64] = planes;
-    let mut s: usize = 0;
-    while s < 16 {
-        planes[16 * b + s] = longer_by(ways[s], (below[s] >> 61) % 8);
-        s += 1;
-    }
-}
-
-// A byte as a word.
-fn wide(x: u8) -> u64
-    ensures { λ r. ⌜ r ≡ x ⌝ }
-{
-    x as u64
-}
-
-// The first word of all states, where the words before are given: the subset comes in.
-fn move_first(planes: &mut [u64; 48], ways: &[u64; 16], steps: &[u8; 16])
-    ensures { λ _. ⌜ now (planes .exit) ≡ putWord 0 (λ s. longer (getD (now (ways .entry)) s 0) (getD (now (steps .entry)) s 0 % 8)) (now (planes .entry)) ⌝ }
-{
-    // as a slice the array shows its length
-    let all: &[u64] = planes;
-    let mut s: usize = 0;
-    while s < 16 {
-        planes[s] = longer_by(ways[s], wide(steps[s] % 8));
-        s += 1;
-    }
-}
-
-// All sixteen states by one symbol, where n are pending with it; `ways` is the first word of the states before. The highest word goes first, for
-// it needs the one below as it was.
-pub fn shift(planes: &mut [u64; 48], steps: &[u8; 16], ways: &[u64; 16], n: usize)
-    requires { ⌜ now ways ≡ wordsBefore (now planes) (now steps) 0 ⌝ }
-    ensures { λ _. ⌜ now (planes .exit) ≡ movedOf n (now (planes .entry)) (now (steps .entry)) ⌝ }
-{
-    if n <= 21 {
-        move_first(planes, ways, steps);
-    } else {
-        let middle = words_before(planes, steps, 1);
-        if n <= 42 {
-            move_up(planes, 1, &middle, ways);
-            move_first(planes, ways, steps);
-        } else {
-            let high = words_before(planes, steps, 2);
-            move_up(planes, 2, &high, &middle);
-            move_up(planes, 1, &middle, ways);
-            move_first(planes, ways, steps);
-        }
-    }
 }
 
 // A bit of a state.

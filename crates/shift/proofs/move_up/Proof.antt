@@ -4,10 +4,11 @@ use mathlib.Core.List.{List}
 use Prim.Native.Nat.{ℕ, _+_, _-_, _*_, _/_, _%_, _^_, _≤_}
 use native.Mathlib.Omega.{arith}
 use lib.ListN.{length, getD, set}
-use Rattle.planes.specs.Planes.{longer, putBelow}
-use Rattle.planes.proofs.Put.{put-none, put-more, put-length}
-use Rattle.planes.proofs.move_up.Statement.{statement}
-use Rattle.planes.proofs.move_up.Tie as tie
+use Rattle.planes.specs.Planes.{longer}
+use Rattle.shift.specs.Put.{putBelow}
+use Rattle.shift.proofs.Places.{put-none, put-more, put-length}
+use Rattle.shift.proofs.move_up.Statement.{statement}
+use Rattle.shift.proofs.move_up.Tie as tie
 
 abbrev Inv-loop : tie.InvT-loop
 Inv-loop planes₀ b ways below s₀ planes s = (s ≤ 16) × (planes ≡ putBelow b (λ s. longer (getD ways s 0) (getD below s 0 / 2 ^ 61 % 8)) planes₀ s)

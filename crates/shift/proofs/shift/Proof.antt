@@ -1,9 +1,9 @@
 -- `shift`: one word, two, or three, from the highest down.
 use native.Mathlib.Omega.{arith}
 use borrow.Author.Needs.{needs}
-use Rattle.planes.proofs.Put.{shift-one, shift-two, shift-three}
-use Rattle.planes.proofs.shift.Statement.{statement}
-use Rattle.planes.proofs.shift.Tie as tie
+use Rattle.shift.proofs.Places.{shift-one, shift-two, shift-three}
+use Rattle.shift.proofs.shift.Statement.{statement}
+use Rattle.shift.proofs.shift.Tie as tie
 
 move-first-requires : tie.Need-move-first-requires
 move-first-requires c κs = search needs

@@ -14,7 +14,8 @@ use lib.ListN.{length, getD, set}
 use lib.Seq.{ext-getD}
 use Rattle.lists.specs.Tabled.{tabled}
 use Rattle.lists.proofs.Filled.{tabled-length, tabled-at, tabled-same, tabled-set, all-listed}
-use Rattle.planes.specs.Planes.{longer, wordBefore, wordsBefore, carried, movedAt, movedWords, placeMoved, movedOf, placePut, putBelow, putWord}
+use Rattle.planes.specs.Planes.{longer, wordBefore, wordsBefore, carried, movedAt, movedWords, placeMoved, movedOf}
+use Rattle.shift.specs.Put.{placePut, putBelow, putWord}
 
 -- ── the loop ──
 and-none : (x : Bool) → (x && false) ≡ false

@@ -16,6 +16,7 @@ ghost use mathlib.Core.List.{[]};
 ghost use Prim.Native.Nat.{_+_, _%_, _≤_};
 ghost use lib.IntN.{pos};
 ghost use lib.ListN.{length, set};
+ghost use Rattle.receiver.specs.Given.{plainWindow};
 ghost use Rattle.samples.specs.Heard.{heardSample};
 ghost use Rattle.demfizagu.specs.Calls.{senderOpening, startAt, receiverOpening, sendCall, toldOf, hearCall, finishCall, pendingIn, openIn, sampleCall, converting, samplesCall};
 ghost use Rattle.demfizagu.specs.Promise.{Opens, Sends, Answers, HeardIs, Samples, ConvertsTo, Converts};
@@ -97,12 +98,12 @@ pub extern "C" fn demfizagu_receiver_open(state: &mut [u64], u: u32, window: u32
     opened(state, u, window, Start::At(start))
 }
 
-// Window 64 and a free start.
+// The window of the plain opening and a free start.
 #[no_mangle]
 pub extern "C" fn demfizagu_receiver_open_plain(state: &mut [u64], u: u32) -> u32
-    ensures { λ r. ⌜ Opens receiverIn (receiverOpening (now (state .entry)) u 64 Start.Free) r (now (state .exit)) ⌝ }
+    ensures { λ r. ⌜ Opens receiverIn (receiverOpening (now (state .entry)) u plainWindow Start.Free) r (now (state .exit)) ⌝ }
 {
-    opened(state, u, 64, Start::Free)
+    opened(state, u, receiver::PLAIN_WINDOW, Start::Free)
 }
 
 // The first three places of `told`.

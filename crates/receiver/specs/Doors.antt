@@ -23,7 +23,7 @@ use Rattle.machine.specs.Machine.{opened, shut, Outcome, refused, taking, lastW
 use Rattle.machine.specs.Told.{Reason, faultOf, givenOf}
 use Rattle.receiver.specs.declared.Start.{Start}
 use Rattle.receiver.specs.declared.Start.the-variants.{Free}
-use Rattle.receiver.specs.Given.{startOf, startFits}
+use Rattle.receiver.specs.Given.{plainWindow, startOf, startFits}
 
 -- ---- openings
 
@@ -43,7 +43,7 @@ opening u w b =
 
 -- "The plain opening names only u; it has window 64 and a free start"
 abbrev pub plainOpening : ℕ → Opening
-plainOpening u = opening u 64 Free
+plainOpening u = opening u plainWindow Free
 
 -- ---- a piece
 

@@ -1,4 +1,5 @@
--- The start of an opening, as the theory has it.
+-- What an opening names: the start as the theory has it, and the window of the plain opening.
+--   plainWindow    "The plain opening names only u; it has window 64 and a free start"
 --   startOf b      the start that an opening names
 --   startFits b    it is free, or names one of the sixteen states
 use Prim.Native.Nat.{ℕ}
@@ -7,6 +8,9 @@ use lib.Dec.{leb}
 use Rattle.trellis.specs.Measure as measure
 use Rattle.receiver.specs.declared.Start.{Start}
 use Rattle.receiver.specs.declared.Start.the-variants.{Free, At}
+
+abbrev pub plainWindow : ℕ
+plainWindow = 64
 
 abbrev pub startOf : Start → measure.Start
 startOf Free = measure.free

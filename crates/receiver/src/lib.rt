@@ -21,7 +21,7 @@ ghost use Rattle.machine.specs.Machine.{core, freshSums, shut, topSum, soundCor
 ghost use Rattle.select.specs.Select.{allUpTo};
 ghost use Rattle.machine.specs.Taken.{whole, TookIs};
 ghost use Rattle.machine.specs.Told.{faultOf, givenOf};
-ghost use Rattle.receiver.specs.Given.{startOf, startFits};
+ghost use Rattle.receiver.specs.Given.{plainWindow, startOf, startFits};
 ghost use Rattle.receiver.specs.Doors.{symbolsOf, symbolFrom, symbolAt, isDone, running, hearing};
 ghost use Rattle.receiver.specs.Promise.{Opens, Is, partsOf, answerOf, Hears, Finishes};
 
@@ -174,11 +174,14 @@ pub fn open_receiver(u: u32, window: u32, start: Start) -> Opened
     }
 }
 
-// The plain opening: window 64 and a free start.
+// The window of the plain opening.
+pub const PLAIN_WINDOW: u32 = 64;
+
+// The plain opening names only the width: its start is free.
 pub fn open_plain(u: u32) -> Opened
-    ensures { λ r. ⌜ Opens u 64 Start.Free r ⌝ }
+    ensures { λ r. ⌜ Opens u plainWindow Start.Free r ⌝ }
 {
-    open_receiver(u, 64, Start::Free)
+    open_receiver(u, PLAIN_WINDOW, Start::Free)
 }
 
 // Whether the numbers beside the sums are in range.

@@ -1,4 +1,4 @@
--- Answers of the first session that `lab help` prints, and some others, as the definitions of specs/Answer.antt compute them.
+-- Answers of the first session that `lab help` prints, and some others, as the definitions of `phrases` and `answers` compute them; and a session, as those of `stream` do.
 use Prim.Native.Nat.{ℕ}
 use mathlib.Core.Path.{_≡_, refl}
 use mathlib.Core.List.{List, [], _∷_}
@@ -18,10 +18,11 @@ use Rattle.points.specs.Pair.{firstPoint, secondPoint}
 use Rattle.sender.specs.Send.{opening, sending, after, four}
 use Rattle.machine.specs.Machine.{shut, sound}
 use Rattle.machine.specs.Told.{reason}
-use Rattle.lab.specs.Answer.{decimal, whole, numberLine, sentLine, reasonText, saidText, heardLine, sampleLine}
-use Rattle.lab.specs.Desk.{closedDesk, acting}
-use Rattle.lab.specs.Line.{answering}
-use Rattle.lab.specs.Stream.{streaming, lastLine}
+use Rattle.phrases.specs.Phrase.{decimal, whole, reasonText, saidText}
+use Rattle.answers.specs.Answer.{numberLine, sentLine, heardLine, sampleLine}
+use Rattle.desk.specs.Desk.{closedDesk, acting}
+use Rattle.lines.specs.Line.{answering}
+use Rattle.stream.specs.Stream.{streaming, lastLine}
 
 abbrev answers : List (List ℕ)
 answers =

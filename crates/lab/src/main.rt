@@ -1,10 +1,7 @@
 // The laboratory: both ends of the line behind a text protocol. A line of standard input is answered by a line of standard
 // output; `lab help` prints what the lines are. What no proof can say of a program, which bytes it reads and writes, is kept
-// to `lines`; all the rest works on slices that are lent here.
-mod answer;
-mod desk;
+// to the crate `stream`; all the rest works on slices that are lent here.
 mod help;
-mod lines;
 
 fn main() {
     if os::arg_count() > 1 {
@@ -16,7 +13,7 @@ fn main() {
     let mut page = [0u8; 131072];
     let mut coordinates = [0i32; 4096];
     let mut words = [0u32; 4096];
-    lines::serve(
+    stream::serve(
         &mut chunk,
         &mut line,
         &mut page,

@@ -1,96 +1,39 @@
 -- Every request that a line asks for is fit: the outputs that it names have 4096 places at most, and its coordinates are in the list.
-use Prim.Native.Nat.{ℕ, _≤_}
-use mathlib.Core.Path.{_≡_, refl}
-use mathlib.Core.Bool.{Bool, true, false, cond}
+use Prim.Native.Nat.{ℕ}
 use mathlib.Core.List.{List, [], _∷_}
 use lib.Dec.{eqb}
 use Rattle.text.specs.Bytes.{bytes}
 use Rattle.text.specs.Token.{tokens, sameBytes}
-use Rattle.text.specs.Number.{hexOf}
-use Rattle.text.specs.Many.{manyOf}
-use Rattle.text.specs.declared.number.Many.{Many}
-use Rattle.text.specs.declared.number.Many.the-variants as many
-use Rattle.text.specs.declared.number.Number.{Number}
-use Rattle.text.specs.declared.number.Number.the-variants as number
-use Rattle.text.proofs.Digits.{got-most}
-use Rattle.text.proofs.Lists.{many-most}
-use Rattle.protocol.specs.declared.Request.{Request}
-use Rattle.protocol.specs.declared.Request.the-variants as request
-use Rattle.protocol.specs.Request.{anyNumber, capNumber, just, both, one, two, startOf, windowOf, openOf, receiverOf, heardOf, pieceOf, verbOf, lineOf, requestOf, Fit}
+use Rattle.requests.specs.Verb.{Fit}
+use Rattle.requests.proofs.Fits.{fit-cond, fit-sender, fit-receiver, fit-finish, fit-sample, fit-send, fit-piece}
+use Rattle.protocol.specs.Request.{senderVerb, receiverVerb, finishVerb, sampleVerb, sendVerb, verbOf, lineOf, requestOf}
 
 module _ (room : ℕ) where
-  fit-cond : (b : Bool) {x y : Request} → Fit room x → Fit room y → Fit room (cond b x y)
-  fit-cond true f g = f
-  fit-cond false f g = g
+  sender-verb : (v : List ℕ) (ts : List (List ℕ)) → Fit room (senderVerb v ts)
+  sender-verb v ts = fit-cond room (sameBytes v (bytes "sender")) (fit-sender room ts) (record { sizes = tt })
 
-  fit-just : (f : ℕ → Request) (o : Number) → ((n : ℕ) → number.Got n ≡ o → Fit room (f n)) → Fit room (just f o)
-  fit-just f (number.Got n) g = g n refl
-  fit-just f number.Bad g = record { sizes = tt }
+  receiver-verb : (v : List ℕ) (ts : List (List ℕ)) → Fit room (receiverVerb v ts)
+  receiver-verb v ts = fit-cond room (sameBytes v (bytes "receiver")) (fit-receiver room ts) (sender-verb v ts)
 
-  fit-both : (f : ℕ → ℕ → Request) (o o' : Number) → ((m n : ℕ) → number.Got n ≡ o' → Fit room (f m n)) → Fit room (both f o o')
-  fit-both f (number.Got m) o' g = fit-just (f m) o' (g m)
-  fit-both f number.Bad o' g = record { sizes = tt }
+  finish-verb : (v : List ℕ) (ts : List (List ℕ)) → Fit room (finishVerb v ts)
+  finish-verb v ts = fit-cond room (sameBytes v (bytes "finish")) (fit-finish room ts) (receiver-verb v ts)
 
-  fit-one : (g : List ℕ → Request) (ts : List (List ℕ)) → ((t : List ℕ) → Fit room (g t)) → Fit room (one g ts)
-  fit-one g [] f = record { sizes = tt }
-  fit-one g (t ∷ []) f = f t
-  fit-one g (t ∷ t' ∷ ts) f = record { sizes = tt }
+  sample-verb : (v : List ℕ) (ts : List (List ℕ)) → Fit room (sampleVerb v ts)
+  sample-verb v ts = fit-cond room (sameBytes v (bytes "sample")) (fit-sample room ts) (finish-verb v ts)
 
-  fit-two : (g : List ℕ → List ℕ → Request) (ts : List (List ℕ)) → ((t t' : List ℕ) → Fit room (g t t')) → Fit room (two g ts)
-  fit-two g [] f = record { sizes = tt }
-  fit-two g (t ∷ ts) f = fit-one (g t) ts (f t)
-
-  fit-start : (u w : ℕ) (ts : List (List ℕ)) → Fit room (startOf u w ts)
-  fit-start u w [] = record { sizes = tt }
-  fit-start u w (f ∷ []) = fit-cond (sameBytes f (bytes "free")) (record { sizes = tt }) (record { sizes = tt })
-  fit-start u w (a ∷ s ∷ ts) =
-      fit-cond (sameBytes a (bytes "at"))
-      (fit-one (λ s. just (request.At u w) (anyNumber s)) (s ∷ ts) (λ t. fit-just (request.At u w) (anyNumber t) (λ n e. record { sizes = tt })))
-      (record { sizes = tt })
-
-  fit-window : (u : ℕ) (o : Number) (ts : List (List ℕ)) → Fit room (windowOf u o ts)
-  fit-window u (number.Got w) ts = fit-start u w ts
-  fit-window u number.Bad ts = record { sizes = tt }
-
-  fit-open : (o : Number) (ts : List (List ℕ)) → Fit room (openOf o ts)
-  fit-open number.Bad ts = record { sizes = tt }
-  fit-open (number.Got u) [] = record { sizes = tt }
-  fit-open (number.Got u) (w ∷ ts) = fit-window u (anyNumber w) ts
-
-  fit-receiver : (ts : List (List ℕ)) → Fit room (receiverOf ts)
-  fit-receiver [] = record { sizes = tt }
-  fit-receiver (u ∷ ts) = fit-open (anyNumber u) ts
-
-  fit-heard : (o : Number) (m : Many) → ((c : ℕ) → number.Got c ≡ o → c ≤ 4096) → ((n : ℕ) → many.Got n ≡ m → n ≤ room) → Fit room (heardOf o m)
-  fit-heard number.Bad m f g = record { sizes = tt }
-  fit-heard (number.Got c) (many.Got n) f g = record { sizes = (f c refl, g n refl) }
-  fit-heard (number.Got c) many.Bad f g = record { sizes = tt }
-
-  fit-piece : (ts : List (List ℕ)) → Fit room (pieceOf room ts)
-  fit-piece [] = record { sizes = tt }
-  fit-piece (c ∷ ts) = fit-heard (capNumber c) (manyOf room ts) (λ n e. got-most 10 4096 c e) (λ n e. many-most room ts e)
+  send-verb : (v : List ℕ) (ts : List (List ℕ)) → Fit room (sendVerb v ts)
+  send-verb v ts = fit-cond room (sameBytes v (bytes "send")) (fit-send room ts) (sample-verb v ts)
 
   fit-verb : (v : List ℕ) (ts : List (List ℕ)) → Fit room (verbOf room v ts)
   unfolding verbOf
-  fit-verb v ts =
-      fit-cond (sameBytes v (bytes "piece")) (fit-piece ts)
-      (fit-cond (sameBytes v (bytes "send"))
-      (fit-two (λ w c. both request.Send (anyNumber w) (capNumber c)) ts (λ w c. fit-both request.Send (anyNumber w) (capNumber c) (λ m n e. record { sizes = got-most 10 4096 c e })))
-      (fit-cond (sameBytes v (bytes "sample"))
-      (fit-two (λ x y. both request.Sample (hexOf x) (hexOf y)) ts (λ x y. fit-both request.Sample (hexOf x) (hexOf y) (λ m n e. record { sizes = tt })))
-      (fit-cond (sameBytes v (bytes "finish"))
-      (fit-one (λ c. just request.Finish (capNumber c)) ts (λ c. fit-just request.Finish (capNumber c) (λ n e. record { sizes = got-most 10 4096 c e })))
-      (fit-cond (sameBytes v (bytes "receiver")) (fit-receiver ts)
-      (fit-cond (sameBytes v (bytes "sender"))
-      (fit-one (λ u. just request.Sender (anyNumber u)) ts (λ u. fit-just request.Sender (anyNumber u) (λ n e. record { sizes = tt })))
-      (record { sizes = tt }))))))
+  fit-verb v ts = fit-cond room (sameBytes v (bytes "piece")) (fit-piece room ts) (send-verb v ts)
 
   fit-line : (ts : List (List ℕ)) → Fit room (lineOf room ts)
   fit-line [] = record { sizes = tt }
-  fit-line (v ∷ []) = fit-cond (sameBytes v (bytes "pending")) (record { sizes = tt }) (record { sizes = tt })
+  fit-line (v ∷ []) = fit-cond room (sameBytes v (bytes "pending")) (record { sizes = tt }) (record { sizes = tt })
   fit-line (v ∷ t ∷ ts) = fit-verb v (t ∷ ts)
 
   pub fits : (s : List ℕ) → Fit room (requestOf room s)
   unfolding requestOf
   fits [] = record { sizes = tt }
-  fits (b ∷ s) = fit-cond (eqb b 35) (record { sizes = tt }) (fit-line (tokens (b ∷ s)))
+  fits (b ∷ s) = fit-cond room (eqb b 35) (record { sizes = tt }) (fit-line (tokens (b ∷ s)))

@@ -1,109 +1,49 @@
 -- What each line asks for: the grammar of the protocol. Definitions only; proofs/Requests.antt has what follows of them.
--- "Tokens are separated by one space" is `tokens` of the crate `text`, and the numbers that tokens write are its `numberOf`, `hexOf` and `manyOf`. "A missing or extra token, a double, leading or trailing space, a tab, a carriage return, an unknown verb, more than 4096 coordinates" are unread: no token of a line with one of these is a number or a word of the grammar.
---   anyNumber, capNumber    "U, W, WINDOW, S and CAP are 0 to 4294967295, a CAP above 4096 is `?`"
---   just f, both f          the request f with one number or two, unread if one is bad
---   one g, two g            g of just one token or two, unread for any other count of them
---   senderOf, sendOf, finishOf, sampleOf   what the tokens after these verbs ask for
---   receiverOf              plain with a width alone, else a window and the start: `free`, or `at` and a state
---   pieceOf room            a cap and the coordinates, no more than there is room for; none is the empty piece
---   verbOf room v ts        by the verb v with the tokens ts after it
+-- What the tokens after a verb ask for is specs/Verb.antt of the crate `requests`. An unknown verb is unread.
+--   senderVerb, receiverVerb ..   the verb v with the tokens ts after it, if it is this one or one that is tried after it
+--   verbOf room v ts        by the verb v with the tokens ts after it, all of them tried
+--   pendingAlone v          by a verb that stands alone
 --   lineOf room ts          by all tokens of a line: `pending` stands alone, every other verb has tokens after it
 --   requestOf room s        "Lines that are empty or start with `#` answer nothing"; else by the tokens
 --   coordinatesOf s list    the list lent for coordinates after s has been read: those of a piece at its start, up to the first that is none
 --   Reads s list r list'    all of it: the request, and the list
---   Sizes room r, Fit room r   the sizes that a request names: outputs of 4096 at most, and coordinates that are in the list
-use Prim.Native.Nat.{ℕ, _≤_}
+use Prim.Native.Nat.{ℕ}
 use mathlib.Core.Path.{_≡_}
 use mathlib.Core.Bool.{cond}
-use mathlib.Core.List.{List, [], _∷_, _++_}
+use mathlib.Core.List.{List, [], _∷_}
 use lib.Dec.{eqb}
 use lib.IntN.{ℤ}
-use lib.ListN.{length, drop}
+use lib.ListN.{length}
 use Rattle.text.specs.Bytes.{bytes}
 use Rattle.text.specs.Token.{tokens, sameBytes}
-use Rattle.text.specs.Number.{numberOf, hexOf}
-use Rattle.text.specs.Many.{firstWholes, manyOf}
-use Rattle.text.specs.declared.number.Number.{Number}
-use Rattle.text.specs.declared.number.Number.the-variants as number
-use Rattle.text.specs.declared.number.Many.{Many}
-use Rattle.text.specs.declared.number.Many.the-variants as many
-use Rattle.protocol.specs.declared.Request.{Request}
-use Rattle.protocol.specs.declared.Request.the-variants as request
+use Rattle.requests.specs.declared.Request.{Request}
+use Rattle.requests.specs.declared.Request.the-variants as request
+use Rattle.requests.specs.Verb.{senderOf, finishOf, sendOf, sampleOf, receiverOf, pieceOf, pieceFills, Fit}
 
-abbrev pub anyNumber : List ℕ → Number
-anyNumber t = numberOf 10 4294967295 t
+abbrev pub senderVerb : List ℕ → List (List ℕ) → Request
+senderVerb v ts = cond (sameBytes v (bytes "sender")) (senderOf ts) request.Unread
 
-abbrev pub capNumber : List ℕ → Number
-capNumber t = numberOf 10 4096 t
+abbrev pub receiverVerb : List ℕ → List (List ℕ) → Request
+receiverVerb v ts = cond (sameBytes v (bytes "receiver")) (receiverOf ts) (senderVerb v ts)
 
-abbrev pub just : (ℕ → Request) → Number → Request
-just f (number.Got n) = f n
-just f number.Bad = request.Unread
+abbrev pub finishVerb : List ℕ → List (List ℕ) → Request
+finishVerb v ts = cond (sameBytes v (bytes "finish")) (finishOf ts) (receiverVerb v ts)
 
-abbrev pub both : (ℕ → ℕ → Request) → Number → Number → Request
-both f (number.Got m) o = just (f m) o
-both f number.Bad o = request.Unread
+abbrev pub sampleVerb : List ℕ → List (List ℕ) → Request
+sampleVerb v ts = cond (sameBytes v (bytes "sample")) (sampleOf ts) (finishVerb v ts)
 
-abbrev pub one : (List ℕ → Request) → List (List ℕ) → Request
-one g [] = request.Unread
-one g (t ∷ []) = g t
-one g (t ∷ t' ∷ ts) = request.Unread
-
-abbrev pub two : (List ℕ → List ℕ → Request) → List (List ℕ) → Request
-two g [] = request.Unread
-two g (t ∷ ts) = one (g t) ts
-
-abbrev pub senderOf : List (List ℕ) → Request
-senderOf ts = one (λ u. just request.Sender (anyNumber u)) ts
-
-abbrev pub finishOf : List (List ℕ) → Request
-finishOf ts = one (λ c. just request.Finish (capNumber c)) ts
-
-abbrev pub sendOf : List (List ℕ) → Request
-sendOf ts = two (λ w c. both request.Send (anyNumber w) (capNumber c)) ts
-
-abbrev pub sampleOf : List (List ℕ) → Request
-sampleOf ts = two (λ x y. both request.Sample (hexOf x) (hexOf y)) ts
-
-abbrev pub startOf : ℕ → ℕ → List (List ℕ) → Request
-startOf u w [] = request.Unread
-startOf u w (f ∷ []) = cond (sameBytes f (bytes "free")) (request.Free u w) request.Unread
-startOf u w (a ∷ s ∷ ts) = cond (sameBytes a (bytes "at")) (one (λ s. just (request.At u w) (anyNumber s)) (s ∷ ts)) request.Unread
-
-abbrev pub windowOf : ℕ → Number → List (List ℕ) → Request
-windowOf u (number.Got w) ts = startOf u w ts
-windowOf u number.Bad ts = request.Unread
-
-abbrev pub openOf : Number → List (List ℕ) → Request
-openOf number.Bad ts = request.Unread
-openOf (number.Got u) [] = request.Plain u
-openOf (number.Got u) (w ∷ ts) = windowOf u (anyNumber w) ts
-
-abbrev pub receiverOf : List (List ℕ) → Request
-receiverOf [] = request.Unread
-receiverOf (u ∷ ts) = openOf (anyNumber u) ts
-
-abbrev pub heardOf : Number → Many → Request
-heardOf number.Bad m = request.Unread
-heardOf (number.Got c) (many.Got n) = request.Piece c n
-heardOf (number.Got c) many.Bad = request.Unread
-
-abbrev pub pieceOf : ℕ → List (List ℕ) → Request
-pieceOf room [] = request.Unread
-pieceOf room (c ∷ ts) = heardOf (capNumber c) (manyOf room ts)
+abbrev pub sendVerb : List ℕ → List (List ℕ) → Request
+sendVerb v ts = cond (sameBytes v (bytes "send")) (sendOf ts) (sampleVerb v ts)
 
 unfoldable pub verbOf : ℕ → List ℕ → List (List ℕ) → Request
-verbOf room v ts =
-    cond (sameBytes v (bytes "piece")) (pieceOf room ts)
-    (cond (sameBytes v (bytes "send")) (sendOf ts)
-    (cond (sameBytes v (bytes "sample")) (sampleOf ts)
-    (cond (sameBytes v (bytes "finish")) (finishOf ts)
-    (cond (sameBytes v (bytes "receiver")) (receiverOf ts)
-    (cond (sameBytes v (bytes "sender")) (senderOf ts) request.Unread)))))
+verbOf room v ts = cond (sameBytes v (bytes "piece")) (pieceOf room ts) (sendVerb v ts)
+
+abbrev pub pendingAlone : List ℕ → Request
+pendingAlone v = cond (sameBytes v (bytes "pending")) request.Pending request.Unread
 
 abbrev pub lineOf : ℕ → List (List ℕ) → Request
 lineOf room [] = request.Unread
-lineOf room (v ∷ []) = cond (sameBytes v (bytes "pending")) request.Pending request.Unread
+lineOf room (v ∷ []) = pendingAlone v
 lineOf room (v ∷ t ∷ ts) = verbOf room v (t ∷ ts)
 
 -- '#' is 35
@@ -112,18 +52,6 @@ unfolding verbOf
 requestOf room [] = request.Nothing
 requestOf room (b ∷ s) = cond (eqb b 35) request.Nothing (lineOf room (tokens (b ∷ s)))
 
--- zs at the start of a list
-abbrev pub atStart : List ℤ → List ℤ → List ℤ
-atStart zs list = zs ++ drop (length zs) list
-
-abbrev pub filledBy : Number → List (List ℕ) → List ℤ → List ℤ
-filledBy (number.Got c) ts list = atStart (firstWholes (length list) ts) list
-filledBy number.Bad ts list = list
-
-abbrev pub pieceFills : List (List ℕ) → List ℤ → List ℤ
-pieceFills [] list = list
-pieceFills (c ∷ ts) list = filledBy (capNumber c) ts list
-
 abbrev pub lineFills : List (List ℕ) → List ℤ → List ℤ
 lineFills [] list = list
 lineFills (v ∷ ts) list = cond (sameBytes v (bytes "piece")) (pieceFills ts list) list
@@ -131,22 +59,6 @@ lineFills (v ∷ ts) list = cond (sameBytes v (bytes "piece")) (pieceFills ts li
 unfoldable pub coordinatesOf : List ℕ → List ℤ → List ℤ
 coordinatesOf [] list = list
 coordinatesOf (b ∷ s) list = cond (eqb b 35) list (lineFills (tokens (b ∷ s)) list)
-
-abbrev pub Sizes : ℕ → Request → Type 0
-Sizes room (request.Send w c) = c ≤ 4096
-Sizes room (request.Piece c n) = (c ≤ 4096) × (n ≤ room)
-Sizes room (request.Finish c) = c ≤ 4096
-Sizes room request.Nothing = Unit {0}
-Sizes room request.Unread = Unit {0}
-Sizes room (request.Sender u) = Unit {0}
-Sizes room (request.Plain u) = Unit {0}
-Sizes room (request.Free u w) = Unit {0}
-Sizes room (request.At u w s) = Unit {0}
-Sizes room (request.Sample x y) = Unit {0}
-Sizes room request.Pending = Unit {0}
-
-pub record Fit (room : ℕ) (r : Request) : Type 0 where
-  pub sizes : Sizes room r
 
 -- the last part follows from the first; it is stated so that callers find it
 pub record Reads (s : List ℕ) (list : List ℤ) (r : Request) (list' : List ℤ) : Type 0 where

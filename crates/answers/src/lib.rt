@@ -1,0 +1,72 @@
+// The answers, a line each, put into the page: what each one says is in specs/Answer.antt. Every function asks for the room that
+// its text can take, and answers with the place after it. The parts of a line are those of `phrases`.
+use machine::Why;
+ghost use Prim.Native.Nat.{_+_, _≤_};
+ghost use lib.ListN.{length};
+ghost use Rattle.page.specs.Page.{Puts};
+ghost use Rattle.machine.specs.Told.{givenOf};
+ghost use Rattle.phrases.specs.Phrase.{wordsRoom};
+ghost use Rattle.answers.specs.Answer.{numberLine, sentLine, heardLine, pairLine, refusedLine, unreadLine};
+
+pub fn unread(page: &mut [u8], at: usize) -> usize
+    requires { ⌜ at + 2 ≤ length (now page) ⌝ }
+    ensures { λ r. ⌜ Puts (now (page .entry)) at unreadLine r (now (page .exit)) ⌝ }
+{
+    page::put_text(page, at, b"?\n")
+}
+
+pub fn number(page: &mut [u8], at: usize, n: u64) -> usize
+    requires { ⌜ at + 21 ≤ length (now page) ⌝ }
+    ensures { λ r. ⌜ Puts (now (page .entry)) at (numberLine n) r (now (page .exit)) ⌝ }
+{
+    let p = page::put_number(page, at, n);
+    phrases::end(page, p)
+}
+
+// The number, and the four coordinates where it is 0.
+pub fn sent(page: &mut [u8], at: usize, n: u32, out: &[i32]) -> usize
+    requires { ⌜ at + 109 ≤ length (now page) ⌝ }
+    ensures { λ r. ⌜ Puts (now (page .entry)) at (sentLine n (now (out .entry))) r (now (page .exit)) ⌝ }
+{
+    let p = page::put_number(page, at, n as u64);
+    if n != 0 {
+        return phrases::end(page, p);
+    }
+    if out.len() < 4 {
+        return phrases::end(page, p);
+    }
+    let p = phrases::next_whole(page, p, out[0]);
+    let p = phrases::next_whole(page, p, out[1]);
+    let p = phrases::next_whole(page, p, out[2]);
+    let p = phrases::next_whole(page, p, out[3]);
+    phrases::end(page, p)
+}
+
+pub fn pair(page: &mut [u8], at: usize, x: i32, y: i32) -> usize
+    requires { ⌜ at + 44 ≤ length (now page) ⌝ }
+    ensures { λ r. ⌜ Puts (now (page .entry)) at (pairLine x y) r (now (page .exit)) ⌝ }
+{
+    let p = page::put_whole(page, at, x);
+    let p = phrases::next_whole(page, p, y);
+    phrases::end(page, p)
+}
+
+pub fn refused(page: &mut [u8], at: usize, k: u8) -> usize
+    requires { ⌜ at + 29 ≤ length (now page) ⌝ }
+    ensures { λ r. ⌜ Puts (now (page .entry)) at (refusedLine k) r (now (page .exit)) ⌝ }
+{
+    let p = page::put_byte(page, at, b'5');
+    let p = phrases::place(page, p, k as u64);
+    phrases::end(page, p)
+}
+
+// The answer to a piece or a finish that wrote these words.
+pub fn heard(page: &mut [u8], at: usize, taken: usize, why: Why, written: &[u32]) -> usize
+    requires { ⌜ at + 92 + wordsRoom (length (now written)) ≤ length (now page) ⌝ }
+    ensures { λ r. ⌜ Puts (now (page .entry)) at (heardLine taken (givenOf why) (now (written .entry))) r (now (page .exit)) ⌝ }
+{
+    let p = phrases::counts(page, at, taken, written.len());
+    let p = phrases::reason(page, p, why);
+    let p = phrases::said(page, p, written);
+    phrases::end(page, p)
+}

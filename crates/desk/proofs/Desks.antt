@@ -1,0 +1,138 @@
+-- Laws of what a request does: what a call gave, made into a desk and an answer, and the request that was read.
+use Prim.Native.Nat.{ℕ, _+_, _≤_}
+use mathlib.Core.Path.{_≡_, refl, sym, ap, subst, _∙_}
+use mathlib.Core.Bool.{Bool, true, false, cond}
+use mathlib.Core.List.{List, [], _∷_, _++_, map}
+use native.Mathlib.Omega.{arith}
+use borrow.Author.Tests.{le-leb}
+use lib.Dec.{leb}
+use lib.Ieee.{Float}
+use lib.IntN.{ℤ}
+use lib.ListN.{length, take, drop, length-take, length-replicate}
+use lib.Seq.{take-at}
+use Rattle.text.specs.Bytes.{bytes}
+use Rattle.page.specs.Page.{Puts}
+use Rattle.requests.specs.declared.Request.{Request}
+use Rattle.requests.specs.Verb.{Sizes, Fit}
+use Rattle.samples.specs.declared.Pair.{Pair}
+use Rattle.samples.specs.Given.{sampleGiven}
+use Rattle.samples.specs.Heard.{heardCoordinate, heardBits, bothOrFault, heardSample}
+use Rattle.sender.specs.declared.Sender.{Sender}
+use Rattle.sender.specs.Send.{sound, after, symbolFor, four, sending, Given}
+use Rattle.wei.specs.Word.{isWord}
+use Rattle.machine.specs.Told.{givenOf}
+use Rattle.receiver.specs.declared.Answer.{Answer}
+use Rattle.receiver.specs.Doors.{Ran}
+use Rattle.receiver.specs.Promise.{Is}
+use Rattle.desk.specs.declared.Desk.{Desk}
+use Rattle.desk.specs.declared.Done.{Done}
+use Rattle.answers.specs.Answer.{answerRoom}
+use Rattle.desk.specs.Room.{Lent, Ready}
+use Rattle.phrases.specs.Phrase.{decimal, whole, afterSpaces}
+use Rattle.answers.specs.Answer.{firstFour, sentLine, heardLine, sampleLine}
+use Rattle.desk.specs.Desk.{Result, says, withSender, sendGives, lent, acting, Does, Acts}
+use Rattle.phrases.proofs.Phrases.{puts-as}
+
+-- ---- what was done
+
+-- the desk e and the text t, which are those of g
+pub does : {g : Result} {most : ℕ} {page : List ℕ} {at : ℕ} {r : Done} {page' : List ℕ} {e : Desk} {t : List ℕ} {q : ℕ}
+    → r ≡ record { desk = e; at = q } → e ≡ g .desk → t ≡ g .text → q ≤ at + most → Puts page at t q page' → Does g most page at r page'
+does {g} {most} {page} {at} {r} {page'} is d s h p =
+    let place : r .at ≡ _ = ap (λ (x : Done). x .at) is in
+    record {
+      desk = ap (λ (x : Done). x .desk) is ∙ d;
+      puts = subst (λ (k : ℕ). Puts page at (g .text) k page') (sym place) (puts-as s p);
+      near = omega arith;
+    }
+
+-- the request is k
+pub acts : (d : Desk) (cs : List ℤ) {asked k : Request} {page : List ℕ} {at : ℕ} {r : Done} {page' : List ℕ} → asked ≡ k → Acts d k cs page at r page' → Acts d asked cs page at r page'
+acts d cs {page = page} {at = at} {r = r} {page' = page'} e g = subst (λ (a : Request). Acts d a cs page at r page') (sym e) g
+
+-- less room is room enough
+pub within : {g : Result} {most : ℕ} {page : List ℕ} {at : ℕ} {r : Done} {page' : List ℕ} → most ≤ answerRoom → Does g most page at r page' → Does g answerRoom page at r page'
+within h g = record { desk = g .desk; puts = g .puts; near = omega (arith, g .near) }
+
+-- the size n that a call was lent is the one that the request names
+pub at-cap : (f : ℕ → Result) {n cap most : ℕ} {page : List ℕ} {at : ℕ} {r : Done} {page' : List ℕ} → n ≡ cap → Does (f n) most page at r page' → Does (f cap) most page at r page'
+at-cap f {n} {cap} {most} {page} {at} {r} {page'} e g = subst (λ (k : ℕ). Does (f k) most page at r page') e g
+
+-- ---- a send
+
+first-four : (a b c d : ℤ) (out : List ℤ) → firstFour (a ∷ b ∷ c ∷ d ∷ out) ≡ a ∷ b ∷ c ∷ d ∷ []
+first-four a b c d out = rw (le-leb 4 (length (a ∷ b ∷ c ∷ d ∷ out)) (omega arith))
+
+-- what the output held before makes no difference
+send-same : (d : Desk) (s : Sender) (w : ℕ) (out out' : List ℤ) → length out ≡ length out' → sendGives d (sending s w out) ≡ sendGives d (sending s w out')
+unfolding sending sentLine four
+send-same d s w out out' e = rw (← e) (by (sound s) (isWord (s .u) w) (leb 4 (length out))) where
+  gives : Bool → Bool → Bool → List ℤ → Given
+  gives a b c o =
+      cond a
+      (cond b (cond c (record { number = 0; sender = after s w; output = four (symbolFor s w) ++ drop 4 o }) (record { number = 8; sender = s; output = o })) (record { number = 4; sender = s; output = o }))
+      (record { number = 9; sender = s; output = o })
+
+  by : (a b c : Bool) → sendGives d (gives a b c out) ≡ sendGives d (gives a b c out')
+  by true true true =
+      ap (λ (zs : List ℤ). says (withSender d (after s w)) (decimal 0 ++ afterSpaces (map whole zs) ++ bytes "\n"))
+      (first-four _ _ _ _ (drop 4 out) ∙ sym (first-four _ _ _ _ (drop 4 out')))
+  by true true false = refl
+  by true false c = refl
+  by false b c = refl
+
+module _ (d : Desk) (s : Sender) (w : ℕ) (out : List ℤ) where
+  abbrev sent : Result
+  sent = sendGives d (sending s w (lent (length out)))
+
+  same : sendGives d (sending s w out) ≡ sent
+  same = send-same d s w out (lent (length out)) (sym (length-replicate (length out) _))
+
+  pub sent-desk : {s' : Sender} → s' ≡ sending s w out .sender → withSender d s' ≡ sent .desk
+  sent-desk e = ap (withSender d) e ∙ ap (λ (g : Result). g .desk) same
+
+  pub sent-text : {n : ℕ} {o : List ℤ} → n ≡ sending s w out .number → o ≡ sending s w out .output → sentLine n o ≡ sent .text
+  sent-text e f = rw (e, f) (ap (λ (g : Result). g .text) same)
+
+-- ---- a piece and a finish
+
+module _ {ran : Ran} {out : List ℕ} {a : Answer} {o : List ℕ} (is : Is ran out a o) where
+  pub written-words : take (a .written) o ≡ ran .words
+  written-words = rw (is .written, is .output) (take-at (ran .words) (drop (length (ran .words)) out) (length (ran .words)) refl)
+
+  pub heard-text : heardLine (a .taken) (givenOf (a .why)) (take (a .written) o) ≡ heardLine (ran .taken) (givenOf (ran .why)) (ran .words)
+  heard-text = rw (is .taken, is .given, written-words)
+
+-- ---- a sample
+
+pub sample-text : (fx fy : Float) {p q : Pair} (x y : ℕ) → p ≡ q → sampleGiven p ≡ heardSample fx fy → heardCoordinate fx ≡ heardBits x → heardCoordinate fy ≡ heardBits y
+    → sampleLine (sampleGiven q) ≡ sampleLine (bothOrFault (heardBits x) (heardBits y))
+unfolding heardSample
+sample-text fx fy x y e g hx hy =
+    ap sampleLine
+    (ap sampleGiven (sym e) ∙ g ∙ ap (λ a. bothOrFault a (heardCoordinate fy)) hx ∙ ap (λ b. bothOrFault (heardBits x) b) hy)
+
+-- ---- sizes
+
+-- the sizes that a request which turned out to be k names
+pub sizes-of : {room : ℕ} {asked : Request} (k : Request) → asked ≡ k → Fit room asked → Sizes room k
+sizes-of {room} k e f = (subst (Fit room) e f) .sizes
+
+pub short : (n : ℕ) (words : List ℕ) {m : ℕ} → n ≤ m → length (take n words) ≤ m
+short n words h = rw length-take (omega arith)
+
+-- a request that was read into the list of coordinates can be answered, where the page is filled to a quarter at most
+pub ready : {asked : Request} {page : List ℕ} {at : ℕ} (list : List ℤ) {coordinates : List ℤ} {words : List ℕ}
+    → Lent page list words → at ≤ 32768 → length coordinates ≡ length list → Fit (length list) asked → Ready asked page at coordinates words
+ready {asked} list lent h e f =
+    record {
+      fit = subst (λ (n : ℕ). Fit n asked) (sym e) f;
+      room = omega (arith, lent .page-long);
+      coordinates-long = e ∙ lent .coordinates-long;
+      words-long = lent .words-long;
+    }
+
+-- buffers that keep their lengths stay lent
+pub lent-on : {page page' : List ℕ} {list list' : List ℤ} {words words' : List ℕ} → Lent page list words
+    → length page' ≡ length page → length list' ≡ length list → length words' ≡ length words → Lent page' list' words'
+lent-on l a b c = record { page-long = a ∙ l .page-long; coordinates-long = b ∙ l .coordinates-long; words-long = c ∙ l .words-long }

@@ -1,0 +1,237 @@
+-- `act`: by the kind of the request. Each arm is one call, so an arm more adds its own needs after the others and changes no path.
+use mathlib.Core.Path.{refl}
+use native.Mathlib.Omega.{arith}
+use Rattle.phrases.proofs.Phrases.{nothing-put}
+use Rattle.desk.specs.Desk.{acting}
+use Rattle.desk.proofs.Desks.{does, acts, sizes-of}
+use borrow.Author.Needs.{needs}
+use Rattle.desk.proofs.act.Statement.{statement}
+use Rattle.desk.proofs.act.Tie as tie
+
+enum-told : tie.Need-enum-told
+enum-told c = search needs
+
+enum-told-2 : tie.Need-enum-told-2
+enum-told-2 c = search needs
+
+unread-requires : tie.Need-unread-requires
+unread-requires c κs = search needs
+
+enum-known-asked : tie.Need-enum-known-asked
+enum-known-asked c = search needs
+
+open-sender-requires : tie.Need-open-sender-requires
+open-sender-requires c κs = search needs
+
+enum-known-asked-2 : tie.Need-enum-known-asked-2
+enum-known-asked-2 c = search needs
+
+send-requires : tie.Need-send-requires
+send-requires c κs = (omega (arith, sizes-of _ (c .before .before .before .asked2 .given .1) (c .before .before .before .before .before .before .before .pre .fit), c .before .before .before .before .before .before .before .pre .coordinates-long), c .before .before .before .before .before .before .before .pre .room)
+
+enum-known-asked-3 : tie.Need-enum-known-asked-3
+enum-known-asked-3 c = search needs
+
+open-plain-requires : tie.Need-open-plain-requires
+open-plain-requires c κs = search needs
+
+enum-known-asked-4 : tie.Need-enum-known-asked-4
+enum-known-asked-4 c = search needs
+
+open-free-requires : tie.Need-open-free-requires
+open-free-requires c κs = search needs
+
+enum-known-asked-5 : tie.Need-enum-known-asked-5
+enum-known-asked-5 c = search needs
+
+open-at-requires : tie.Need-open-at-requires
+open-at-requires c κs = search needs
+
+enum-known-asked-6 : tie.Need-enum-known-asked-6
+enum-known-asked-6 c = search needs
+
+hear-requires : tie.Need-hear-requires
+hear-requires c κs =
+    let start = c .before .before .before .before .before .before .before .before in
+    let sizes = sizes-of _ (c .before .before .before .before .asked6 .given .1) (start .pre .fit) in
+    (omega (arith, sizes .0, start .pre .words-long), sizes .0, sizes .1, start .pre .room)
+
+enum-known-asked-7 : tie.Need-enum-known-asked-7
+enum-known-asked-7 c = search needs
+
+finish-requires : tie.Need-finish-requires
+finish-requires c κs =
+    let start = c .before .before .before .before .before .before .before in
+    let sizes = sizes-of _ (c .before .before .before .asked7 .given .1) (start .pre .fit) in
+    (omega (arith, sizes, start .pre .words-long), sizes, start .pre .room)
+
+enum-known-asked-8 : tie.Need-enum-known-asked-8
+enum-known-asked-8 c = search needs
+
+sample-requires : tie.Need-sample-requires
+sample-requires c κs = search needs
+
+enum-told-3 : tie.Need-enum-told-3
+enum-told-3 c = search needs
+
+pending-requires : tie.Need-pending-requires
+pending-requires c κs = search needs
+
+returns : tie.Need-returns
+unfolding acting
+returns c =
+    let start = c .before .before .before .before .args in
+    acts (start .desk) (start .coordinates .now) (c .enum-told .given .1) (does refl refl refl (omega arith) (nothing-put _ _))
+
+same-length : tie.Need-same-length
+same-length c = search needs
+
+returns-2 : tie.Need-returns-2
+unfolding acting
+returns-2 c =
+    let start = c .before .before .before .before .before .before .before .before .args in
+    acts (start .desk) (start .coordinates .now) (c .before .before .before .before .enum-told2 .given .1) (c .before .before .unread .ensures)
+
+same-length-2 : tie.Need-same-length-2
+same-length-2 c = search needs
+
+returns-3 : tie.Need-returns-3
+unfolding acting
+returns-3 c =
+    let start = c .before .before .before .before .before .before .before .before .before .args in
+    acts (start .desk) (start .coordinates .now) (c .before .before .before .before .before .asked .given .1) (c .before .before .open-sender .ensures)
+
+same-length-3 : tie.Need-same-length-3
+same-length-3 c = search needs
+
+same-length-4 : tie.Need-same-length-4
+same-length-4 c = search needs
+
+returns-4 : tie.Need-returns-4
+unfolding acting
+returns-4 c =
+    let start = c .before .before .before .before .before .before .before .before .before .before .before .args in
+    acts (start .desk) (start .coordinates .now) (c .before .before .before .before .before .before .before .asked2 .given .1) (c .before .before .before .send .ensures)
+
+same-length-5 : tie.Need-same-length-5
+same-length-5 c = search needs
+
+returns-5 : tie.Need-returns-5
+unfolding acting
+returns-5 c =
+    let start = c .before .before .before .before .before .before .before .before .before .args in
+    acts (start .desk) (start .coordinates .now) (c .before .before .before .before .before .asked3 .given .1) (c .before .before .open-plain .ensures)
+
+same-length-6 : tie.Need-same-length-6
+same-length-6 c = search needs
+
+returns-6 : tie.Need-returns-6
+unfolding acting
+returns-6 c =
+    let start = c .before .before .before .before .before .before .before .before .before .args in
+    acts (start .desk) (start .coordinates .now) (c .before .before .before .before .before .asked4 .given .1) (c .before .before .open-free .ensures)
+
+same-length-7 : tie.Need-same-length-7
+same-length-7 c = search needs
+
+returns-7 : tie.Need-returns-7
+unfolding acting
+returns-7 c =
+    let start = c .before .before .before .before .before .before .before .before .before .args in
+    acts (start .desk) (start .coordinates .now) (c .before .before .before .before .before .asked5 .given .1) (c .before .before .open-at .ensures)
+
+same-length-8 : tie.Need-same-length-8
+same-length-8 c = search needs
+
+same-length-9 : tie.Need-same-length-9
+same-length-9 c = search needs
+
+same-length-10 : tie.Need-same-length-10
+same-length-10 c = search needs
+
+returns-8 : tie.Need-returns-8
+unfolding acting
+returns-8 c =
+    let start = c .before .before .before .before .before .before .before .before .before .before .before .before .before .args in
+    acts (start .desk) (start .coordinates .now) (c .before .before .before .before .before .before .before .before .before .asked6 .given .1) (c .before .before .before .before .hear .ensures)
+
+same-length-11 : tie.Need-same-length-11
+same-length-11 c = search needs
+
+same-length-12 : tie.Need-same-length-12
+same-length-12 c = search needs
+
+returns-9 : tie.Need-returns-9
+unfolding acting
+returns-9 c =
+    let start = c .before .before .before .before .before .before .before .before .before .before .before .before .args in
+    acts (start .desk) (start .coordinates .now) (c .before .before .before .before .before .before .before .before .asked7 .given .1) (c .before .before .before .before .finish .ensures)
+
+same-length-13 : tie.Need-same-length-13
+same-length-13 c = search needs
+
+returns-10 : tie.Need-returns-10
+unfolding acting
+returns-10 c =
+    let start = c .before .before .before .before .before .before .before .before .before .args in
+    acts (start .desk) (start .coordinates .now) (c .before .before .before .before .before .asked8 .given .1) (c .before .before .sample .ensures)
+
+same-length-14 : tie.Need-same-length-14
+same-length-14 c = search needs
+
+returns-11 : tie.Need-returns-11
+unfolding acting
+returns-11 c =
+    let start = c .before .before .before .before .before .before .before .before .args in
+    acts (start .desk) (start .coordinates .now) (c .before .before .before .before .enum-told3 .given .1) (c .before .before .pending .ensures)
+
+pub act-spec : {M : Type 1} → statement M
+act-spec =
+    tie.close
+    (tie.spec
+    enum-told
+    enum-told-2
+    unread-requires
+    enum-known-asked
+    open-sender-requires
+    enum-known-asked-2
+    send-requires
+    enum-known-asked-3
+    open-plain-requires
+    enum-known-asked-4
+    open-free-requires
+    enum-known-asked-5
+    open-at-requires
+    enum-known-asked-6
+    hear-requires
+    enum-known-asked-7
+    finish-requires
+    enum-known-asked-8
+    sample-requires
+    enum-told-3
+    pending-requires
+    returns
+    same-length
+    returns-2
+    same-length-2
+    returns-3
+    same-length-3
+    same-length-4
+    returns-4
+    same-length-5
+    returns-5
+    same-length-6
+    returns-6
+    same-length-7
+    returns-7
+    same-length-8
+    same-length-9
+    same-length-10
+    returns-8
+    same-length-11
+    same-length-12
+    returns-9
+    same-length-13
+    returns-10
+    same-length-14
+    returns-11)

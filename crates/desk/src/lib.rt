@@ -1,0 +1,62 @@
+// The desk: one sender and one receiver, and what each request does to them, into a lent page. The desk after a request and its
+// answer are those of specs/Desk.antt. Each verb is a file of src/verbs/; here stand the ends, and which verb a request is for.
+use machine::Receiver;
+use requests::Request;
+use sender::Sender;
+ghost use mathlib.Core.Path.{_≡_};
+ghost use Rattle.desk.specs.Desk.{closedDesk, Acts};
+ghost use Rattle.desk.specs.Room.{Ready};
+
+mod ends;
+mod verbs;
+
+pub struct Desk {
+    pub sender: Sender,
+    pub receiver: Receiver,
+}
+
+// The desk after a request, and the free place of the page after its answer.
+pub struct Done {
+    pub desk: Desk,
+    pub at: usize,
+}
+
+pub fn closed() -> Desk
+    ensures { λ r. ⌜ r ≡ closedDesk ⌝ }
+{
+    Desk {
+        sender: sender::closed_sender(),
+        receiver: receiver::closed_receiver(),
+    }
+}
+
+// A new verb is one arm more, after the last.
+pub fn act(
+    desk: Desk,
+    asked: Request,
+    page: &mut [u8],
+    at: usize,
+    coordinates: &mut [i32],
+    words: &mut [u32],
+) -> Done
+    requires { ⌜ Ready asked (now page) at (now coordinates) (now words) ⌝ }
+    ensures { λ r. ⌜ Acts desk asked (now (coordinates .entry)) (now (page .entry)) at r (now (page .exit)) ⌝ }
+{
+    match asked {
+        Request::Nothing => Done { desk, at },
+        Request::Unread => verbs::unread::unread(desk, page, at),
+        Request::Sender { u } => verbs::open_sender::open_sender(desk, u, page, at),
+        Request::Send { word, cap } => verbs::send::send(desk, word, cap, coordinates, page, at),
+        Request::Plain { u } => verbs::open_receiver::open_plain(desk, u, page, at),
+        Request::Free { u, window } => verbs::open_receiver::open_free(desk, u, window, page, at),
+        Request::At { u, window, state } => {
+            verbs::open_receiver::open_at(desk, u, window, state, page, at)
+        }
+        Request::Piece { cap, count } => {
+            verbs::piece::hear(desk, cap, count, coordinates, words, page, at)
+        }
+        Request::Finish { cap } => verbs::finish::finish(desk, cap, words, page, at),
+        Request::Sample { x, y } => verbs::sample::sample(desk, x, y, page, at),
+        Request::Pending => verbs::pending::pending(desk, page, at),
+    }
+}

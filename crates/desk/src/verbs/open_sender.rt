@@ -1,0 +1,21 @@
+// `sender U`: a sender is opened, and the answer is the number of the opening.
+use crate::Desk;
+use crate::Done;
+use crate::ends;
+use requests::Request;
+ghost use mathlib.Core.List.{[]};
+ghost use Prim.Native.Nat.{_+_, _≤_};
+ghost use lib.ListN.{length};
+ghost use Rattle.answers.specs.Answer.{answerRoom};
+ghost use Rattle.desk.specs.Desk.{Acts};
+
+pub fn open_sender(desk: Desk, u: u32, page: &mut [u8], at: usize) -> Done
+    requires { ⌜ at + answerRoom ≤ length (now page) ⌝ }
+    ensures { λ r. ⌜ Acts desk (Request.Sender u) [] (now (page .entry)) at r (now (page .exit)) ⌝ }
+{
+    let opened = sender::open_sender(u);
+    let why = opened.why;
+    let p = answers::number(page, at, sender::number(why) as u64);
+    let sender = opened.sender;
+    ends::with_sender(desk, sender, p)
+}

@@ -1,0 +1,19 @@
+// A line that is none of the protocol's: the desk stays as it is.
+use crate::Desk;
+use crate::Done;
+use requests::Request;
+ghost use mathlib.Core.List.{[]};
+ghost use Prim.Native.Nat.{_+_, _≤_};
+ghost use lib.ListN.{length};
+ghost use Rattle.answers.specs.Answer.{answerRoom};
+ghost use Rattle.desk.specs.Desk.{Acts};
+
+pub fn unread(desk: Desk, page: &mut [u8], at: usize) -> Done
+    requires { ⌜ at + answerRoom ≤ length (now page) ⌝ }
+    ensures { λ r. ⌜ Acts desk Request.Unread [] (now (page .entry)) at r (now (page .exit)) ⌝ }
+{
+    Done {
+        desk,
+        at: answers::unread(page, at),
+    }
+}

@@ -1,0 +1,28 @@
+-- `lines::gather`: by the laws of Gathering.
+use native.Mathlib.Omega.{arith}
+use Rattle.lines.proofs.Gathering.{stays-long, grows-long, grows}
+use borrow.Author.Needs.{needs}
+use Rattle.lines.proofs.gather.Statement.{statement}
+use Rattle.lines.proofs.gather.Tie as tie
+
+returns : tie.Need-returns
+returns c = (c .before .before .before .pre, λ s g. stays-long (c .before .before .before .args .bytes .now) g (c .if1 .taken))
+
+sub-if2 : tie.Need-sub-if2
+sub-if2 c = search needs
+
+returns-2 : tie.Need-returns-2
+returns-2 c = (omega arith, λ s g. grows-long (c .before .before .before .before .args .bytes .now) g (c .before .if1 .left) (c .before .before .before .before .pre) (c .if2 .taken))
+
+put-text-requires : tie.Need-put-text-requires
+put-text-requires c κs = search needs
+
+same-length : tie.Need-same-length
+same-length c = search needs
+
+returns-3 : tie.Need-returns-3
+returns-3 c = (search needs, λ s g. grows (c .before .before .before .before .before .before .before .before .args .bytes .now) g (c .before .before .before .before .before .if1 .left) (c .before .before .before .before .before .before .before .before .pre) (c .before .before .put-text .ensures))
+
+pub gather-spec : {M : Type 1} → statement M
+gather-spec =
+    tie.close (tie.spec returns sub-if2 returns-2 put-text-requires same-length returns-3)

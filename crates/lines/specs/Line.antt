@@ -1,0 +1,41 @@
+-- Lines: the line so far, gathered from chunks of the input, and what a whole line does. Definitions only.
+--   Gathered line part s   the buffer `line` and the record `part` stand for the bytes s since the last newline: all of them at the start of the buffer, or only that they are too many
+--   noPart                 no bytes so far
+--   named s                the coordinates that a line names: those after its verb and its cap
+--   answering most d s     what the line s does to the desk d: "A line has at most 65,536 bytes before its newline; a longer one answers `?` once (a comment too)"; most is as many as the buffer has
+--   Replies g ..           what was done is g: its desk, and its text put into the page; no bytes of the next line are there yet
+use Prim.Native.Nat.{ℕ, _<_}
+use mathlib.Core.Path.{_≡_}
+use mathlib.Core.Bool.{true, false, cond}
+use mathlib.Core.List.{List}
+use lib.Dec.{ltb}
+use lib.IntN.{ℤ}
+use lib.ListN.{length, take, drop}
+use Rattle.text.specs.Token.{tokens}
+use Rattle.text.specs.Many.{firstWholes}
+use Rattle.page.specs.Page.{Puts}
+use Rattle.protocol.specs.Request.{requestOf}
+use Rattle.desk.specs.declared.Desk.{Desk}
+use Rattle.lines.specs.declared.Lab.{Lab}
+use Rattle.lines.specs.declared.Part.{Part}
+use Rattle.answers.specs.Answer.{unreadLine}
+use Rattle.desk.specs.Desk.{Result, says, acting}
+
+pub record Gathered (line : List ℕ) (part : Part) (s : List ℕ) : Type 0 where
+  pub too-long : part .long ≡ true → length line < length s
+  pub kept : part .long ≡ false → take (part .held) line ≡ s
+
+abbrev pub noPart : Part
+noPart = record { held = 0; long = false }
+
+abbrev pub named : List ℕ → List ℤ
+named s = firstWholes 4096 (drop 2 (tokens s))
+
+unfoldable pub answering : ℕ → Desk → List ℕ → Result
+answering most d s = cond (ltb most (length s)) (says d unreadLine) (acting d (requestOf 4096 s) (named s))
+
+pub record Replies (g : Result) (lab : Lab) (page : List ℕ) (r : Lab) (page' : List ℕ) : Type 0 where
+  pub desk : r .desk ≡ g .desk
+  pub puts : Puts page (lab .at) (g .text) (r .at) page'
+  pub part : r .part ≡ noPart
+  pub on : r .on ≡ lab .on

@@ -1,0 +1,47 @@
+-- `piece::tried`: this verb, or one that is tried after it; the list is as it was then.
+use mathlib.Core.Path.{sym, _∙_}
+use Rattle.protocol.specs.Request.{verbOf}
+use borrow.Author.Needs.{needs}
+use Rattle.protocol.proofs.piece.tried.Statement.{statement}
+use Rattle.protocol.proofs.piece.tried.Tie as tie
+
+slice-aggregate-same : tie.Need-slice-aggregate-same
+slice-aggregate-same c = search needs
+
+same-requires : tie.Need-same-requires
+same-requires c κs = search needs
+
+read-requires : tie.Need-read-requires
+read-requires c κs = search needs
+
+same-length : tie.Need-same-length
+same-length c = search needs
+
+returns : tie.Need-returns
+unfolding verbOf
+returns c = (
+  rw (sym (c .before .before .before .before .same .ensures) ∙ c .before .before .before .if1 .taken) (c .before .read .ensures .0),
+  rw (sym (c .before .before .before .before .same .ensures) ∙ c .before .before .before .if1 .taken) (c .before .read .ensures .1),
+)
+
+tried-requires : tie.Need-tried-requires
+tried-requires c κs = search needs
+
+returns-2 : tie.Need-returns-2
+unfolding verbOf
+returns-2 c = (
+  rw (sym (c .before .before .same .ensures) ∙ c .before .if1 .left) (c .tried .ensures),
+  rw (sym (c .before .before .same .ensures) ∙ c .before .if1 .left),
+)
+
+pub tried-spec : {M : Type 1} → statement M
+tried-spec =
+    tie.close
+    (tie.spec
+    slice-aggregate-same
+    same-requires
+    read-requires
+    same-length
+    returns
+    tried-requires
+    returns-2)

@@ -1,0 +1,82 @@
+-- What the tokens after a verb ask for is fit: the outputs that it names have 4096 places at most, and its coordinates are in the list.
+use Prim.Native.Nat.{ℕ, _≤_}
+use mathlib.Core.Path.{_≡_, refl}
+use mathlib.Core.Bool.{Bool, true, false, cond}
+use mathlib.Core.List.{List, [], _∷_}
+use Rattle.text.specs.Bytes.{bytes}
+use Rattle.text.specs.Token.{sameBytes}
+use Rattle.text.specs.Number.{hexOf}
+use Rattle.text.specs.Many.{manyOf}
+use Rattle.text.specs.declared.number.Many.{Many}
+use Rattle.text.specs.declared.number.Many.the-variants as many
+use Rattle.text.specs.declared.number.Number.{Number}
+use Rattle.text.specs.declared.number.Number.the-variants as number
+use Rattle.text.proofs.Digits.{got-most}
+use Rattle.text.proofs.Lists.{many-most}
+use Rattle.requests.specs.declared.Request.{Request}
+use Rattle.requests.specs.declared.Request.the-variants as request
+use Rattle.requests.specs.Verb.{anyNumber, capNumber, just, both, one, two, senderOf, finishOf, sendOf, sampleOf, startOf, windowOf, openOf, receiverOf, heardOf, pieceOf, Fit}
+
+module _ (room : ℕ) where
+  pub fit-cond : (b : Bool) {x y : Request} → Fit room x → Fit room y → Fit room (cond b x y)
+  fit-cond true f g = f
+  fit-cond false f g = g
+
+  fit-just : (f : ℕ → Request) (o : Number) → ((n : ℕ) → number.Got n ≡ o → Fit room (f n)) → Fit room (just f o)
+  fit-just f (number.Got n) g = g n refl
+  fit-just f number.Bad g = record { sizes = tt }
+
+  fit-both : (f : ℕ → ℕ → Request) (o o' : Number) → ((m n : ℕ) → number.Got n ≡ o' → Fit room (f m n)) → Fit room (both f o o')
+  fit-both f (number.Got m) o' g = fit-just (f m) o' (g m)
+  fit-both f number.Bad o' g = record { sizes = tt }
+
+  fit-one : (g : List ℕ → Request) (ts : List (List ℕ)) → ((t : List ℕ) → Fit room (g t)) → Fit room (one g ts)
+  fit-one g [] f = record { sizes = tt }
+  fit-one g (t ∷ []) f = f t
+  fit-one g (t ∷ t' ∷ ts) f = record { sizes = tt }
+
+  fit-two : (g : List ℕ → List ℕ → Request) (ts : List (List ℕ)) → ((t t' : List ℕ) → Fit room (g t t')) → Fit room (two g ts)
+  fit-two g [] f = record { sizes = tt }
+  fit-two g (t ∷ ts) f = fit-one (g t) ts (f t)
+
+  pub fit-sender : (ts : List (List ℕ)) → Fit room (senderOf ts)
+  fit-sender ts = fit-one (λ u. just request.Sender (anyNumber u)) ts (λ u. fit-just request.Sender (anyNumber u) (λ n e. record { sizes = tt }))
+
+  pub fit-finish : (ts : List (List ℕ)) → Fit room (finishOf ts)
+  fit-finish ts = fit-one (λ c. just request.Finish (capNumber c)) ts (λ c. fit-just request.Finish (capNumber c) (λ n e. record { sizes = got-most 10 4096 c e }))
+
+  pub fit-sample : (ts : List (List ℕ)) → Fit room (sampleOf ts)
+  fit-sample ts = fit-two (λ x y. both request.Sample (hexOf x) (hexOf y)) ts (λ x y. fit-both request.Sample (hexOf x) (hexOf y) (λ m n e. record { sizes = tt }))
+
+  pub fit-send : (ts : List (List ℕ)) → Fit room (sendOf ts)
+  fit-send ts = fit-two (λ w c. both request.Send (anyNumber w) (capNumber c)) ts (λ w c. fit-both request.Send (anyNumber w) (capNumber c) (λ m n e. record { sizes = got-most 10 4096 c e }))
+
+  fit-start : (u w : ℕ) (ts : List (List ℕ)) → Fit room (startOf u w ts)
+  fit-start u w [] = record { sizes = tt }
+  fit-start u w (f ∷ []) = fit-cond (sameBytes f (bytes "free")) (record { sizes = tt }) (record { sizes = tt })
+  fit-start u w (a ∷ s ∷ ts) =
+      fit-cond (sameBytes a (bytes "at"))
+      (fit-one (λ s. just (request.At u w) (anyNumber s)) (s ∷ ts) (λ t. fit-just (request.At u w) (anyNumber t) (λ n e. record { sizes = tt })))
+      (record { sizes = tt })
+
+  fit-window : (u : ℕ) (o : Number) (ts : List (List ℕ)) → Fit room (windowOf u o ts)
+  fit-window u (number.Got w) ts = fit-start u w ts
+  fit-window u number.Bad ts = record { sizes = tt }
+
+  fit-open : (o : Number) (ts : List (List ℕ)) → Fit room (openOf o ts)
+  fit-open number.Bad ts = record { sizes = tt }
+  fit-open (number.Got u) [] = record { sizes = tt }
+  fit-open (number.Got u) (w ∷ ts) = fit-window u (anyNumber w) ts
+
+  pub fit-receiver : (ts : List (List ℕ)) → Fit room (receiverOf ts)
+  fit-receiver [] = record { sizes = tt }
+  fit-receiver (u ∷ ts) = fit-open (anyNumber u) ts
+
+  fit-heard : (o : Number) (m : Many) → ((c : ℕ) → number.Got c ≡ o → c ≤ 4096) → ((n : ℕ) → many.Got n ≡ m → n ≤ room) → Fit room (heardOf o m)
+  fit-heard number.Bad m f g = record { sizes = tt }
+  fit-heard (number.Got c) (many.Got n) f g = record { sizes = (f c refl, g n refl) }
+  fit-heard (number.Got c) many.Bad f g = record { sizes = tt }
+
+  pub fit-piece : (ts : List (List ℕ)) → Fit room (pieceOf room ts)
+  fit-piece [] = record { sizes = tt }
+  fit-piece (c ∷ ts) = fit-heard (capNumber c) (manyOf room ts) (λ n e. got-most 10 4096 c e) (λ n e. many-most room ts e)

@@ -1,0 +1,120 @@
+-- Laws of the readers: how what the code reads of a text, token by token, is what the grammar says of all its tokens.
+use Prim.Native.Nat.{ℕ, suc, _+_, _-_, _<_}
+use mathlib.Core.Path.{_≡_, refl, sym, _∙_}
+use mathlib.Core.Bool.{Bool, true, false, cond}
+use mathlib.Core.List.{List, [], _∷_}
+use native.Mathlib.Omega.{arith}
+use native.Mathlib.Numerals.{add-one}
+use borrow.Author.Tests.{ltb-true, ltb-false}
+use lib.Dec.{ltb}
+use lib.IntN.{ℤ}
+use lib.ListN.{length, take, drop}
+use lib.Seq.{take-all}
+use Rattle.text.specs.Bytes.{bytes}
+use Rattle.text.specs.Token.{tokens, lengthBefore, Cuts, sameBytes}
+use Rattle.text.specs.Number.{hexOf}
+use Rattle.text.specs.Many.{Lists}
+use Rattle.text.specs.declared.number.Many.{Many}
+use Rattle.text.specs.declared.number.Number.{Number}
+use Rattle.text.specs.declared.number.Number.the-variants as number
+use Rattle.text.proofs.Digits.{to-end}
+use Rattle.text.proofs.Tokens.{last-token, more-tokens, first-token, not-empty, spaced-number, spaced-hex, at-most-all}
+use Rattle.requests.specs.declared.Request.{Request}
+use Rattle.requests.specs.declared.Request.the-variants as request
+use Rattle.requests.specs.Verb.{anyNumber, capNumber, just, both, one, two, startOf, windowOf, openOf, receiverOf, heardOf, pieceOf, pieceFills}
+
+-- the text after the token that ends at n
+abbrev pub after : ℕ → List ℕ → List ℕ
+after n s = take (length s - (n + 1)) (drop (n + 1) s)
+
+module _ {s : List ℕ} {n : ℕ} (cut : Cuts 32 s n) where
+  pub alone : n ≡ length s → tokens s ≡ s ∷ []
+  alone h = last-token s (omega (arith, cut .is))
+
+  pub cut-off : (n ≡ length s → ⊥) → tokens s ≡ take n s ∷ tokens (after n s)
+  cut-off h =
+      let less : lengthBefore 32 s < length s = omega (arith, cut .is, cut .within) in
+      rw (more-tokens s less, ← cut .is, to-end (n + 1) s, ← add-one n)
+
+-- what reads a token, and refuses a text with a space
+pub record Reader (p : List ℕ → Number) : Type 0 where
+  pub refuses : (s : List ℕ) → lengthBefore 32 s < length s → number.Bad ≡ p s
+
+pub any-reader : Reader anyNumber
+any-reader = record { refuses = spaced-number 10 (omega arith) 4294967295 }
+
+pub cap-reader : Reader capNumber
+cap-reader = record { refuses = spaced-number 10 (omega arith) 4096 }
+
+pub hex-reader : Reader hexOf
+hex-reader = record { refuses = spaced-hex }
+
+-- g of a text, where g refuses more than one token, is g of the one token
+only-one : (g : List ℕ → Request) (s : List ℕ) → (lengthBefore 32 s < length s → g s ≡ request.Unread) → g s ≡ one g (tokens s)
+only-one g s h = by (ltb (lengthBefore 32 s) (length s)) refl where
+  many : (t : List ℕ) (ts : List (List ℕ)) → (length ts ≡ 0 → ⊥) → one g (t ∷ ts) ≡ request.Unread
+  many t [] f = absurd (f refl)
+  many t (t' ∷ ts) f = refl
+
+  by : (b : Bool) → ltb (lengthBefore 32 s) (length s) ≡ b → g s ≡ one g (tokens s)
+  by true e =
+      let less : lengthBefore 32 s < length s = ltb-true _ _ e in
+      h less ∙ sym (rw (more-tokens s less) (many (take (lengthBefore 32 s) s) (tokens (drop (suc (lengthBefore 32 s)) s)) (not-empty (drop (suc (lengthBefore 32 s)) s))))
+  by false e = rw (last-token s (omega (arith, ltb-false (lengthBefore 32 s) (length s) e, at-most-all 32 s)))
+
+module _ {p : List ℕ → Number} (reads : Reader p) where
+  pub one-read : (f : ℕ → Request) (s : List ℕ) {o : Number} → o ≡ p s → just f o ≡ one (λ t. just f (p t)) (tokens s)
+  one-read f s e = rw e (only-one (λ t. just f (p t)) s (λ h. rw (← reads .refuses s h)))
+
+  pub two-read : (f : ℕ → ℕ → Request) (q : List ℕ → Number) {s : List ℕ} {n : ℕ} → Cuts 32 s n → (n ≡ length s → ⊥) → {o o' : Number} → o ≡ q (take n s) → o' ≡ p (after n s)
+      → both f o o' ≡ two (λ a b. both f (q a) (p b)) (tokens s)
+  two-read f q {s} {n} cut h {o} {o'} e e' = rw (cut-off cut h, e, e') (only-one (λ b. both f (q (take n s)) (p b)) (after n s) (λ k. rw (← reads .refuses (after n s) k) (bad (q (take n s))))) where
+    bad : (o : Number) → both f o number.Bad ≡ request.Unread
+    bad (number.Got n) = refl
+    bad number.Bad = refl
+
+module _ {s : List ℕ} {n : ℕ} (cut : Cuts 32 s n) where
+  whole : n ≡ length s → take n s ≡ s
+  whole h = take-all n s (omega arith)
+
+  pub two-alone : (g : List ℕ → List ℕ → Request) → n ≡ length s → request.Unread ≡ two g (tokens s)
+  two-alone g h = rw (alone cut h)
+
+  pub receiver-bad : number.Bad ≡ anyNumber (take n s) → request.Unread ≡ receiverOf (tokens s)
+  receiver-bad e = rw (first-token s n (cut .is) .1, ← e)
+
+  pub receiver-plain : {u : ℕ} → n ≡ length s → number.Got u ≡ anyNumber (take n s) → request.Plain u ≡ receiverOf (tokens s)
+  receiver-plain h e = rw (alone cut h, ← whole h) (rw (← e))
+
+  pub receiver-more : {u : ℕ} → (n ≡ length s → ⊥) → number.Got u ≡ anyNumber (take n s) → openOf (number.Got u) (tokens (after n s)) ≡ receiverOf (tokens s)
+  receiver-more h e = rw (cut-off cut h, ← e)
+
+  pub window-alone : (u : ℕ) → n ≡ length s → request.Unread ≡ openOf (number.Got u) (tokens s)
+  window-alone u h = rw (alone cut h) (none (anyNumber s)) where
+    none : (o : Number) → request.Unread ≡ windowOf u o []
+    none (number.Got w) = refl
+    none number.Bad = refl
+
+  pub window-more : (u : ℕ) (o : Number) → (n ≡ length s → ⊥) → o ≡ anyNumber (take n s) → windowOf u o (tokens (after n s)) ≡ openOf (number.Got u) (tokens s)
+  window-more u o h e = rw (cut-off cut h, e)
+
+  pub start-alone : (u w : ℕ) (b : Bool) → n ≡ length s → b ≡ sameBytes s (bytes "free") → cond b (request.Free u w) request.Unread ≡ startOf u w (tokens s)
+  start-alone u w b h e = rw (alone cut h, e)
+
+  pub start-more : (u w : ℕ) (b : Bool) (o : Number) → (n ≡ length s → ⊥) → b ≡ sameBytes (take n s) (bytes "at") → o ≡ anyNumber (after n s)
+      → cond b (just (request.At u w) o) request.Unread ≡ startOf u w (tokens s)
+  start-more u w b o h e f = rw (cut-off cut h, e, one-read any-reader (request.At u w) (after n s) f) (more (tokens (after n s)) (not-empty (after n s))) where
+    more : (ts : List (List ℕ)) → (length ts ≡ 0 → ⊥)
+        → cond (sameBytes (take n s) (bytes "at")) (one (λ t. just (request.At u w) (anyNumber t)) ts) request.Unread ≡ startOf u w (take n s ∷ ts)
+    more [] g = absurd (g refl)
+    more (t ∷ ts) g = refl
+
+  pub piece-bad : (list : List ℤ) → number.Bad ≡ capNumber (take n s) → (request.Unread ≡ pieceOf (length list) (tokens s)) × (list ≡ pieceFills (tokens s) list)
+  piece-bad list e = (rw (first-token s n (cut .is) .1, ← e), rw (first-token s n (cut .is) .1, ← e))
+
+  pub piece-alone : (list : List ℤ) {c : ℕ} → n ≡ length s → number.Got c ≡ capNumber (take n s) → (request.Piece c 0 ≡ pieceOf (length list) (tokens s)) × (list ≡ pieceFills (tokens s) list)
+  piece-alone list h e = (rw (alone cut h, ← whole h) (rw (← e)), rw (alone cut h, ← whole h) (rw (← e)))
+
+  pub piece-more : {list list' : List ℤ} {c : ℕ} {m : Many} → (n ≡ length s → ⊥) → number.Got c ≡ capNumber (take n s) → Lists (after n s) list m list'
+      → (heardOf (number.Got c) m ≡ pieceOf (length list) (tokens s)) × (list' ≡ pieceFills (tokens s) list)
+  piece-more h e l = (rw (cut-off cut h, ← e, l .answer), rw (cut-off cut h, ← e) (l .filled))

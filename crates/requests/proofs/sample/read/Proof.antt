@@ -1,0 +1,79 @@
+-- `sample::read`: two numbers.
+use mathlib.Core.Path.{_≡_, refl, sym, _∙_}
+use Rattle.requests.specs.declared.Request.the-variants as request
+use Rattle.text.specs.Number.{hexOf}
+use Rattle.requests.proofs.Readers.{hex-reader, two-alone, two-read}
+use borrow.Author.Needs.{needs}
+use Rattle.requests.proofs.sample.read.Statement.{statement}
+use Rattle.requests.proofs.sample.read.Tie as tie
+
+before-requires : tie.Need-before-requires
+before-requires c κs = search needs
+
+returns : tie.Need-returns
+returns c = two-alone (c .before .before2 .ensures) _ (c .if1 .taken)
+
+slice-aggregate-hex : tie.Need-slice-aggregate-hex
+slice-aggregate-hex c = search needs
+
+hex-requires : tie.Need-hex-requires
+hex-requires c κs = search needs
+
+enum-known-x : tie.Need-enum-known-x
+enum-known-x c = search needs
+
+enum-told : tie.Need-enum-told
+enum-told c = search needs
+
+returns-2 : tie.Need-returns-2
+returns-2 c = two-read hex-reader request.Sample hexOf (c .before .before .before .before .before .before2 .ensures) (c .before .before .before .before .if1 .left) (sym (c .enum-told .given .1) ∙ c .before .before .hex .ensures) refl
+
+add-hex : tie.Need-add-hex
+add-hex c = search needs
+
+sub-hex : tie.Need-sub-hex
+sub-hex c = search needs
+
+part-hex-start : tie.Need-part-hex-start
+part-hex-start c = search needs
+
+part-hex-end : tie.Need-part-hex-end
+part-hex-end c = search needs
+
+hex-requires-2 : tie.Need-hex-requires-2
+hex-requires-2 c κs = search needs
+
+enum-known-y : tie.Need-enum-known-y
+enum-known-y c = search needs
+
+enum-told-2 : tie.Need-enum-told-2
+enum-told-2 c = search needs
+
+returns-3 : tie.Need-returns-3
+returns-3 c =
+    two-read hex-reader request.Sample hexOf (c .before .before .before .before .before .before .before .before .before .before .before2 .ensures) (c .before .before .before .before .before .before .before .before .before .if1 .left) (sym (c .before .before .before .before .before .x .given .1) ∙ c .before .before .before .before .before .before .before .hex .ensures) (sym (c .enum-told2 .given .1) ∙ c .before .before .hex2 .ensures)
+
+returns-4 : tie.Need-returns-4
+returns-4 c =
+    two-read hex-reader request.Sample hexOf (c .before .before .before .before .before .before .before .before .before .before .before .before2 .ensures) (c .before .before .before .before .before .before .before .before .before .before .if1 .left) (sym (c .before .before .before .before .before .before .x .given .1) ∙ c .before .before .before .before .before .before .before .before .hex .ensures) (sym (c .before .y .given .1) ∙ c .before .before .before .hex2 .ensures)
+
+pub read-spec : {M : Type 1} → statement M
+read-spec =
+    tie.close
+    (tie.spec
+    before-requires
+    returns
+    slice-aggregate-hex
+    hex-requires
+    enum-known-x
+    enum-told
+    returns-2
+    add-hex
+    sub-hex
+    part-hex-start
+    part-hex-end
+    hex-requires-2
+    enum-known-y
+    enum-told-2
+    returns-3
+    returns-4)

@@ -1,0 +1,115 @@
+-- What the tokens after each verb ask for. Definitions only; proofs/Readers.antt has what follows of them.
+-- "Tokens are separated by one space" is `tokens` of the crate `text`, and the numbers that tokens write are its `numberOf`, `hexOf` and `manyOf`. "A missing or extra token, a double, leading or trailing space, a tab, a carriage return, more than 4096 coordinates" are unread: no token of a line with one of these is a number or a word of the grammar.
+--   anyNumber, capNumber    "U, W, WINDOW, S and CAP are 0 to 4294967295, a CAP above 4096 is `?`"
+--   just f, both f          the request f with one number or two, unread if one is bad
+--   one g, two g            g of just one token or two, unread for any other count of them
+--   senderOf, sendOf, finishOf, sampleOf   what the tokens after these verbs ask for
+--   receiverOf              plain with a width alone, else a window and the start: `free`, or `at` and a state
+--   pieceOf room            a cap and the coordinates, no more than there is room for; none is the empty piece
+--   pieceFills ts list      the list lent for coordinates after that: those of the piece at its start, up to the first that is none
+--   Sizes room r, Fit room r   the sizes that a request names: outputs of 4096 at most, and coordinates that are in the list
+use Prim.Native.Nat.{ℕ, _≤_}
+use mathlib.Core.Bool.{cond}
+use mathlib.Core.List.{List, [], _∷_, _++_}
+use lib.IntN.{ℤ}
+use lib.ListN.{length, drop}
+use Rattle.text.specs.Bytes.{bytes}
+use Rattle.text.specs.Token.{sameBytes}
+use Rattle.text.specs.Number.{numberOf, hexOf}
+use Rattle.text.specs.Many.{firstWholes, manyOf}
+use Rattle.text.specs.declared.number.Number.{Number}
+use Rattle.text.specs.declared.number.Number.the-variants as number
+use Rattle.text.specs.declared.number.Many.{Many}
+use Rattle.text.specs.declared.number.Many.the-variants as many
+use Rattle.requests.specs.declared.Request.{Request}
+use Rattle.requests.specs.declared.Request.the-variants as request
+
+abbrev pub anyNumber : List ℕ → Number
+anyNumber t = numberOf 10 4294967295 t
+
+abbrev pub capNumber : List ℕ → Number
+capNumber t = numberOf 10 4096 t
+
+abbrev pub just : (ℕ → Request) → Number → Request
+just f (number.Got n) = f n
+just f number.Bad = request.Unread
+
+abbrev pub both : (ℕ → ℕ → Request) → Number → Number → Request
+both f (number.Got m) o = just (f m) o
+both f number.Bad o = request.Unread
+
+abbrev pub one : (List ℕ → Request) → List (List ℕ) → Request
+one g [] = request.Unread
+one g (t ∷ []) = g t
+one g (t ∷ t' ∷ ts) = request.Unread
+
+abbrev pub two : (List ℕ → List ℕ → Request) → List (List ℕ) → Request
+two g [] = request.Unread
+two g (t ∷ ts) = one (g t) ts
+
+abbrev pub senderOf : List (List ℕ) → Request
+senderOf ts = one (λ u. just request.Sender (anyNumber u)) ts
+
+abbrev pub finishOf : List (List ℕ) → Request
+finishOf ts = one (λ c. just request.Finish (capNumber c)) ts
+
+abbrev pub sendOf : List (List ℕ) → Request
+sendOf ts = two (λ w c. both request.Send (anyNumber w) (capNumber c)) ts
+
+abbrev pub sampleOf : List (List ℕ) → Request
+sampleOf ts = two (λ x y. both request.Sample (hexOf x) (hexOf y)) ts
+
+abbrev pub startOf : ℕ → ℕ → List (List ℕ) → Request
+startOf u w [] = request.Unread
+startOf u w (f ∷ []) = cond (sameBytes f (bytes "free")) (request.Free u w) request.Unread
+startOf u w (a ∷ s ∷ ts) = cond (sameBytes a (bytes "at")) (one (λ s. just (request.At u w) (anyNumber s)) (s ∷ ts)) request.Unread
+
+abbrev pub windowOf : ℕ → Number → List (List ℕ) → Request
+windowOf u (number.Got w) ts = startOf u w ts
+windowOf u number.Bad ts = request.Unread
+
+abbrev pub openOf : Number → List (List ℕ) → Request
+openOf number.Bad ts = request.Unread
+openOf (number.Got u) [] = request.Plain u
+openOf (number.Got u) (w ∷ ts) = windowOf u (anyNumber w) ts
+
+abbrev pub receiverOf : List (List ℕ) → Request
+receiverOf [] = request.Unread
+receiverOf (u ∷ ts) = openOf (anyNumber u) ts
+
+abbrev pub heardOf : Number → Many → Request
+heardOf number.Bad m = request.Unread
+heardOf (number.Got c) (many.Got n) = request.Piece c n
+heardOf (number.Got c) many.Bad = request.Unread
+
+abbrev pub pieceOf : ℕ → List (List ℕ) → Request
+pieceOf room [] = request.Unread
+pieceOf room (c ∷ ts) = heardOf (capNumber c) (manyOf room ts)
+
+-- zs at the start of a list
+abbrev pub atStart : List ℤ → List ℤ → List ℤ
+atStart zs list = zs ++ drop (length zs) list
+
+abbrev pub filledBy : Number → List (List ℕ) → List ℤ → List ℤ
+filledBy (number.Got c) ts list = atStart (firstWholes (length list) ts) list
+filledBy number.Bad ts list = list
+
+abbrev pub pieceFills : List (List ℕ) → List ℤ → List ℤ
+pieceFills [] list = list
+pieceFills (c ∷ ts) list = filledBy (capNumber c) ts list
+
+abbrev pub Sizes : ℕ → Request → Type 0
+Sizes room (request.Send w c) = c ≤ 4096
+Sizes room (request.Piece c n) = (c ≤ 4096) × (n ≤ room)
+Sizes room (request.Finish c) = c ≤ 4096
+Sizes room request.Nothing = Unit {0}
+Sizes room request.Unread = Unit {0}
+Sizes room (request.Sender u) = Unit {0}
+Sizes room (request.Plain u) = Unit {0}
+Sizes room (request.Free u w) = Unit {0}
+Sizes room (request.At u w s) = Unit {0}
+Sizes room (request.Sample x y) = Unit {0}
+Sizes room request.Pending = Unit {0}
+
+pub record Fit (room : ℕ) (r : Request) : Type 0 where
+  pub sizes : Sizes room r

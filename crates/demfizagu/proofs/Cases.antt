@@ -1,8 +1,8 @@
 -- The outcomes of the exported functions, one law each over plain values; and that an end that did something stands in a state that is
 -- long enough to be written back.
 use mathlib.Core.Path.{_≡_, refl, sym, ap, subst, _∙_}
-use mathlib.Core.Bool.{Bool, true, false, cond}
-use mathlib.Core.List.{List, [], _∷_, _++_}
+use mathlib.Core.Bool.{Bool, true, false}
+use mathlib.Core.List.{List, _++_}
 use Prim.Native.Nat.{ℕ, _^_, _≤_, _<_}
 use native.Mathlib.Omega.{arith}
 use borrow.Author.Tests.{lt-ltb, le-ltb, eq-eqb, ne-eqb}
@@ -15,16 +15,16 @@ use Rattle.sender.specs.declared.Sent.{Sent}
 use Rattle.sender.specs.Send as sender
 use Rattle.sender.specs.Promise as sends
 use Rattle.machine.specs.declared.Receiver.{Receiver}
-use Rattle.machine.specs.Machine.{shut, sound, soundCore}
+use Rattle.machine.specs.Machine.{shut, sound}
 use Rattle.machine.specs.Told.{Reason, givenOf}
 use Rattle.receiver.specs.declared.Start.{Start}
 use Rattle.receiver.specs.declared.Opened.{Opened}
 use Rattle.receiver.specs.declared.Answer.{Answer}
-use Rattle.receiver.specs.Doors.{Ran, opening, hearing, finishing}
+use Rattle.receiver.specs.Doors.{Ran, hearing, finishing}
 use Rattle.receiver.specs.Promise as receives
 use Rattle.stored.specs.Layout.{senderLength, senderTag, receiverLength, receiverTag}
 use Rattle.stored.specs.State.{holds, senderIn, wordsOfSender, receiverIn, wordsOfReceiver, readSender, readReceiver, SenderStored, ReceiverStored}
-use Rattle.demfizagu.specs.Calls.{pendingIn, senderOpening, receiverOpening, sendCall, toldOf, Call, callOf, hearCall, finishCall}
+use Rattle.demfizagu.specs.Calls.{pendingIn, senderOpening, receiverOpening, sendCall, toldOf, callOf, hearCall, finishCall}
 use Rattle.demfizagu.specs.Promise.{Opens, Sends, Answers}
 use Rattle.stored.proofs.Held.{held}
 use Rattle.demfizagu.proofs.Ends.{sender-opening-reads, sending-keeps, sending-reads, receiver-opening-reads, hearing-keeps, hearing-reads, finishing-keeps, finishing-reads}

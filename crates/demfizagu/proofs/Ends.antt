@@ -1,10 +1,10 @@
 -- What the doors do to an end: a refused call leaves it, and what a call changes is live or the closed one, so that it reads as itself.
-use mathlib.Core.Path.{_≡_, refl, sym, ap, subst, _∙_}
+use mathlib.Core.Path.{_≡_, refl, _∙_}
 use mathlib.Core.Bool.{Bool, true, false, cond, _&&_}
 use mathlib.Core.List.{List, [], _∷_, _++_}
-use Prim.Native.Nat.{ℕ, _+_, _-_, _%_, _≤_, _<_}
+use Prim.Native.Nat.{ℕ, _+_, _-_, _%_, _≤_}
 use native.Mathlib.Omega.{arith}
-use lib.Dec.{T, eqb, leb, ltb}
+use lib.Dec.{eqb, leb, ltb}
 use lib.IntN.{ℤ}
 use lib.ListN.{length}
 use Rattle.wei.specs.Word.{isWord}
@@ -13,7 +13,7 @@ use Rattle.nearest.specs.declared.Received.{Received}
 use Rattle.sender.specs.declared.Sender.{Sender}
 use Rattle.sender.specs.Send as sender
 use Rattle.machine.specs.declared.Receiver.{Receiver}
-use Rattle.machine.specs.Machine.{opened, shut, Outcome, taking, grown, keptOf, agreedOf, sound}
+use Rattle.machine.specs.Machine.{opened, shut, taking, grown, keptOf, agreedOf, sound}
 use Rattle.machine.specs.Told.{faultOf, givenOf}
 use Rattle.machine.proofs.Sound.{sound-live}
 use Rattle.receiver.specs.declared.Start.{Start}

@@ -4,13 +4,13 @@
 --   start, go-on    how it begins, and one sample more
 --   stop-fault, stop-room, end      the three ways it ends
 use mathlib.Core.Path.{_≡_, refl, sym, ap, subst, _∙_}
-use mathlib.Core.Bool.{true, false, cond}
+use mathlib.Core.Bool.{true}
 use mathlib.Core.List.{List, [], _∷_, _++_, append-assoc}
 use Prim.Native.Nat.{ℕ, suc, _+_, _-_, _%_, _≤_, _<_}
 use native.Mathlib.Numerals.{add-one}
 use native.Mathlib.Omega.{arith}
 use borrow.Author.Tests.{lt-ltb, le-ltb, le-leb, lt-leb, eq-eqb, ne-eqb}
-use lib.Dec.{eqb, leb}
+use lib.Dec.{eqb}
 use lib.Ieee.{Float}
 use lib.IntN.{ℤ, pos}
 use lib.ListN.{getD, length, set, take, drop, length-drop, length-append, drop-of-length-le, take-append-drop}
@@ -20,7 +20,7 @@ use Rattle.samples.specs.declared.Pair.{Pair}
 use Rattle.samples.specs.Given.{GivenSample, sampleGiven}
 use Rattle.samples.specs.Heard.{heardSample}
 use Rattle.demfizagu.specs.declared.Heard.{Heard}
-use Rattle.demfizagu.specs.Calls.{toldOf, placeOr0, sampleCall, Conversion, converting, samplesCall}
+use Rattle.demfizagu.specs.Calls.{toldOf, sampleCall, Conversion, converting, samplesCall}
 use Rattle.demfizagu.specs.Promise.{HeardIs, Samples, ConvertsTo, Converts}
 
 -- ---- one sample

@@ -9,14 +9,13 @@
 --   Sampling, sampleCall       one sample
 --   Converted, converting, samplesCall    a list of coordinates, sample by sample up to the first that is refused
 use Prim.Native.Nat.{ℕ, _+_, _%_}
-use mathlib.Core.Bool.{Bool, true, cond, _||_}
+use mathlib.Core.Bool.{Bool, cond, _||_}
 use mathlib.Core.List.{List, [], _∷_, _++_}
 use mathlib.Core.Option.{Option, none, some}
 use lib.Dec.{eqb, leb, ltb}
 use lib.Ieee.{Float}
 use lib.IntN.{ℤ, pos}
 use lib.ListN.{length, drop}
-use Rattle.samples.specs.Given.{GivenSample}
 use Rattle.samples.specs.Heard.{heardSample}
 use Rattle.sender.specs.declared.Sender.{Sender}
 use Rattle.sender.specs.Send as sender

@@ -2,17 +2,12 @@
 -- are below `limit`; and no number among the sums, reached or not, is above `topSum`.
 --   room       one more symbol finds room
 --   top-next   the bound after one more symbol
-use mathlib.Core.Path.{_≡_, refl, sym, ap, ap₂, subst, _∙_}
-use mathlib.Core.Bool.{Bool, true, false, _&&_}
-use mathlib.Core.List.{List, [], _∷_}
-use Prim.Native.Nat.{ℕ, zero, suc, _+_, _-_, _≤_, _<_}
+use mathlib.Core.Path.{_≡_, subst}
+use mathlib.Core.List.{List, _∷_}
+use Prim.Native.Nat.{ℕ, _+_, _-_, _≤_, _<_}
 use native.Mathlib.Omega.{arith}
-use native.Mathlib.Numerals.{add-one}
-use lib.Bits.{bitOr, or-lt, or-add-and, and-le-l, and-le-r}
-use lib.Dec.{leb, ltb}
-use lib.ListN.{length, getD, drop, drop-of-length-le}
-use lib.Seq.{drop-cons}
-use borrow.Author.Tests.{lt-ltb, le-ltb, ltb-true, ltb-false, le-leb, lt-leb, leb-true, leb-false}
+use lib.ListN.{length, getD}
+use borrow.Author.Tests.{lt-ltb}
 use Rattle.trellis.specs.Lists.{Every}
 use Rattle.trellis.specs.Best.{alive}
 use Rattle.trellis.specs.Cells.{Off}
@@ -27,7 +22,6 @@ use Rattle.nearest.specs.Found.{weighedOf}
 use Rattle.nearest.proofs.Laws.{far-below, costs-below, line-chooses}
 use Rattle.select.specs.Select.{limit, sixteen, arrive, winner, sumAt, rowOf}
 use Rattle.machine.specs.Machine.{topSum}
-use Rattle.select.specs.Select.{allUpTo}
 use Rattle.select.proofs.Lists.{sixteen-most}
 use Rattle.machine.proofs.Trellis.{searchOf, pickOf, cost-at}
 use Rattle.machine.proofs.Arrivals.{Room}

@@ -2,20 +2,20 @@
 --   sound-live, sound-core, sound-ready   what the test of a record says
 --   sound-from                          and what it wants
 --   grown-sound                         one symbol more, where it was not refused
-use mathlib.Core.Path.{_≡_, refl, sym, ap, subst, _∙_}
-use mathlib.Core.Bool.{Bool, true, false, _&&_}
-use mathlib.Core.List.{List, [], _∷_, _++_, map}
-use Prim.Native.Nat.{ℕ, zero, suc, _+_, _%_, _≤_, _<_}
+use mathlib.Core.Path.{_≡_}
+use mathlib.Core.Bool.{true}
+use mathlib.Core.List.{List, [], _∷_, map}
+use Prim.Native.Nat.{ℕ, zero, suc, _≤_, _<_}
 use native.Mathlib.Omega.{arith}
 use borrow.Author.Tests.{leb-true, ltb-true, lt-ltb, le-leb}
 use lib.Dec.{leb, ltb}
-use lib.ListN.{length, getD, take}
+use lib.ListN.{take}
 use Rattle.trellis.specs.Measure.{Two}
 use Rattle.trellis.specs.Search.{range}
 use Rattle.trellis.specs.Lists.{Every}
 use Rattle.trellis.specs.Speak.{after}
 use Rattle.trellis.specs.Words.{turnAfter}
-use Rattle.wei.specs.Symbol.{Symbol, firstLabel, Valid}
+use Rattle.wei.specs.Symbol.{Symbol, firstLabel}
 use Rattle.nearest.specs.declared.Received.{Received}
 use Rattle.nearest.specs.Line.{BothInRange}
 use Rattle.machine.specs.declared.Core.{Core}
@@ -23,7 +23,6 @@ use Rattle.machine.specs.declared.Receiver.{Receiver}
 use Rattle.select.proofs.UpTo.{and-both, up-to-all, all-up-to}
 use Rattle.picks.specs.Picks.{symbolBy}
 use Rattle.machine.specs.Machine.{topSum, soundCore, sound, pendingAt, wayFrom, keptOf, agreedOf, releasedOf, grown}
-use Rattle.select.specs.Select.{allUpTo}
 use Rattle.machine.specs.Taken.{CoreFits, SumsFit, Ready}
 use Rattle.machine.proofs.Bounds.{top-next}
 

@@ -21,7 +21,7 @@ use Rattle.trellis.specs.Common.{common}
 use Rattle.trellis.specs.Cells.{Off}
 use Rattle.trellis.specs.Measure.{Start, GoodStart, Two, weiCode}
 use Rattle.trellis.specs.Same.{sameSymbol}
-use Rattle.trellis.specs.Pick.{Chooses, weiSearch}
+use Rattle.trellis.specs.Pick.{weiSearch}
 use Rattle.trellis.specs.Speak.{after, carried}
 use Rattle.trellis.specs.Words.{turnAfter}
 use Rattle.trellis.proofs.Optimal.{best-below}

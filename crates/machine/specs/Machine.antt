@@ -16,9 +16,9 @@
 --   sound rx                   the record is one that the functions can work on: anything else is answered like a closed receiver
 use Prim.Native.Nat.{ℕ, _+_, _-_, _*_, _%_, _^_}
 use mathlib.Core.Bool.{Bool, true, false, cond, _&&_}
-use mathlib.Core.List.{List, [], _∷_, map}
+use mathlib.Core.List.{List, [], map}
 use lib.Dec.{eqb, leb, ltb}
-use lib.ListN.{length, take, replicate}
+use lib.ListN.{take, replicate}
 use Rattle.trellis.specs.Search.{range}
 use Rattle.trellis.specs.Speak.{after}
 use Rattle.trellis.specs.Measure.{Start, free, named, Two}

@@ -12,7 +12,7 @@
 --   Fine t            a history that calls can tell: no symbol of it was one to refuse
 --   machineOf t       the receiver's record after it
 use Prim.Native.Nat.{ℕ, _-_, _≤_}
-use mathlib.Core.Bool.{Bool, true, false, cond}
+use mathlib.Core.Bool.{cond}
 use mathlib.Core.List.{List, [], _∷_}
 use lib.Dec.{eqb, leb, ltb}
 use lib.ListN.{length}

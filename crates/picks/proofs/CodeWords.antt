@@ -3,7 +3,7 @@
 --   bit-below                 a masked bit
 --   first-below, last-below   the two labels, as places in a word
 --   pack-in, said             what is packed, and what is said, is the word of the symbol
-use mathlib.Core.Path.{_≡_, sym, ap, _∙_}
+use mathlib.Core.Path.{_≡_, ap, _∙_}
 use Prim.Native.Nat.{ℕ, _+_, _-_, _*_, _/_, _%_, _^_, _≤_, _<_}
 use native.Mathlib.Nat.{mod-lt}
 use native.Mathlib.Omega.{arith}

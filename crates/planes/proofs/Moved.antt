@@ -7,8 +7,8 @@ use mathlib.Core.List.{List}
 use Prim.Native.Nat.{ℕ, zero, suc, _+_, _-_, _*_, _/_, _%_, _^_, _≤_, _<_}
 use native.Mathlib.Decide.{decLt}
 use native.Mathlib.Omega.{arith}
-use borrow.Author.Tests.{lt-ltb, leb-true, leb-false}
-use lib.Dec.{leb, ltb}
+use borrow.Author.Tests.{lt-ltb, leb-true}
+use lib.Dec.{leb}
 use lib.ListN.{length, getD}
 use lib.Pow.{shr-shr}
 use Rattle.lists.proofs.Filled.{tabled-length, tabled-at}

@@ -2,15 +2,14 @@
 --   best                 the best of four
 --   advanced             the sums and steps of a symbol
 --   all-followed         where all states are reached
-use mathlib.Core.Path.{_≡_, refl, sym, ap, ap₂, _∙_}
-use mathlib.Core.Bool.{Bool, true, false, cond}
+use mathlib.Core.Path.{_≡_, refl, sym, ap, _∙_}
+use mathlib.Core.Bool.{Bool, true, false}
 use mathlib.Core.List.{List}
-use Prim.Native.Nat.{ℕ, suc, _+_, _-_, _*_, _≤_, _<_}
+use Prim.Native.Nat.{ℕ, suc, _+_, _-_, _≤_, _<_}
 use native.Mathlib.Omega.{arith}
 use lib.Dec.{ltb}
 use lib.ListN.{length, getD}
 use borrow.Author.Tests.{lt-ltb, le-ltb, ltb-true, ltb-false}
-use Rattle.wei.specs.State.{before, between}
 use Rattle.trellis.specs.Pick.{keepN, least}
 use Rattle.select.specs.declared.ways.Way.{Way}
 use Rattle.select.specs.declared.ways.Four.{Four}

@@ -6,8 +6,7 @@
 --   sumsOf, stepsOf       the sums and the steps of all sixteen ways, four by four
 --   followedStep sums steps s   the step into the state that s is or follows
 use Prim.Native.Nat.{ℕ, _+_, _*_, _^_, _<_}
-use mathlib.Core.Path.{_≡_}
-use mathlib.Core.Bool.{Bool, true, false, cond}
+use mathlib.Core.Bool.{Bool, true, false}
 use mathlib.Core.List.{List, [], _∷_}
 use lib.Dec.{ltb}
 use lib.ListN.{getD}

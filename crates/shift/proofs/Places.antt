@@ -9,10 +9,9 @@ use Prim.Native.Nat.{ℕ, zero, suc, _+_, _*_, _/_, _%_, _^_, _≤_, _<_}
 use native.Mathlib.Decide.{ℕ-discrete}
 use native.Mathlib.Omega.{arith}
 use borrow.Author.Tests.{eq-eqb, ne-eqb, lt-ltb, le-ltb, ltb-true, ltb-false, le-leb, lt-leb}
-use lib.Dec.{eqb, leb, ltb}
+use lib.Dec.{eqb, ltb}
 use lib.ListN.{length, getD, set}
 use lib.Seq.{ext-getD}
-use Rattle.lists.specs.Tabled.{tabled}
 use Rattle.lists.proofs.Filled.{tabled-length, tabled-at, tabled-same, tabled-set, all-listed}
 use Rattle.planes.specs.Planes.{longer, wordBefore, wordsBefore, carried, movedAt, movedWords, placeMoved, movedOf}
 use Rattle.shift.specs.Put.{placePut, putBelow, putWord}

@@ -1,19 +1,15 @@
 -- Words that can hold a record: which test decides, and what is known of them.
 --   held-short, held-other, held-by    the tests in the order of the code
 --   Held, held                         what is known of words that pass them
-use mathlib.Core.Path.{_≡_, refl, sym, subst}
+use mathlib.Core.Path.{_≡_, sym, subst}
 use mathlib.Core.Bool.{true, false, _&&_}
 use mathlib.Core.List.{List}
 use Prim.Native.Nat.{ℕ, _-_, _^_, _≤_, _<_}
 use borrow.Author.Tests.{le-leb, lt-leb, eq-eqb, ne-eqb}
 use lib.Dec.{T, eqb, leb, leb→le, ltb→lt}
-use lib.ListN.{getD, length, take, drop}
+use lib.ListN.{getD, length}
 use Rattle.wei.proofs.Finite.{and-left, and-right}
-use Rattle.machine.specs.declared.Core.{Core}
-use Rattle.machine.specs.declared.Receiver.{Receiver}
-use Rattle.stored.specs.Layout.{receiverLength, receiverTag}
-use Rattle.stored.specs.State.{isHalf, holds, coreIn, receiverIn}
-use Rattle.stored.proofs.Lent.{lent}
+use Rattle.stored.specs.State.{isHalf, holds}
 
 module _ (size tag : ℕ) (ws : List ℕ) where
   pub held-short : length ws < size → holds size tag ws ≡ false

@@ -2,7 +2,7 @@
 --   stored                        stores one after the other
 --   pair-stored                   two stores anywhere
 --   copied-more, copied-length    one more of the elements of ws in the front of a list that was l₀
---   lent-rest, room, placed       what is lent of the rest, that there is room in it, and what a call wrote at its front
+--   placed                        what a call wrote at the front of the rest that it was lent
 --   lent, back                    the rest of a list from a on, as it is lent, and the list when the rest has come back
 --   all-copied, part-loaded       all of a list copied to a front, a part copied over as many places
 use mathlib.Core.Path.{_≡_, refl, sym, ap, _∙_}
@@ -41,12 +41,6 @@ module _ {A : Type 0} where
   module _ (l₀ p : List A) {l : List A} (a : ℕ) (size : length p ≡ a) (is : l ≡ p ++ drop a l₀) where
     rest : drop a l ≡ drop a l₀
     rest = ap (λ m. drop a m) is ∙ drop-at p (drop a l₀) a size
-
-    pub lent-rest : take (length l - a) (drop a l) ≡ drop a l₀
-    lent-rest = lent l (length l) a refl ∙ rest
-
-    pub room : (k : ℕ) → a + k ≤ length l₀ → k ≤ length (take (length l - a) (drop a l))
-    room k h = rw (lent-rest, length-drop) (omega arith)
 
     -- the rest was lent, and vs was written at its front
     pub placed : (vs : List A) (k : ℕ) {ys : List A} → ys ≡ vs ++ drop k (take (length l - a) (drop a l)) →

@@ -1,5 +1,5 @@
 -- `demfizagu_is_open`: a receiver first, then a sender.
-use mathlib.Core.Path.{_≡_, sym, _∙_}
+use mathlib.Core.Path.{sym, _∙_}
 use Rattle.demfizagu.specs.Calls.{openIn}
 use borrow.Author.Needs.{needs}
 use Rattle.demfizagu.proofs.demfizagu_is_open.Statement.{statement}

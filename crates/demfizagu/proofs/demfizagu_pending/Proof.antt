@@ -1,5 +1,5 @@
 -- `demfizagu_pending`: what is pending is at most 64.
-use mathlib.Core.Path.{_≡_, _∙_}
+use mathlib.Core.Path.{_≡_}
 use native.Mathlib.Omega.{arith}
 use denote.Ref.{now}
 use Rattle.demfizagu.specs.Calls.{pendingIn}

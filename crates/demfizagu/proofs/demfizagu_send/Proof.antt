@@ -1,6 +1,4 @@
 -- `demfizagu_send`: refused, or the state written back.
-use mathlib.Core.Path.{_≡_, refl, sym, ap, _∙_}
-use native.Mathlib.Omega.{arith}
 use denote.Ref.{now}
 use Rattle.demfizagu.proofs.Cases.{sent-refused, sent-long, sent-done}
 use borrow.Author.Needs.{needs}

@@ -1,10 +1,9 @@
 -- `write_words`: the words and the turn so far are those of the symbols passed.
-use Prim.Native.Nat.{ℕ, _≤_, _<_, _+_, _-_, _%_}
+use Prim.Native.Nat.{ℕ, _≤_, _<_, _+_, _-_}
 use mathlib.Core.Path.{_≡_, refl, ap, _∙_}
 use mathlib.Core.List.{_++_}
 use native.Mathlib.Omega.{arith}
 use lib.ListN.{length, take, drop, length-set}
-use Rattle.planes.specs.Planes.{subsetIn}
 use Rattle.trellis.specs.Speak.{speak, after}
 use Rattle.trellis.specs.Words.{wordsFrom, turnAfter}
 use Rattle.picks.specs.Picks.{symbolIn, saidOf}

@@ -1,5 +1,4 @@
 -- `above`.
-use native.Mathlib.Omega.{arith}
 use borrow.Author.Needs.{needs}
 use borrow.Author.Tests.{eq-eqb, ne-eqb}
 use Rattle.planes.proofs.above.Statement.{statement}

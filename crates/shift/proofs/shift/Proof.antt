@@ -1,5 +1,4 @@
 -- `shift`: one word, two, or three, from the highest down.
-use native.Mathlib.Omega.{arith}
 use borrow.Author.Needs.{needs}
 use Rattle.shift.proofs.Places.{shift-one, shift-two, shift-three}
 use Rattle.shift.proofs.shift.Statement.{statement}

@@ -1,5 +1,5 @@
 -- `holds_record`: each test decides where it fails.
-use mathlib.Core.Path.{_≡_, sym, _∙_}
+use mathlib.Core.Path.{sym, _∙_}
 use denote.Ref.{now}
 use borrow.Author.Tests.{not-true, not-false}
 use Rattle.stored.proofs.Held.{held-short, held-other, held-by}

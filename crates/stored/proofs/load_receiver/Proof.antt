@@ -6,7 +6,7 @@ use native.Mathlib.Omega.{arith}
 use denote.Ref.{now}
 use borrow.Author.Needs.{needs}
 use borrow.Author.Tests.{not-true, not-false}
-use lib.ListN.{replicate, length-replicate}
+use lib.ListN.{length-replicate}
 use Rattle.stored.specs.Layout.{receiverLength, receiverTag}
 use Rattle.stored.specs.State.{holds, receiverIn}
 use Rattle.stored.proofs.Held.{Held, held}

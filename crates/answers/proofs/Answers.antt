@@ -15,7 +15,7 @@ use lib.ListN.{length, take, getD, length-append, length-take}
 use Rattle.text.specs.Bytes.{bytes}
 use Rattle.page.specs.Page.{Puts}
 use Rattle.samples.specs.Given.{GivenSample}
-use Rattle.machine.specs.Told.{Reason}
+use Rattle.reasons.specs.Reason.{Reason}
 use Rattle.phrases.specs.Phrase.{decimal, whole, afterSpaces}
 use Rattle.phrases.proofs.Phrases.{decimal-short, whole-short, reason-short, said-short, wholes-short}
 use Rattle.answers.specs.Answer.{numberLine, sentLine, heardLine, pairLine, lineBy, sampleLine}

@@ -15,7 +15,7 @@ use lib.IntN.{ℤ}
 use lib.ListN.{length, take}
 use Rattle.text.specs.Bytes.{bytes}
 use Rattle.samples.specs.Given.{GivenSample}
-use Rattle.machine.specs.Told.{Reason}
+use Rattle.reasons.specs.Reason.{Reason}
 use Rattle.phrases.specs.Phrase.{decimal, whole, afterSpaces, placeText, reasonText, saidText}
 
 abbrev pub numberLine : ℕ → List ℕ

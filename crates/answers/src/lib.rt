@@ -1,10 +1,10 @@
 // The answers, a line each, put into the page: what each one says is in specs/Answer.antt. Every function asks for the room that
 // its text can take, and answers with the place after it. The parts of a line are those of `phrases`.
-use machine::Why;
+use reasons::Why;
 ghost use Prim.Native.Nat.{_+_, _≤_};
 ghost use lib.ListN.{length};
 ghost use Rattle.page.specs.Page.{Puts};
-ghost use Rattle.machine.specs.Told.{givenOf};
+ghost use Rattle.reasons.specs.Reason.{givenOf};
 ghost use Rattle.phrases.specs.Phrase.{wordsRoom};
 ghost use Rattle.answers.specs.Answer.{numberLine, sentLine, heardLine, pairLine, refusedLine, unreadLine};
 

@@ -16,9 +16,11 @@ use Rattle.sender.specs.Send as sender
 use Rattle.sender.specs.Promise as sends
 use Rattle.machine.specs.declared.Receiver.{Receiver}
 use Rattle.machine.specs.Machine.{shut, sound}
-use Rattle.machine.specs.Told.{Reason, givenOf}
-use Rattle.receiver.specs.declared.Start.{Start}
-use Rattle.receiver.specs.declared.Opened.{Opened}
+use Rattle.reasons.specs.Reason.{Reason, givenOf}
+use Rattle.openings.specs.declared.Start.{Start}
+use Rattle.openings.specs.declared.Opened.{Opened}
+use Rattle.openings.specs.Opening as openings
+use Rattle.told.specs.Piece.{Piece, pieceOf}
 use Rattle.receiver.specs.declared.Answer.{Answer}
 use Rattle.receiver.specs.Doors.{Ran, hearing, finishing}
 use Rattle.receiver.specs.Promise as receives
@@ -55,9 +57,9 @@ sent-open s n out e = go (sender.sound s) refl where
   go true h = h
   go false h = absurd (let z : _≡_ {A = ℕ} 9 0 = rw h at e in omega arith)
 
-pub heard-open : (rx : Receiver) (xs : List ℤ) (room : ℕ) → (hearing rx xs room .taken ≡ 0 → ⊥) → sound rx ≡ true
+pub heard-open : (rx : Receiver) (p : Piece) (room : ℕ) → (hearing rx p room .taken ≡ 0 → ⊥) → sound rx ≡ true
 unfolding hearing
-heard-open rx xs room e = go (sound rx) refl where
+heard-open rx p room e = go (sound rx) refl where
   go : (b : Bool) → sound rx ≡ b → sound rx ≡ true
   go true h = h
   go false h = absurd (e (rw h))
@@ -90,7 +92,7 @@ pub receiver-short : (state : List ℕ) (u w : ℕ) (b : Start) → length state
 unfolding receiverOpening
 receiver-short state u w b h = rw (lt-ltb (length state) receiverLength h) (record { number = refl; state-is = refl; reads = refl })
 
-pub receiver-opened : (state l : List ℕ) (u w : ℕ) (b : Start) (n : ℕ) (r : Opened) → receiverLength ≤ length state → receives.Opens u w b r →
+pub receiver-opened : (state l : List ℕ) (u w : ℕ) (b : Start) (n : ℕ) (r : Opened) → receiverLength ≤ length state → openings.Opens u w b r →
     n ≡ givenOf (r .why) .number → ReceiverStored (r .receiver) state l → Opens receiverIn (receiverOpening state u w b) n l
 unfolding receiverOpening
 receiver-opened state l u w b n r h o e f =
@@ -156,31 +158,31 @@ module _ (state : List ℕ) (piece : List ℤ) (out told : List ℕ) where
   unfolding hearCall
   hear-short h = rw (lt-ltb (length told) 3 h) (record { number = refl; state-is = refl; reads = refl; out-is = refl; told-is = refl })
 
-  module _ (enough : 3 ≤ length told) (rx : Receiver) (loaded : rx ≡ receiverIn state) (a : Answer) (o t : List ℕ) (n : ℕ) (was : receives.Is (hearing rx piece (length out)) out a o) (number : n ≡ givenOf (a .why) .number)
+  module _ (enough : 3 ≤ length told) (rx : Receiver) (loaded : rx ≡ receiverIn state) (a : Answer) (o t : List ℕ) (n : ℕ) (was : receives.Is (hearing rx (pieceOf piece) (length out)) out a o) (number : n ≡ givenOf (a .why) .number)
       (tells : t ≡ toldOf (a .taken) (a .written) (givenOf (a .why) .place) told) where
     ran : Ran
-    ran = hearing (receiverIn state) piece (length out)
+    ran = hearing (receiverIn state) (pieceOf piece) (length out)
 
     is : receives.Is ran out a o
     unfolding ran
-    is = subst (λ (q : Receiver). receives.Is (hearing q piece (length out)) out a o) loaded was
+    is = subst (λ (q : Receiver). receives.Is (hearing q (pieceOf piece) (length out)) out a o) loaded was
 
     pub hear-kept : a .taken ≡ 0 → Answers (hearCall state piece out told) n state o t
     unfolding hearCall ran is
     hear-kept h =
         rw (le-ltb (length told) 3 enough)
-        (answered-kept ran state out told a o t n is number tells (ltb 0 (ran .taken)) (rw (sym (is .taken) ∙ h)) (hearing-keeps (receiverIn state) piece (length out) (sym (is .taken) ∙ h)))
+        (answered-kept ran state out told a o t n is number tells (ltb 0 (ran .taken)) (rw (sym (is .taken) ∙ h)) (hearing-keeps (receiverIn state) (pieceOf piece) (length out) (sym (is .taken) ∙ h)))
 
     pub hear-written : (l : List ℕ) → (a .taken ≡ 0 → ⊥) → ReceiverStored (a .receiver) state l → Answers (hearCall state piece out told) n l o t
     unfolding hearCall ran is
     hear-written l h f =
         let e = is .taken in
         rw (le-ltb (length told) 3 enough)
-        (answered-written ran state out told a o t n is number tells (ltb 0 (ran .taken)) l (lt-ltb 0 (ran .taken) (omega arith)) f (hearing-reads (receiverIn state) piece (length out) (λ z. h (e ∙ z))))
+        (answered-written ran state out told a o t n is number tells (ltb 0 (ran .taken)) l (lt-ltb 0 (ran .taken) (omega arith)) f (hearing-reads (receiverIn state) (pieceOf piece) (length out) (λ z. h (e ∙ z))))
 
     pub hear-long : (a .taken ≡ 0 → ⊥) → receiverLength ≤ length state
     unfolding ran is
-    hear-long h = receiver-long state (heard-open (receiverIn state) piece (length out) (λ z. h (is .taken ∙ z)))
+    hear-long h = receiver-long state (heard-open (receiverIn state) (pieceOf piece) (length out) (λ z. h (is .taken ∙ z)))
 
 module _ (state out told : List ℕ) where
   pub finish-short : length told < 3 → Answers (finishCall state out told) 8 state out told

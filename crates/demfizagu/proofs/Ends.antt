@@ -2,7 +2,7 @@
 use mathlib.Core.Path.{_≡_, refl, _∙_}
 use mathlib.Core.Bool.{Bool, true, false, cond, _&&_}
 use mathlib.Core.List.{List, [], _∷_, _++_}
-use Prim.Native.Nat.{ℕ, _+_, _-_, _%_, _≤_}
+use Prim.Native.Nat.{ℕ, _+_, _-_, _≤_}
 use native.Mathlib.Omega.{arith}
 use lib.Dec.{eqb, leb, ltb}
 use lib.IntN.{ℤ}
@@ -14,11 +14,14 @@ use Rattle.sender.specs.declared.Sender.{Sender}
 use Rattle.sender.specs.Send as sender
 use Rattle.machine.specs.declared.Receiver.{Receiver}
 use Rattle.machine.specs.Machine.{opened, shut, taking, grown, keptOf, agreedOf, sound}
-use Rattle.machine.specs.Told.{faultOf, givenOf}
+use Rattle.told.specs.Told.{faultOf}
+use Rattle.reasons.specs.Reason.{givenOf, isDone}
 use Rattle.machine.proofs.Sound.{sound-live}
-use Rattle.receiver.specs.declared.Start.{Start}
-use Rattle.receiver.specs.Given.{startFits}
-use Rattle.receiver.specs.Doors.{Ran, opening, symbolsOf, symbolAt, isDone, running, hearing, finishing}
+use Rattle.openings.specs.declared.Start.{Start}
+use Rattle.openings.specs.Given.{startFits}
+use Rattle.receiver.specs.Doors.{Ran, symbolAt, running, hearing, finishing}
+use Rattle.openings.specs.Opening.{opening}
+use Rattle.told.specs.Piece.{Piece}
 use Rattle.stored.specs.State.{readSender, readReceiver}
 
 -- ---- the sender
@@ -112,20 +115,20 @@ running-keeps (y ∷ ys) rx n ws room h =
     let k = running-least ys (o .receiver) (n + 1) (ws ++ o .words) room in
     pick-keeps (running ys (o .receiver) (n + 1) (ws ++ o .words) room) (record { receiver = rx; taken = n; words = ws; why = o .why }) (isDone (o .why)) n rx (λ z. omega arith) refl h
 
-module _ (rx : Receiver) (xs : List ℤ) (room : ℕ) where
-  pub hearing-keeps : hearing rx xs room .taken ≡ 0 → hearing rx xs room .receiver ≡ rx
+module _ (rx : Receiver) (p : Piece) (room : ℕ) where
+  pub hearing-keeps : hearing rx p room .taken ≡ 0 → hearing rx p room .receiver ≡ rx
   unfolding hearing
-  hearing-keeps h = go (sound rx) (eqb (length xs % 4) 0) refl refl where
-    go : (a b : Bool) → sound rx ≡ a → eqb (length xs % 4) 0 ≡ b → hearing rx xs room .receiver ≡ rx
-    go true true x y = rw (x, y) (running-keeps (symbolsOf xs) rx 0 [] room (rw (x, y) at h))
+  hearing-keeps h = go (sound rx) (p .fits) refl refl where
+    go : (a b : Bool) → sound rx ≡ a → p .fits ≡ b → hearing rx p room .receiver ≡ rx
+    go true true x y = rw (x, y) (running-keeps (p .symbols) rx 0 [] room (rw (x, y) at h))
     go true false x y = rw (x, y)
     go false b x y = rw x
 
-  pub hearing-reads : (hearing rx xs room .taken ≡ 0 → ⊥) → readReceiver (hearing rx xs room .receiver) ≡ hearing rx xs room .receiver
+  pub hearing-reads : (hearing rx p room .taken ≡ 0 → ⊥) → readReceiver (hearing rx p room .receiver) ≡ hearing rx p room .receiver
   unfolding hearing
-  hearing-reads h = go (sound rx) (eqb (length xs % 4) 0) refl refl where
-    go : (a b : Bool) → sound rx ≡ a → eqb (length xs % 4) 0 ≡ b → readReceiver (hearing rx xs room .receiver) ≡ hearing rx xs room .receiver
-    go true true x y = rw (x, y) (live-reads (running (symbolsOf xs) rx 0 [] room .receiver) (running-live (symbolsOf xs) rx 0 [] room ∙ sound-live rx x))
+  hearing-reads h = go (sound rx) (p .fits) refl refl where
+    go : (a b : Bool) → sound rx ≡ a → p .fits ≡ b → readReceiver (hearing rx p room .receiver) ≡ hearing rx p room .receiver
+    go true true x y = rw (x, y) (live-reads (running (p .symbols) rx 0 [] room .receiver) (running-live (p .symbols) rx 0 [] room ∙ sound-live rx x))
     go true false x y = absurd (h (rw (x, y)))
     go false b x y = absurd (h (rw x))
 

@@ -21,9 +21,11 @@ use Rattle.sender.specs.declared.Sender.{Sender}
 use Rattle.sender.specs.Send as sender
 use Rattle.machine.specs.declared.Receiver.{Receiver}
 use Rattle.machine.specs.Machine as machine
-use Rattle.machine.specs.Told.{givenOf}
-use Rattle.receiver.specs.declared.Start.{Start}
-use Rattle.receiver.specs.declared.Start.the-variants.{Free, At}
+use Rattle.reasons.specs.Reason.{givenOf}
+use Rattle.openings.specs.declared.Start.{Start}
+use Rattle.openings.specs.declared.Start.the-variants.{Free, At}
+use Rattle.openings.specs.Opening.{opening}
+use Rattle.told.specs.Piece.{pieceOf}
 use Rattle.receiver.specs.Doors as doors
 use Rattle.stored.specs.Layout.{senderLength, receiverLength}
 use Rattle.stored.specs.State.{senderIn, wordsOfSender, receiverIn, wordsOfReceiver}
@@ -48,7 +50,7 @@ startAt n = cond (eqb n 16) Free (At n)
 
 unfoldable pub receiverOpening : List ℕ → ℕ → ℕ → Start → Opening Receiver
 receiverOpening state u window start =
-    let o = doors.opening u window start in
+    let o = opening u window start in
     cond (ltb (length state) receiverLength)
     (record { number = 8; state = state; end = receiverIn state })
     (record { number = givenOf (o .why) .number; state = wordsOfReceiver (o .receiver) ++ drop receiverLength state; end = o .receiver })
@@ -102,7 +104,7 @@ withTold c state out told = cond (ltb (length told) 3) (record { number = 8; sta
 -- where no symbol was taken the state stays as it was
 unfoldable pub hearCall : List ℕ → List ℤ → List ℕ → List ℕ → Call
 hearCall state piece out told =
-    let r = doors.hearing (receiverIn state) piece (length out) in
+    let r = doors.hearing (receiverIn state) (pieceOf piece) (length out) in
     withTold (callOf (ltb 0 (r .taken)) r state out told) state out told
 
 -- where the finish was refused the state stays as it was

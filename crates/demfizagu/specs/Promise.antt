@@ -2,20 +2,28 @@
 -- input, and the state then reads as the end that the door gave. As each is an equation, any two results are equal.
 --   Opens, Sends, Answers, Samples, Converts    one for each family of functions: openings; sending; hearing and finishing; one
 --                                               sample; a list of them
+--   OpensAs                                     what an opening gave, put into a state
 use Prim.Native.Nat.{ℕ}
 use mathlib.Core.Path.{_≡_}
 use mathlib.Core.List.{List, _++_}
 use lib.IntN.{ℤ}
 use lib.ListN.{length, drop}
+use Rattle.openings.specs.declared.Start.{Start}
+use Rattle.openings.specs.declared.Opened.{Opened}
+use Rattle.openings.specs.Opening as opening
 use Rattle.samples.specs.Given.{GivenSample}
 use Rattle.demfizagu.specs.declared.Heard.{Heard}
 use Rattle.stored.specs.State.{senderIn, receiverIn}
-use Rattle.demfizagu.specs.Calls.{Opening, Sending, Call, placeOr0, Sampling, Conversion, SamplesCall}
+use Rattle.demfizagu.specs.Calls.{Opening, receiverOpening, Sending, Call, placeOr0, Sampling, Conversion, SamplesCall}
 
 pub record Opens {End : Type 0} (read : List ℕ → End) (c : Opening End) (n : ℕ) (state : List ℕ) : Type 0 where
   pub number : n ≡ c .number
   pub state-is : state ≡ c .state
   pub reads : read state ≡ c .end
+
+-- whatever opening gave o, the state holds what that opening gives
+abbrev pub OpensAs : Opened → List ℕ → ℕ → List ℕ → Type 0
+OpensAs o state n after = (u w : ℕ) (b : Start) → opening.Opens u w b o → Opens receiverIn (receiverOpening state u w b) n after
 
 pub record Sends (c : Sending) (n : ℕ) (state : List ℕ) (out : List ℤ) : Type 0 where
   pub number : n ≡ c .number

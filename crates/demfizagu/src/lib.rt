@@ -2,7 +2,8 @@
 //
 // Each function reads the state, calls the door that it wraps, and writes the state back where it changed. A state is read as closed
 // where it is too short, its tag is another, or the record in it is not sound (crate stored).
-use receiver::Start;
+use openings::Opened;
+use openings::Start;
 use samples::Pair;
 use samples::Sample;
 use stored::layout;
@@ -16,10 +17,10 @@ ghost use mathlib.Core.List.{[]};
 ghost use Prim.Native.Nat.{_+_, _%_, _≤_};
 ghost use lib.IntN.{pos};
 ghost use lib.ListN.{length, set};
-ghost use Rattle.receiver.specs.Given.{plainWindow};
+ghost use Rattle.openings.specs.Given.{plainWindow};
 ghost use Rattle.samples.specs.Heard.{heardSample};
 ghost use Rattle.demfizagu.specs.Calls.{senderOpening, startAt, receiverOpening, sendCall, toldOf, hearCall, finishCall, pendingIn, openIn, sampleCall, converting, samplesCall};
-ghost use Rattle.demfizagu.specs.Promise.{Opens, Sends, Answers, HeardIs, Samples, ConvertsTo, Converts};
+ghost use Rattle.demfizagu.specs.Promise.{Opens, OpensAs, Sends, Answers, HeardIs, Samples, ConvertsTo, Converts};
 ghost use Rattle.stored.specs.Layout.{senderLength, receiverLength};
 ghost use Rattle.stored.specs.State.{senderIn, receiverIn};
 
@@ -74,18 +75,17 @@ pub extern "C" fn demfizagu_send(state: &mut [u64], word: u32, out: &mut [i32]) 
     n
 }
 
-// Opens a receiver in a state that is long enough.
-fn opened(state: &mut [u64], u: u32, window: u32, start: Start) -> u32
-    ensures { λ r. ⌜ Opens receiverIn (receiverOpening (now (state .entry)) u window start) r (now (state .exit)) ⌝ }
+// What an opening gave, in a state that is long enough.
+fn opened(state: &mut [u64], o: Opened) -> u32
+    ensures { λ r. ⌜ OpensAs o (now (state .entry)) r (now (state .exit)) ⌝ }
 {
     if state.len() < layout::RECEIVER_WORDS {
         return 8;
     }
-    let o = receiver::open_receiver(u, window, start);
     let rx = o.receiver;
     let why = o.why;
     store_receiver(rx, state);
-    receiver::number(why)
+    reasons::number(why)
 }
 
 #[no_mangle]
@@ -93,17 +93,17 @@ pub extern "C" fn demfizagu_receiver_open(state: &mut [u64], u: u32, window: u32
     ensures { λ r. ⌜ Opens receiverIn (receiverOpening (now (state .entry)) u window (startAt start)) r (now (state .exit)) ⌝ }
 {
     if start == 16 {
-        return opened(state, u, window, Start::Free);
+        return opened(state, openings::open_receiver(u, window, Start::Free));
     }
-    opened(state, u, window, Start::At(start))
+    opened(state, openings::open_receiver(u, window, Start::At(start)))
 }
 
-// The window of the plain opening and a free start.
+// The plain opening of the receiver.
 #[no_mangle]
 pub extern "C" fn demfizagu_receiver_open_plain(state: &mut [u64], u: u32) -> u32
     ensures { λ r. ⌜ Opens receiverIn (receiverOpening (now (state .entry)) u plainWindow Start.Free) r (now (state .exit)) ⌝ }
 {
-    opened(state, u, receiver::PLAIN_WINDOW, Start::Free)
+    opened(state, openings::open_plain(u))
 }
 
 // The first three places of `told`.
@@ -137,8 +137,8 @@ pub extern "C" fn demfizagu_hear(
     let mut picks = rx.picks;
     let a = receiver::hear_lent(live, core, piece, &mut sums, &mut planes, &mut picks, out);
     let why = a.why;
-    let n = receiver::number(why);
-    let place = receiver::place(why);
+    let n = reasons::number(why);
+    let place = reasons::place(why);
     tell(told, a.taken, a.written, place as usize);
     if a.taken == 0 {
         return n;
@@ -158,8 +158,8 @@ pub extern "C" fn demfizagu_finish(state: &mut [u64], out: &mut [u32], told: &mu
     }
     let a = receiver::finish(load_receiver(state), out);
     let why = a.why;
-    let n = receiver::number(why);
-    let place = receiver::place(why);
+    let n = reasons::number(why);
+    let place = reasons::place(why);
     tell(told, a.taken, a.written, place as usize);
     if n != 0 {
         return n;
@@ -174,7 +174,7 @@ pub extern "C" fn demfizagu_finish(state: &mut [u64], out: &mut [u32], told: &mu
 pub extern "C" fn demfizagu_pending(state: &[u64]) -> u32
     ensures { λ r. ⌜ r ≡ pendingIn (now (state .entry)) ⌝ }
 {
-    let n = receiver::pending(load_receiver(state));
+    let n = openings::pending(load_receiver(state));
     n as u32
 }
 
@@ -182,7 +182,7 @@ pub extern "C" fn demfizagu_pending(state: &[u64]) -> u32
 pub extern "C" fn demfizagu_is_open(state: &[u64]) -> u32
     ensures { λ r. ⌜ r ≡ openIn (now (state .entry)) ⌝ }
 {
-    if receiver::is_open(load_receiver(state)) {
+    if openings::is_open(load_receiver(state)) {
         return 1;
     }
     if sender::is_open(load_sender(state)) {

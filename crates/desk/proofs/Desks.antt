@@ -20,17 +20,16 @@ use Rattle.samples.specs.Heard.{heardCoordinate, heardBits, bothOrFault, heardS
 use Rattle.sender.specs.declared.Sender.{Sender}
 use Rattle.sender.specs.Send.{sound, after, symbolFor, four, sending, Given}
 use Rattle.wei.specs.Word.{isWord}
-use Rattle.machine.specs.Told.{givenOf}
+use Rattle.reasons.specs.Reason.{givenOf}
 use Rattle.receiver.specs.declared.Answer.{Answer}
 use Rattle.receiver.specs.Doors.{Ran}
 use Rattle.receiver.specs.Promise.{Is}
 use Rattle.desk.specs.declared.Desk.{Desk}
 use Rattle.desk.specs.declared.Done.{Done}
-use Rattle.answers.specs.Answer.{answerRoom}
+use Rattle.answers.specs.Answer.{answerRoom, firstFour, sentLine, heardLine, sampleLine}
 use Rattle.desk.specs.Room.{Lent, Ready}
 use Rattle.phrases.specs.Phrase.{decimal, whole, afterSpaces}
-use Rattle.answers.specs.Answer.{firstFour, sentLine, heardLine, sampleLine}
-use Rattle.desk.specs.Desk.{Result, says, withSender, sendGives, lent, acting, Does, Acts}
+use Rattle.desk.specs.Desk.{Result, says, withSender, sendGives, lent, Does, Acts}
 use Rattle.phrases.proofs.Phrases.{puts-as}
 
 -- ---- what was done

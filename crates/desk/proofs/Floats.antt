@@ -1,6 +1,6 @@
 -- Which patterns of 32 bits are no NaN's, by one comparison; and infinity is heard as the bits of a NaN are.
 use Prim.Native.Nat.{ℕ, _%_, _≤_, _<_}
-use mathlib.Core.Path.{_≡_, refl, sym, subst, _∙_}
+use mathlib.Core.Path.{_≡_, sym, subst, _∙_}
 use mathlib.Core.Bool.{Bool, not}
 use borrow.Author.Tests.{lt-ltb, le-ltb}
 use lib.Dec.{T}

@@ -22,13 +22,14 @@ use Rattle.sender.specs.declared.Sender.{Sender}
 use Rattle.sender.specs.Send as sender
 use Rattle.machine.specs.declared.Receiver.{Receiver}
 use Rattle.machine.specs.Machine as machine
-use Rattle.machine.specs.Told.{givenOf}
-use Rattle.receiver.specs.declared.Start.the-variants.{Free, At}
+use Rattle.reasons.specs.Reason.{givenOf}
+use Rattle.openings.specs.declared.Start.the-variants.{Free, At}
+use Rattle.openings.specs.Opening as openings
+use Rattle.told.specs.Piece.{pieceOf}
 use Rattle.receiver.specs.Doors as receiver
 use Rattle.desk.specs.declared.Desk.{Desk}
 use Rattle.desk.specs.declared.Done.{Done}
-use Rattle.answers.specs.Answer.{answerRoom}
-use Rattle.answers.specs.Answer.{numberLine, sentLine, heardLine, sampleLine, unreadLine}
+use Rattle.answers.specs.Answer.{answerRoom, numberLine, sentLine, heardLine, sampleLine, unreadLine}
 
 abbrev pub closedDesk : Desk
 closedDesk = record { sender = sender.shut; receiver = machine.shut }
@@ -52,7 +53,7 @@ senderGives d g = says (withSender d (g .sender)) (numberLine (g .number))
 abbrev pub sendGives : Desk → sender.Given → Result
 sendGives d g = says (withSender d (g .sender)) (sentLine (g .number) (g .output))
 
-abbrev pub openingGives : Desk → receiver.Opening → Result
+abbrev pub openingGives : Desk → openings.Opening → Result
 openingGives d o = says (withReceiver d (o .receiver)) (numberLine (givenOf (o .why) .number))
 
 abbrev pub ranGives : Desk → receiver.Ran → Result
@@ -69,10 +70,10 @@ acting d request.Nothing cs = says d []
 acting d request.Unread cs = says d unreadLine
 acting d (request.Sender u) cs = senderGives d (sender.opening u)
 acting d (request.Send w cap) cs = sendGives d (sender.sending (d .sender) w (lent cap))
-acting d (request.Plain u) cs = openingGives d (receiver.plainOpening u)
-acting d (request.Free u w) cs = openingGives d (receiver.opening u w Free)
-acting d (request.At u w s) cs = openingGives d (receiver.opening u w (At s))
-acting d (request.Piece cap n) cs = ranGives d (receiver.hearing (d .receiver) (take n cs) cap)
+acting d (request.Plain u) cs = openingGives d (openings.plainOpening u)
+acting d (request.Free u w) cs = openingGives d (openings.opening u w Free)
+acting d (request.At u w s) cs = openingGives d (openings.opening u w (At s))
+acting d (request.Piece cap n) cs = ranGives d (receiver.hearing (d .receiver) (pieceOf (take n cs)) cap)
 acting d (request.Finish cap) cs = ranGives d (receiver.finishing (d .receiver) cap)
 acting d (request.Sample x y) cs = says d (sampleLine (bothOrFault (heardBits x) (heardBits y)))
 acting d request.Pending cs = says d (numberLine (pendingOf (d .receiver)))

@@ -26,7 +26,7 @@ pub fn closed() -> Desk
 {
     Desk {
         sender: sender::closed_sender(),
-        receiver: receiver::closed_receiver(),
+        receiver: openings::closed_receiver(),
     }
 }
 

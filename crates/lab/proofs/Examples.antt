@@ -17,7 +17,7 @@ use Rattle.points.specs.Turn.{pointOf}
 use Rattle.points.specs.Pair.{firstPoint, secondPoint}
 use Rattle.sender.specs.Send.{opening, sending, after, four}
 use Rattle.machine.specs.Machine.{shut, sound}
-use Rattle.machine.specs.Told.{reason}
+use Rattle.reasons.specs.Reason.{reason}
 use Rattle.phrases.specs.Phrase.{decimal, whole, reasonText, saidText}
 use Rattle.answers.specs.Answer.{numberLine, sentLine, heardLine, sampleLine}
 use Rattle.desk.specs.Desk.{closedDesk, acting}

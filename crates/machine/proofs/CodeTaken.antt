@@ -26,8 +26,8 @@ use Rattle.machine.specs.declared.Core.{Core}
 use Rattle.machine.specs.declared.Receiver.{Receiver}
 use Rattle.machine.specs.declared.Outlook.{Outlook}
 use Rattle.machine.specs.declared.Took.{Took}
-use Rattle.machine.specs.declared.Why.{Why}
-use Rattle.machine.specs.declared.Why.the-variants.{Done, TooMany, Full, NoRoom}
+use Rattle.reasons.specs.declared.Why.{Why}
+use Rattle.reasons.specs.declared.Why.the-variants.{Done, TooMany, Full, NoRoom}
 use Rattle.planes.specs.Planes.{wordsBefore, movedOf, sameAt, oldest}
 use Rattle.planes.proofs.Oldest.{oldest-le}
 use Rattle.select.specs.Select.{sixteen, sumAt, stepAt, prevIn}

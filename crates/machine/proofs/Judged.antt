@@ -16,13 +16,15 @@ use Rattle.trellis.specs.Words.{wordsFrom}
 use Rattle.nearest.specs.declared.Received.{Received}
 use Rattle.nearest.specs.Line.{BothInRange}
 use Rattle.machine.specs.declared.Receiver.{Receiver}
-use Rattle.machine.specs.declared.Why.{Why}
-use Rattle.machine.specs.declared.Why.the-variants.{Done, Full, TooMany, NoRoom}
-use Rattle.machine.specs.Machine.{Outcome, refused, taking, agreedOf, keptOf, releasedOf, grown}
-use Rattle.machine.specs.Told.{Told, withHeard, speakerOf, pendingAfter, Reason, reason, givenOf, judgeSymbol, Fine, machineOf}
+use Rattle.reasons.specs.declared.Why.{Why}
+use Rattle.reasons.specs.declared.Why.the-variants.{Done, Full, TooMany, NoRoom}
+use Rattle.machine.specs.Machine.{Outcome, refused, taking, agreedOf, keptOf, releasedOf, grown, machineOf}
+use Rattle.told.specs.Told.{Told, withHeard, speakerOf, pendingAfter, judgeSymbol, Fine}
+use Rattle.reasons.specs.Reason.{Reason, reason, givenOf}
 use Rattle.machine.proofs.Step.{Stepped}
 use Rattle.machine.proofs.Owes.{owes, owes-step}
-use Rattle.machine.proofs.Telling.{telling-machine, telling-fine, no-fault}
+use Rattle.machine.proofs.Telling.{telling-machine}
+use Rattle.told.proofs.Telling.{telling-fine, no-fault}
 
 taking-many : (rx : Receiver) (y : Two Received) (room : ℕ) → eqb (rx .core .taken) 4294967295 ≡ true → taking rx y room ≡ refused rx TooMany
 unfolding taking
@@ -84,7 +86,7 @@ module _ (t : Told) (f : Fine t) (y : Two Received) (r : BothInRange y) (room : 
           record {
             why = refl;
             when-refused = λ z. absurd (never (sym z));
-            when-taken = λ z. (refl, sym (telling-machine t f y), telling-fine t f y r few (ltb-false (t .window) (pendingAfter t (y ∷ ys)) e));
+            when-taken = λ z. (refl, sym (telling-machine t y), telling-fine t f y r few (ltb-false (t .window) (pendingAfter t (y ∷ ys)) e));
           }
 
   pub judged : Judged t y (judgeSymbol t (t .heard) y room) (taking (machineOf t) y room)

@@ -3,38 +3,34 @@
 --   sound-told                           the machine takes the record for sound
 --   width-told .. pending-fits           the record's numbers
 --   kept-told, agreed-told, words-told   one more symbol: how many stay pending, how many words are released, and which
---   no-fault, no-fault-range             no coordinate is at fault exactly if all are in range
 --   Judged, taking-told                  what is said to a symbol and what becomes of it are what the meaning judges
---   machine-same, telling-judge          the receiver told other symbols: the same machine after ys, the same judge
---   grown-told, fine-told                told one symbol more
+--   machine-same                         the receiver told other symbols: the same machine after ys
+--   grown-told                           told one symbol more
 --   last-told, rest-many                 what finish writes, and how many words
 --   fresh-kept                           what was pending and the new symbol are released or stay pending
 --   fresh-few, fresh-most, rest-most     a symbol releases no more than were pending; neither it nor a finish writes more than 64
---   fresh-below, rest-below              every word has 3 + 2u bits
---   speaks                               what is spoken stays spoken and begins the answer
---   unheard, opened-told, fine-opened    an opening
+--   opened-told                          an opening
 use mathlib.Core.Path.{_≡_, refl, sym, ap, _∙_}
 use mathlib.Core.Bool.{true}
-use mathlib.Core.List.{List, [], _∷_}
-use Prim.Native.Nat.{ℕ, _+_, _*_, _^_, _≤_, _<_}
+use mathlib.Core.List.{_∷_}
+use Prim.Native.Nat.{ℕ, _+_, _≤_, _<_}
 use native.Mathlib.Omega.{arith}
 use lib.ListN.{length}
-use Rattle.calls.specs.Calls.{Speaks, fresh, rest}
-use Rattle.trellis.specs.Lists.{Every}
-use Rattle.trellis.specs.Measure.{Start, GoodStart, Two}
+use Rattle.calls.specs.Calls.{fresh, rest}
+use Rattle.trellis.specs.Measure.{Start, Two}
 use Rattle.trellis.specs.Words.{wordsFrom}
-use Rattle.trellis.proofs.Lists.{every-drop}
-use Rattle.trellis.proofs.Spoken.{grows, final, spoken-none, spoken-reach, spoken-below, answer-below}
+use Rattle.trellis.proofs.Spoken.{spoken-reach}
 use Rattle.nearest.specs.declared.Received.{Received}
 use Rattle.nearest.proofs.Laws.{line-chooses}
 use Rattle.nearest.specs.Line.{BothInRange, lineMeasure, lineChoice}
-use Rattle.machine.specs.Machine.{sound, agreedOf, keptOf, releasedOf, grown, taking, lastWords, opened}
-use Rattle.machine.specs.Told.{Told, withHeard, speakerOf, pendingAfter, judgeSymbol, Fine, machineAfter, machineOf}
+use Rattle.machine.specs.Machine.{sound, agreedOf, keptOf, releasedOf, grown, taking, lastWords, opened, machineAfter, machineOf}
+use Rattle.told.specs.Told.{Told, withHeard, speakerOf, pendingAfter, judgeSymbol, Fine}
 use Rattle.machine.proofs.Owes.{owes, owes-step, owes-sound}
 use Rattle.machine.proofs.Finish.{last-words, last-many}
-use Rattle.machine.proofs.Telling.{telling-machine, telling-fine}
+use Rattle.machine.proofs.Telling.{telling-machine}
+use Rattle.told.proofs.Telling.{unheard}
 use Rattle.machine.proofs.Judged.{judged}
-pub use Rattle.machine.proofs.Telling.{machine-same, telling-judge, no-fault, no-fault-range}
+pub use Rattle.machine.proofs.Telling.{machine-same}
 pub use Rattle.machine.proofs.Judged.{Judged}
 
 module _ (t : Told) (f : Fine t) where
@@ -78,11 +74,8 @@ module _ (t : Told) (f : Fine t) where
     pub fresh-most : length (fresh (speakerOf t) (t .heard) y) ≤ 64
     fresh-most = omega (arith, fresh-few, pending-fits, f .small-window)
 
-    pub fine-told : pendingAfter t (y ∷ t .heard) ≤ t .window → Fine (withHeard t (y ∷ t .heard))
-    fine-told h = telling-fine t f y r few h
-
   pub grown-told : (y : Two Received) → machineOf (withHeard t (y ∷ t .heard)) ≡ grown (machineOf t) y
-  grown-told y = telling-machine t f y
+  grown-told y = telling-machine t y
 
   pub taking-told : (y : Two Received) → BothInRange y → (room : ℕ) → Judged t y (judgeSymbol t (t .heard) y room) (taking (machineOf t) y room)
   taking-told y r room = judged t f y r room
@@ -97,33 +90,7 @@ module _ (t : Told) (f : Fine t) where
   pub rest-most : length (rest (speakerOf t) (t .heard)) ≤ 64
   rest-most = omega (arith, rest-many, pending-fits, f .small-window)
 
-  -- ── words ──
-  pub fresh-below : (ys : List (Two Received)) (y : Two Received) → Every (λ n. n < 2 ^ (3 + 2 * t .u)) (fresh (speakerOf t) ys y)
-  fresh-below ys y =
-      every-drop (λ n. n < 2 ^ (3 + 2 * t .u)) (length (speakerOf t .spoken ys)) (speakerOf t .spoken (y ∷ ys))
-      (spoken-below (t .u) lineMeasure (lineChoice (t .u)) (line-chooses (t .u)) (t .start) (f .good-start) (y ∷ ys))
-
-  pub rest-below : (ys : List (Two Received)) → Every (λ n. n < 2 ^ (3 + 2 * t .u)) (rest (speakerOf t) ys)
-  rest-below ys =
-      every-drop (λ n. n < 2 ^ (3 + 2 * t .u)) (length (speakerOf t .spoken ys)) (speakerOf t .answered ys)
-      (answer-below (t .u) lineMeasure (lineChoice (t .u)) (line-chooses (t .u)) (t .start) (f .good-start) ys)
-
-  pub speaks : Speaks (speakerOf t)
-  speaks =
-      record {
-        starts = spoken-none (t .u) lineMeasure (lineChoice (t .u)) (line-chooses (t .u)) (t .start) (f .good-start);
-        grows = λ ys y. grows (t .u) lineMeasure (lineChoice (t .u)) (line-chooses (t .u)) (t .start) (f .good-start) (y ∷ []) ys;
-        within = λ ys. final (t .u) lineMeasure (lineChoice (t .u)) (line-chooses (t .u)) (t .start) (f .good-start) [] ys;
-      }
-
 -- ── an opening ──
-module _ (u window : ℕ) (b : Start) where
-  abbrev pub unheard : Told
-  unheard = record { u = u; window = window; start = b; heard = [] }
-
-  pub opened-told : machineOf unheard ≡ opened u window b
-  unfolding machineAfter
-  opened-told = refl
-
-  pub fine-opened : u ≤ 8 → 1 ≤ window → window ≤ 64 → GoodStart b → Fine unheard
-  fine-opened h k l g = record { width = h; some-window = k; small-window = l; good-start = g; few = omega arith; each = tt }
+pub opened-told : (u window : ℕ) (b : Start) → machineOf (unheard u window b) ≡ opened u window b
+unfolding machineAfter
+opened-told u window b = refl

@@ -13,10 +13,11 @@
 --   grown rx y                 the receiver with y taken
 --   Outcome, taking            what happens to y where the output has `room` places: refused 7, 6, 8 in this order, or taken
 --   lastSymbols rx             the pending symbols of the answer, the oldest first
+--   machineOf t                the receiver after what it has been told; machineAfter t ys, after the symbols ys alone
 --   sound rx                   the record is one that the functions can work on: anything else is answered like a closed receiver
 use Prim.Native.Nat.{ℕ, _+_, _-_, _*_, _%_, _^_}
 use mathlib.Core.Bool.{Bool, true, false, cond, _&&_}
-use mathlib.Core.List.{List, [], map}
+use mathlib.Core.List.{List, [], _∷_, map}
 use lib.Dec.{eqb, leb, ltb}
 use lib.ListN.{take, replicate}
 use Rattle.trellis.specs.Search.{range}
@@ -29,10 +30,11 @@ use Rattle.nearest.specs.Found.{weighedOf}
 use Rattle.planes.specs.Planes.{subsetIn, movedOf, sameAt, oldest}
 use Rattle.machine.specs.declared.Core.{Core}
 use Rattle.machine.specs.declared.Receiver.{Receiver}
-use Rattle.machine.specs.declared.Why.{Why}
-use Rattle.machine.specs.declared.Why.the-variants.{Done, TooMany, Full, NoRoom}
+use Rattle.reasons.specs.declared.Why.{Why}
+use Rattle.reasons.specs.declared.Why.the-variants.{Done, TooMany, Full, NoRoom}
 use Rattle.select.specs.Select.{limit, sixteen, sumAt, stepAt, prevIn, endOf, allUpTo}
 use Rattle.picks.specs.Picks.{numbersOf, symbolIn, keptIn}
+use Rattle.told.specs.Told.{Told}
 
 -- ---- a fresh receiver and a closed one
 
@@ -142,3 +144,12 @@ soundCore c = leb (c .u) 8 && (leb 1 (c .window) && (leb (c .window) 64 && (ltb 
 
 unfoldable pub sound : Receiver → Bool
 sound rx = rx .live && (soundCore (rx .core) && allUpTo (topSum (rx .core .taken)) (rx .sums))
+
+-- ---- after a history
+
+unfoldable pub machineAfter : Told → List (Two Received) → Receiver
+machineAfter t [] = opened (t .u) (t .window) (t .start)
+machineAfter t (y ∷ ys) = grown (machineAfter t ys) y
+
+abbrev pub machineOf : Told → Receiver
+machineOf t = machineAfter t (t .heard)

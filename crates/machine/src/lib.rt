@@ -7,6 +7,7 @@
 // The arrays are lent and copied nowhere: a caller that holds a receiver takes it apart once for a whole piece. Every function
 // equals a definition of specs/ on the same numbers, whatever the lists hold.
 use nearest::Received;
+use reasons::Why;
 ghost use mathlib.Core.Path.{_≡_};
 ghost use mathlib.Core.List.{[], _++_};
 ghost use Prim.Native.Nat.{_+_, _%_, _≤_, _<_};
@@ -36,20 +37,6 @@ pub struct Receiver {
     pub sums: [u64; 16],
     pub planes: [u64; 48],
     pub picks: [u64; 72],
-}
-
-// Why a call ended. A bad sample carries the place of the first coordinate at fault, 0 to 3.
-pub enum Why {
-    Done,
-    BadWidth,
-    BadWindow,
-    BadStart,
-    BadSample(u32),
-    Full,
-    TooMany,
-    NoRoom,
-    Closed,
-    Uneven,
 }
 
 // What became of a symbol: the numbers of the receiver after it, and how many words it wrote.

@@ -18,7 +18,7 @@ use Rattle.io.specs.Digits.{glyph, digits, Fewest}
 use Rattle.text.specs.Bytes.{bytes}
 use Rattle.page.specs.Page.{Puts, Numeral, PutsNumber, PutsWhole, signText}
 use Rattle.page.proofs.Pages.{few}
-use Rattle.machine.specs.Told.{Reason}
+use Rattle.reasons.specs.Reason.{Reason}
 use Rattle.phrases.specs.Phrase.{decimalIn, decimal, whole, afterSpaces, placeText, reasonText, saidText}
 
 -- ---- numbers

@@ -13,7 +13,7 @@ use lib.Dec.{eqb, ltb}
 use lib.IntN.{ℤ, natAbs}
 use Rattle.text.specs.Bytes.{bytes}
 use Rattle.page.specs.Page.{signText}
-use Rattle.machine.specs.Told.{Reason}
+use Rattle.reasons.specs.Reason.{Reason}
 
 -- '0' is 48
 abbrev pub decimalIn : ℕ → ℕ → List ℕ

@@ -1,13 +1,13 @@
 // The parts that answers are made of, put into the page: what each one says is in specs/Phrase.antt. Every function asks for the
 // room that its text can take, and answers with the place after it. The numbers are those that `text` puts.
-use machine::Why;
+use reasons::Why;
 ghost use mathlib.Core.List.{_++_, map};
 ghost use mathlib.Core.Path.{_≡_};
 ghost use Prim.Native.Nat.{_+_, _≤_};
 ghost use lib.ListN.{length};
 ghost use Rattle.text.specs.Bytes.{bytes};
 ghost use Rattle.page.specs.Page.{Puts};
-ghost use Rattle.machine.specs.Told.{givenOf};
+ghost use Rattle.reasons.specs.Reason.{givenOf};
 ghost use Rattle.phrases.specs.Phrase.{decimal, whole, afterSpaces, placeText, reasonText, saidText, wordsRoom};
 
 pub fn end(page: &mut [u8], at: usize) -> usize
@@ -60,12 +60,12 @@ pub fn reason(page: &mut [u8], at: usize, why: Why) -> usize
     requires { ⌜ at + 47 ≤ length (now page) ⌝ }
     ensures { λ r. ⌜ Puts (now (page .entry)) at (reasonText (givenOf why)) r (now (page .exit)) ⌝ }
 {
-    let n = receiver::number(why);
+    let n = reasons::number(why);
     let p = page::put_number(page, at, n as u64);
     if n != 5 {
         return p;
     }
-    place(page, p, receiver::place(why) as u64)
+    place(page, p, reasons::place(why) as u64)
 }
 
 // Symbols taken and words written, a space after each.

@@ -34,7 +34,7 @@ use Rattle.sender.specs.declared.Sender.{Sender}
 use Rattle.sender.specs.Send.{after, four}
 use Rattle.sender.specs.Run as sender
 use Rattle.sender.proofs.Exactly.{one, done, refused-keeps, opened-with}
-use Rattle.receiver.specs.Doors.{symbolsOf}
+use Rattle.told.specs.Piece.{symbolsOf}
 use Rattle.promises.specs.Clean.{onLine, allOnLine, heardAt, heardExactly, cleanly, floatsHeard, samplesAt}
 
 -- ---- distance 0

@@ -13,37 +13,39 @@
 -- Every number is reached by a computed case (proofs/Reached). That an opening and calls give an end with 4,294,967,295 symbols taken,
 -- which answers 7 to every good symbol, is proved in proofs/History (`full`).
 use mathlib.Core.Path.{_≡_, refl, sym, ap, subst, _∙_}
-use mathlib.Core.Bool.{Bool, true, false, cond, _&&_}
+use mathlib.Core.Bool.{false}
 use mathlib.Core.Logic.{_↔_, ⊎-elim}
 use mathlib.Core.List.{List, _++_, reverse}
 use Prim.Native.Nat.{ℕ, _-_, _<_}
 use native.Mathlib.Omega.{arith}
-use lib.Dec.{leb, ltb}
 use lib.IntN.{ℤ}
 use lib.ListN.{length, take}
 use Rattle.trellis.specs.Measure.{Two}
 use Rattle.nearest.specs.declared.Received.{Received}
 use Rattle.nearest.specs.Line.{BothInRange}
-use Rattle.machine.specs.declared.Receiver.{Receiver}
-use Rattle.machine.specs.declared.Why.the-variants.{Done, BadWidth, BadWindow, BadStart, NoRoom, Closed}
-use Rattle.machine.specs.Machine.{opened, shut, lastWords, sound}
-use Rattle.machine.specs.Told.{Told, Reason, reason, judgeSymbol, Fine, machineOf, givenOf}
-use Rattle.machine.proofs.Owed.{sound-told}
-use Rattle.machine.proofs.Sound.{sound-live}
+use Rattle.told.specs.Told.{Told, judgeSymbol, Fine}
+use Rattle.reasons.specs.Reason.{Reason, reason, givenOf}
 use Rattle.sender.specs.declared.Sender.{Sender}
 use Rattle.sender.specs.declared.Sent.{Sent}
 use Rattle.sender.specs.Send as sender
 use Rattle.sender.specs.Promise as sender-promise
 use Rattle.sender.proofs.Exactly.{refused-keeps}
-use Rattle.receiver.specs.declared.Start.{Start}
-use Rattle.receiver.specs.declared.Opened.{Opened}
+use Rattle.openings.specs.declared.Start.{Start}
+use Rattle.openings.specs.declared.Opened.{Opened}
 use Rattle.receiver.specs.declared.Answer.{Answer}
-use Rattle.receiver.specs.Given.{startOf, startFits}
-use Rattle.receiver.specs.Doors.{Opening, notOpened, opening, symbolsOf, Ran, stopped, hearing, finishing, End}
-use Rattle.receiver.specs.Meaning.{finishOwed}
-use Rattle.receiver.specs.Promise.{Opens, Is, Hears, Finishes}
+use Rattle.openings.specs.Opening.{Receiver, shut, machineOf, Opens}
+use Rattle.openings.proofs.Openings.{shut-live}
+use Rattle.receiver.proofs.Left.{shut-hears, shut-finishes}
+use Rattle.promises.proofs.Ends.{Known, end-known, known-live}
+pub use Rattle.openings.proofs.Openings.{opens-left}
+pub use Rattle.receiver.proofs.Left.{finishes-left}
+use Rattle.told.specs.Piece.{Piece}
+use Rattle.receiver.specs.Doors.{Ran, stopped, hearing, finishing}
+use Rattle.promises.specs.End.{End}
+use Rattle.told.specs.Owed.{finishOwed}
+use Rattle.receiver.specs.Promise.{Hears, Finishes}
 use Rattle.promises.specs.Table as table
-use Rattle.promises.proofs.Numbers.{sender-opening-case, sender-opening-is, sending-case, sending-is, opening-case, opening-is, said-case, said-is, piece-case, piece-one, finish-case, finish-is, Known, shut-hears, shut-finishes, end-known}
+use Rattle.promises.proofs.Numbers.{sender-opening-case, sender-opening-is, sending-case, sending-is, opening-case, opening-is, said-case, said-is, piece-case, piece-one, finish-case, finish-is, apart}
 
 -- ---- the sender
 
@@ -63,36 +65,15 @@ module _ (u w : ℕ) (b : Start) (r : Opened) (p : Opens u w b r) where
   pub receiver-opens : (k : ℕ) → (givenOf (r .why) .number ≡ k) ↔ table.ReceiverOpens u w b k
   receiver-opens k = (λ e. subst (table.ReceiverOpens u w b) (sym (p .owed) ∙ e) (opening-case u w b), λ h. p .owed ∙ opening-is u w b k h)
 
-  pub opens-left : (givenOf (r .why) .number ≡ 0 → ⊥) → r .receiver ≡ shut
-  unfolding opening
-  opens-left z = p .always-receiver ∙ go (leb u 8) (leb 1 w && leb w 64) (startFits b) (λ e. z (ap (λ (g : Reason). g .number) (p .always-given) ∙ e))
-    where
-      go : (i j k : Bool) →
-          let g : Opening = cond i (cond j (cond k (record { receiver = opened u w (startOf b); why = Done }) (notOpened BadStart)) (notOpened BadWindow)) (notOpened BadWidth) in
-          (givenOf (g .why) .number ≡ 0 → ⊥) → g .receiver ≡ shut
-      go false j k n = refl
-      go true false k n = refl
-      go true true false n = refl
-      go true true true n = absurd (n refl)
-
 -- ---- a piece and a finish
 
-pub finishes-left : (rx : Receiver) (out : List ℕ) (r : Answer) (o : List ℕ) → Finishes rx out r o → (givenOf (r .why) .number ≡ 0 → ⊥) → (r .receiver ≡ rx) × (o ≡ out)
-unfolding finishing
-finishes-left rx out r o p z = go (sound rx) (ltb (length out) (rx .core .pending)) (p .always)
-  where
-    go : (i j : Bool) → Is (cond i (cond j (stopped rx NoRoom) (record { receiver = shut; taken = 0; words = lastWords rx; why = Done })) (stopped rx Closed)) out r o → (r .receiver ≡ rx) × (o ≡ out)
-    go false j k = (k .receiver, k .output)
-    go true true k = (k .receiver, k .output)
-    go true false k = absurd (z (ap (λ (g : Reason). g .number) (k .given)))
-
 module _ (t : Told) (f : Fine t) (rx : Receiver) (m : rx ≡ machineOf t) (out : List ℕ) (r : Answer) (o : List ℕ) where
-  pub hears : (xs : List ℤ) → Hears rx xs out r o → (g : Reason) → (givenOf (r .why) ≡ g) ↔ table.Hears t xs (length out) (r .taken) (r .written) g
-  hears xs p g =
+  pub hears : (q : Piece) → Hears rx q out r o → (g : Reason) → (givenOf (r .why) ≡ g) ↔ table.Hears t q (length out) (r .taken) (r .written) g
+  hears q p g =
       let w = p .owed t f m in
-      let c : table.Hears t xs (length out) (r .taken) (r .written) (givenOf (r .why)) =
-      rw (w .given, w .taken, w .written) (piece-case t xs (length out)) in
-      (λ e. subst (table.Hears t xs (length out) (r .taken) (r .written)) e c, λ h. piece-one t xs (length out) (r .taken) (r .written) (givenOf (r .why)) g c h)
+      let c : table.Hears t q (length out) (r .taken) (r .written) (givenOf (r .why)) =
+      rw (w .given, w .taken, w .written) (piece-case t q (length out)) in
+      (λ e. subst (table.Hears t q (length out) (r .taken) (r .written)) e c, λ h. piece-one t q (length out) (r .taken) (r .written) (givenOf (r .why)) g c h)
 
   pub finishes : Finishes rx out r o → (k : ℕ) → (givenOf (r .why) .number ≡ k) ↔ table.Finishes t (length out) k
   finishes p k =
@@ -107,36 +88,26 @@ said-open t ys y room g (table.Said.six i j k) e = omega arith
 said-open t ys y room g (table.Said.eight i j k l) e = omega arith
 said-open t ys y room g (table.Said.taken i j k l) e = omega arith
 
-hears-open : (t : Told) (xs : List ℤ) (room m n : ℕ) (g : Reason) → table.Hears t xs room m n g → g .number ≡ 9 → ⊥
-hears-open t xs room m n g (table.Hears.ten a b c) e = omega arith
-hears-open t xs room m n g (table.Hears.whole a b) e = omega arith
-hears-open t xs room m n g (table.Hears.stopped a y later d g′ z s) e = said-open t (reverse (take m (symbolsOf xs)) ++ t .heard) y (room - n) g s e
+hears-open : (t : Told) (q : Piece) (room m n : ℕ) (g : Reason) → table.Hears t q room m n g → g .number ≡ 9 → ⊥
+hears-open t q room m n g (table.Hears.ten a b c) e = omega arith
+hears-open t q room m n g (table.Hears.whole a b) e = omega arith
+hears-open t q room m n g (table.Hears.stopped a y later d g′ z s) e = said-open t (reverse (take m (q .symbols)) ++ t .heard) y (room - n) g s e
 
 finishes-open : (t : Told) (room k : ℕ) → table.Finishes t room k → k ≡ 9 → ⊥
 finishes-open t room k (table.Finishes.eight h) e = omega arith
 finishes-open t room k (table.Finishes.done h) e = omega arith
 
-shut-live : shut .live ≡ false
-unfolding shut
-shut-live = refl
-
-known-live : (rx : Receiver) → Known rx → rx .live ≡ true
-known-live rx k = ap (λ (x : Receiver). x .live) (k .machine) ∙ sound-live (machineOf (k .told)) (sound-told (k .told) (k .fine))
-
-both : {A : Type 0} (b : Bool) → b ≡ true → b ≡ false → A
-both b e f = absurd (let z : _≡_ {A = ℕ} 0 1 = cc in omega arith)
-
 module _ (rx : Receiver) (e : End rx) (out : List ℕ) (r : Answer) (o : List ℕ) where
-  pub hears-nine : (xs : List ℤ) → Hears rx xs out r o → (givenOf (r .why) .number ≡ 9) ↔ (rx .live ≡ false)
-  hears-nine xs p = ⊎-elim closed going (end-known rx e)
+  pub hears-nine : (q : Piece) → Hears rx q out r o → (givenOf (r .why) .number ≡ 9) ↔ (rx .live ≡ false)
+  hears-nine q p = ⊎-elim closed going (end-known rx e)
     where
       closed : rx ≡ shut → (givenOf (r .why) .number ≡ 9) ↔ (rx .live ≡ false)
-      closed z = (λ _. ap (λ (x : Receiver). x .live) z ∙ shut-live, λ _. ap (λ (g : Reason). g .number) (p .always .given ∙ ap (λ (x : Ran). givenOf (x .why)) (ap (λ (q : Receiver). hearing q xs (length out)) z ∙ shut-hears xs (length out))))
+      closed z = (λ _. ap (λ (x : Receiver). x .live) z ∙ shut-live, λ _. ap (λ (g : Reason). g .number) (p .always .given ∙ ap (λ (x : Ran). givenOf (x .why)) (ap (λ (k : Receiver). hearing k q (length out)) z ∙ shut-hears q (length out))))
 
       going : Known rx → (givenOf (r .why) .number ≡ 9) ↔ (rx .live ≡ false)
       going k = (
-        λ z. absurd (hears-open (k .told) xs (length out) (r .taken) (r .written) (givenOf (r .why)) (hears (k .told) (k .fine) rx (k .machine) out r o xs p (givenOf (r .why)) .0 refl) z),
-        λ z. both (rx .live) (known-live rx k) z,
+        λ z. absurd (hears-open (k .told) q (length out) (r .taken) (r .written) (givenOf (r .why)) (hears (k .told) (k .fine) rx (k .machine) out r o q p (givenOf (r .why)) .0 refl) z),
+        λ z. absurd (apart (rx .live) (known-live rx k) z),
       )
 
   pub finishes-nine : Finishes rx out r o → (givenOf (r .why) .number ≡ 9) ↔ (rx .live ≡ false)
@@ -148,7 +119,7 @@ module _ (rx : Receiver) (e : End rx) (out : List ℕ) (r : Answer) (o : List �
       going : Known rx → (givenOf (r .why) .number ≡ 9) ↔ (rx .live ≡ false)
       going k = (
         λ z. absurd (finishes-open (k .told) (length out) (givenOf (r .why) .number) (finishes (k .told) (k .fine) rx (k .machine) out r o p (givenOf (r .why) .number) .0 refl) z),
-        λ z. both (rx .live) (known-live rx k) z,
+        λ z. absurd (apart (rx .live) (known-live rx k) z),
       )
 
 -- ---- number 7

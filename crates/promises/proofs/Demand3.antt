@@ -21,11 +21,11 @@ use Rattle.wei.specs.Symbol.{Symbol}
 use Rattle.nearest.specs.declared.Received.{Received}
 use Rattle.nearest.proofs.Laws.{line-chooses}
 use Rattle.nearest.specs.Line.{lineMeasure, lineChoice}
-use Rattle.machine.specs.declared.Receiver.{Receiver}
-use Rattle.receiver.specs.declared.Start.{Start}
-use Rattle.receiver.specs.Given.{startOf}
+use Rattle.openings.specs.Opening.{Receiver}
+use Rattle.openings.specs.declared.Start.{Start}
+use Rattle.openings.specs.Given.{startOf}
 use Rattle.promises.specs.Talk.{Talk, Ended}
-use Rattle.promises.proofs.Follows.{Follows, follows, answers, start-of}
+use Rattle.promises.proofs.Follows.{follows, answers, start-of}
 
 module _ (u w : ℕ) (b : Start) (took : List (Two Received)) (ws : List ℕ) where
   pub exact : (rx : Receiver) → Talk u w b took ws rx → (l : List Symbol) → Longest (weiCode u lineMeasure (startOf b)) (reverse took) l → ws ≡ words u l

@@ -5,38 +5,32 @@
 --   answers    and a finish that succeeds completes the answer
 use mathlib.Core.Path.{_≡_, refl, sym, ap, ap₂, subst, _∙_}
 use mathlib.Core.Bool.{Bool, true, false, cond}
-use mathlib.Core.List.{List, [], _∷_, _++_, append-nil, reverse, reverse-append, reverse-reverse}
-use Prim.Native.Nat.{ℕ, _%_, _<_}
+use mathlib.Core.List.{List, [], _++_, append-nil, reverse, reverse-reverse}
+use Prim.Native.Nat.{ℕ}
 use native.Mathlib.Omega.{arith}
-use lib.Dec.{eqb, ltb}
-use lib.IntN.{ℤ}
+use lib.Dec.{ltb}
 use lib.ListN.{length, take, drop}
 use lib.Seq.{take-at}
-use Rattle.calls.specs.Calls.{Speaks, Ended as WalkEnded, walk, rest}
+use Rattle.calls.specs.Calls.{Ended as WalkEnded, walk, rest}
 use Rattle.calls.proofs.Steps.{walk-heard, walk-said}
 use Rattle.calls.proofs.Prefixes.{joined}
 use Rattle.trellis.specs.Measure.{Two, GoodStart}
-use Rattle.trellis.proofs.Line.{wei-speaks}
 use Rattle.nearest.specs.declared.Received.{Received}
-use Rattle.nearest.proofs.Laws.{line-chooses}
-use Rattle.nearest.specs.Line.{lineMeasure, lineChoice}
-use Rattle.machine.specs.declared.Receiver.{Receiver}
-use Rattle.machine.specs.Machine.{shut}
-use Rattle.machine.specs.Told.{Told, Reason, speakerOf, judgeOf, Fine, machineOf, givenOf, withHeard}
-use Rattle.receiver.specs.declared.Start.{Start}
+use Rattle.told.specs.Told.{Told, speakerOf, judgeOf, Fine, withHeard}
+use Rattle.reasons.specs.Reason.{Reason, givenOf}
+use Rattle.openings.specs.declared.Start.{Start}
 use Rattle.receiver.specs.declared.Answer.{Answer}
-use Rattle.receiver.specs.Given.{startOf}
-use Rattle.receiver.specs.Doors.{symbolsOf}
-use Rattle.receiver.specs.Meaning.{Owed, endedOf, pieceOwed, FinishOwed, finishOwed}
-use Rattle.receiver.specs.Promise.{Opens, Owes, Hears, EndOwes, Finishes}
+use Rattle.openings.specs.Given.{startOf}
+use Rattle.told.specs.Piece.{Piece}
+use Rattle.told.proofs.Speaks.{speaks}
+use Rattle.told.specs.Owed.{endedOf, pieceOwed, finishOwed}
+use Rattle.openings.specs.Opening.{Receiver, machineOf}
+use Rattle.receiver.specs.Promise.{Owes, Hears, EndOwes, Finishes}
 use Rattle.promises.specs.Talk.{Talk, opens, hears, refuses, Ended, ends}
 
 -- what the receiver has been told after the symbols `took`
 abbrev pub toldOf : ℕ → ℕ → Start → List (Two Received) → Told
 toldOf u w b took = record { u = u; window = w; start = startOf b; heard = reverse took }
-
-pub speaks : (t : Told) → Fine t → Speaks (speakerOf t)
-speaks t f = wei-speaks (t .u) lineMeasure (lineChoice (t .u)) (line-chooses (t .u)) (t .start) (f .good-start)
 
 -- the words of a call are those at the front of the output
 front : (ws out o : List ℕ) (n : ℕ) → n ≡ length ws → o ≡ ws ++ drop (length ws) out → take n o ≡ ws
@@ -77,14 +71,14 @@ module _ (u w : ℕ) (b : Start) (took : List (Two Received)) (ws : List ℕ) (r
         said = ap₂ (λ (x y : List ℕ). x ++ y) (f .said) (front (e .said) out o (r .written) (k .written) (k .output)) ∙ s ∙ ap (λ (l : List (Two Received)). speakerOf t .spoken l) g;
       }
 
-  pub piece-follows : (xs : List ℤ) → Hears rx xs out r o → Follows u w b (took ++ take (r .taken) (symbolsOf xs)) (ws ++ take (r .written) o) (r .receiver)
+  pub piece-follows : (p : Piece) → Hears rx p out r o → Follows u w b (took ++ take (r .taken) (p .symbols)) (ws ++ take (r .written) o) (r .receiver)
   unfolding pieceOwed
-  piece-follows xs h = go (eqb (length xs % 4) 0) (h .owed t (f .fine) (f .machine))
+  piece-follows p h = go (p .fits) (h .owed t (f .fine) (f .machine))
     where
-      go : (c : Bool) → Owes (let e = endedOf t xs (length out) in cond c (record { reason = e .why; taken = e .taken; words = e .said; told = withHeard t (e .heard) }) (record { reason = record { number = 10; place = 0 }; taken = 0; words = []; told = t })) out r o →
-          Follows u w b (took ++ take (r .taken) (symbolsOf xs)) (ws ++ take (r .written) o) (r .receiver)
-      go true k = walks (symbolsOf xs) (endedOf t xs (length out)) refl k
-      go false k = idle u w b took ws rx (r .receiver) (symbolsOf xs) o (r .taken) (r .written) f (k .taken) (k .written) (k .receiver ∙ sym (f .machine))
+      go : (c : Bool) → Owes (let e = endedOf t p (length out) in cond c (record { reason = e .why; taken = e .taken; words = e .said; told = withHeard t (e .heard) }) (record { reason = record { number = 10; place = 0 }; taken = 0; words = []; told = t })) out r o →
+          Follows u w b (took ++ take (r .taken) (p .symbols)) (ws ++ take (r .written) o) (r .receiver)
+      go true k = walks (p .symbols) (endedOf t p (length out)) refl k
+      go false k = idle u w b took ws rx (r .receiver) (p .symbols) o (r .taken) (r .written) f (k .taken) (k .written) (k .receiver ∙ sym (f .machine))
 
   -- a finish: refused, all as before; done, the answer whole
   abbrev left : List ℕ
@@ -116,7 +110,7 @@ pub follows : (u w : ℕ) (b : Start) (took : List (Two Received)) (ws : List �
 follows u w b took ws rx (opens r p z) =
     let k = p .fresh z in
     record { fine = k .0; machine = k .1; said = sym (speaks (toldOf u w b []) (k .0) .starts) }
-follows u w b took ws rx (hears {took = l} {ws = vs} {rx = q} k xs out o r h) = piece-follows u w b l vs q (follows u w b l vs q k) out o r xs h
+follows u w b took ws rx (hears {took = l} {ws = vs} {rx = q} k p out o r h) = piece-follows u w b l vs q (follows u w b l vs q k) out o r p h
 follows u w b took ws rx (refuses {took = l} {ws = vs} {rx = q} k out o r h z) = finish-refused u w b l vs q (follows u w b l vs q k) out o r h z
 
 pub answers : (u w : ℕ) (b : Start) (took : List (Two Received)) (ws : List ℕ) → Ended u w b took ws → ws ≡ speakerOf (toldOf u w b took) .answered (reverse took)

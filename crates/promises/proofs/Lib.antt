@@ -3,6 +3,7 @@ pub mod Demand1
 pub mod Demand2
 pub mod Demand3
 -- what they lean on
+pub mod Ends
 pub mod Follows
 pub mod Clean
 pub mod Numbers

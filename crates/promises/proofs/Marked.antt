@@ -1,8 +1,7 @@
 -- The marked rows of 01 hold, all of them, by computing the definitions (the table is in specs/Marked).
 --   marked-rows   what each row gives is what 01 prints
 use mathlib.Core.Path.{_≡_, refl}
-use mathlib.Core.List.{List, map}
-use lib.IntN.{ℤ}
+use mathlib.Core.List.{map}
 use lib.Ieee.{toBits}
 use Rattle.points.specs.Points.{aPoint, coordinates}
 use Rattle.points.specs.Turn.{pointOf}

@@ -1,14 +1,13 @@
 -- The numbers of each door, by what specs/Table says of them: the number that is given is one that the table gives (the laws `..-case`),
 -- and what the table gives is the number (the laws `..-is`).
---   Known, end-known   an end is closed, or it has been told something
 use mathlib.Core.Path.{_≡_, refl, sym, ap, subst, _∙_}
 use mathlib.Core.Bool.{Bool, true, false, cond, _&&_}
-use mathlib.Core.Logic.{_⊎_, inl, inr, ⊎-elim}
+use mathlib.Core.Logic.{inl, inr}
 use mathlib.Core.List.{List, [], _∷_, _++_, reverse, reverse-append, reverse-reverse}
-use Prim.Native.Nat.{ℕ, suc, _-_, _%_, _<_}
+use Prim.Native.Nat.{ℕ, suc, _-_, _<_}
 use native.Mathlib.Nat.{sub-zero}
 use native.Mathlib.Omega.{arith}
-use borrow.Author.Tests.{ltb-true, ltb-false, leb-true, leb-false, eqb-true, eqb-false, lt-ltb, le-ltb, le-leb, lt-leb}
+use borrow.Author.Tests.{ltb-true, ltb-false, leb-true, leb-false, eqb-false, lt-ltb, le-ltb, le-leb, lt-leb}
 use lib.Dec.{eqb, leb, ltb}
 use lib.IntN.{ℤ}
 use lib.ListN.{length, take, drop, length-append, drop-of-length-le}
@@ -16,23 +15,21 @@ use Rattle.calls.specs.Calls.{Ended, fresh, rest, after, walk}
 use Rattle.calls.proofs.Steps.{walk-heard}
 use Rattle.trellis.specs.Measure.{Two}
 use Rattle.nearest.specs.declared.Received.{Received}
-use Rattle.machine.specs.declared.Receiver.{Receiver}
-use Rattle.machine.specs.declared.Why.the-variants.{Done, BadWidth, BadWindow, BadStart, NoRoom, Closed}
-use Rattle.machine.specs.Machine.{opened, shut, lastWords, sound}
-use Rattle.machine.specs.Told.{Told, Reason, reason, speakerOf, judgeOf, judgeSymbol, pendingAfter, faultOf, Fine, machineOf, withHeard}
-use Rattle.machine.proofs.Owed.{no-fault}
+use Rattle.told.specs.Told.{Told, speakerOf, judgeOf, judgeSymbol, pendingAfter, faultOf, withHeard}
+use Rattle.reasons.specs.Reason.{Reason, reason}
+use Rattle.told.proofs.Telling.{no-fault, in-range}
 use Rattle.sender.specs.declared.Sender.{Sender}
 use Rattle.sender.specs.Send as sender
 use Rattle.sender.proofs.Sound.{end-sound}
 use Rattle.sender.proofs.Exactly as sending
-use Rattle.receiver.specs.declared.Start.{Start}
-use Rattle.receiver.specs.declared.Start.the-variants.{Free, At}
-use Rattle.receiver.specs.Given.{startOf, startFits}
-use Rattle.receiver.specs.Doors.{Opening, notOpened, opening, symbolsOf, Ran, stopped, hearing, finishing, End, fresh as fresh-end, heard, finished}
-use Rattle.receiver.specs.Meaning.{Owed, endedOf, pieceOwed, FinishOwed, finishOwed, openingOwed}
-use Rattle.receiver.proofs.Symbols as symbols
-use Rattle.receiver.proofs.Doors.{hearing-owes}
-use Rattle.receiver.proofs.Settled.{told-or-shut}
+use Rattle.openings.specs.declared.Start.{Start}
+use Rattle.openings.specs.declared.Start.the-variants.{Free, At}
+use Rattle.openings.specs.Given.{startFits}
+use Rattle.openings.specs.Opening.{opening, openingOwed}
+use Rattle.told.specs.Piece.{Piece}
+use Rattle.receiver.specs.Doors.{stopped}
+use Rattle.promises.specs.End.{End, heard}
+use Rattle.told.specs.Owed.{Owed, endedOf, pieceOwed, FinishOwed, finishOwed}
 use Rattle.promises.specs.Table as table
 
 -- ---- the sender
@@ -118,12 +115,12 @@ module _ (t : Told) (ys : List (Two Received)) (y : Two Received) (room : ℕ) w
       go : (a b c d : Bool) → ltb (faultOf y) 4 ≡ a → leb 4294967295 (length ys) ≡ b → ltb (t .window) (pendingAfter t (y ∷ ys)) ≡ c → ltb room (length (fresh (speakerOf t) ys y)) ≡ d →
           table.Said t ys y room (cond a (record { number = 5; place = faultOf y }) (cond b (reason 7) (cond c (reason 6) (cond d (reason 8) (reason 0)))))
       go true b c d e f g h = table.Said.five (ltb-true (faultOf y) 4 e)
-      go false true c d e f g h = table.Said.seven (symbols.no-fault y e) (leb-true 4294967295 (length ys) f)
-      go false false true d e f g h = table.Said.six (symbols.no-fault y e) (leb-false 4294967295 (length ys) f) (ltb-true (t .window) (pendingAfter t (y ∷ ys)) g)
+      go false true c d e f g h = table.Said.seven (in-range y e) (leb-true 4294967295 (length ys) f)
+      go false false true d e f g h = table.Said.six (in-range y e) (leb-false 4294967295 (length ys) f) (ltb-true (t .window) (pendingAfter t (y ∷ ys)) g)
       go false false false true e f g h =
-          table.Said.eight (symbols.no-fault y e) (leb-false 4294967295 (length ys) f) (ltb-false (t .window) (pendingAfter t (y ∷ ys)) g) (ltb-true room (length (fresh (speakerOf t) ys y)) h)
+          table.Said.eight (in-range y e) (leb-false 4294967295 (length ys) f) (ltb-false (t .window) (pendingAfter t (y ∷ ys)) g) (ltb-true room (length (fresh (speakerOf t) ys y)) h)
       go false false false false e f g h =
-          table.Said.taken (symbols.no-fault y e) (leb-false 4294967295 (length ys) f) (ltb-false (t .window) (pendingAfter t (y ∷ ys)) g) (ltb-false room (length (fresh (speakerOf t) ys y)) h)
+          table.Said.taken (in-range y e) (leb-false 4294967295 (length ys) f) (ltb-false (t .window) (pendingAfter t (y ∷ ys)) g) (ltb-false room (length (fresh (speakerOf t) ys y)) h)
 
   pub said-is : (g : Reason) → table.Said t ys y room g → judgeSymbol t ys y room ≡ g
   unfolding judgeSymbol
@@ -164,26 +161,29 @@ heard-then t ys zs room =
     sym (reverse-reverse (e .heard)) ∙ ap reverse (walk-heard (speakerOf t) (judgeOf t) ys zs room) ∙ reverse-append (reverse ys) (take (e .taken) zs)
     ∙ ap (λ (l : List (Two Received)). reverse (take (e .taken) zs) ++ l) (reverse-reverse ys)
 
-module _ (t : Told) (xs : List ℤ) (room : ℕ) where
-  pub piece-case : let d = pieceOwed t xs room in table.Hears t xs room (d .taken) (length (d .words)) (d .reason)
+module _ (t : Told) (q : Piece) (room : ℕ) where
+  pub piece-case : let d = pieceOwed t q room in table.Hears t q room (d .taken) (length (d .words)) (d .reason)
   unfolding pieceOwed
-  piece-case = go (eqb (length xs % 4) 0) refl
+  piece-case = go (q .fits) refl
     where
       e : Ended (speakerOf t) (judgeOf t)
-      e = endedOf t xs room
+      e = endedOf t q room
 
-      walked : length xs % 4 ≡ 0 → Went t (symbolsOf xs) room e → table.Hears t xs room (e .taken) (length (e .said)) (e .why)
-      walked z (all m w) = subst (table.Hears t xs room (e .taken) (length (e .said))) (sym w) (table.Hears.whole z m)
+      walked : q .fits ≡ true → Went t (q .symbols) room e → table.Hears t q room (e .taken) (length (e .said)) (e .why)
+      walked z (all m w) = subst (table.Hears t q room (e .taken) (length (e .said))) (sym w) (table.Hears.whole z m)
       walked z (some y later d w n) =
           table.Hears.stopped z y later d (e .why) n
-          (subst (table.Said t (reverse (take (e .taken) (symbolsOf xs)) ++ t .heard) y (room - length (e .said))) (sym (w ∙ ap (λ (l : List (Two Received)). judgeSymbol t l y (room - length (e .said))) (heard-then t (t .heard) (symbolsOf xs) room)))
-          (said-case t (reverse (take (e .taken) (symbolsOf xs)) ++ t .heard) y (room - length (e .said))))
+          (subst (table.Said t (reverse (take (e .taken) (q .symbols)) ++ t .heard) y (room - length (e .said))) (sym (w ∙ ap (λ (l : List (Two Received)). judgeSymbol t l y (room - length (e .said))) (heard-then t (t .heard) (q .symbols) room)))
+          (said-case t (reverse (take (e .taken) (q .symbols)) ++ t .heard) y (room - length (e .said))))
 
-      go : (b : Bool) → eqb (length xs % 4) 0 ≡ b →
+      go : (b : Bool) → q .fits ≡ b →
           let d : Owed = cond b (record { reason = e .why; taken = e .taken; words = e .said; told = withHeard t (e .heard) }) (record { reason = reason 10; taken = 0; words = []; told = t }) in
-          table.Hears t xs room (d .taken) (length (d .words)) (d .reason)
-      go true q = walked (eqb-true (length xs % 4) 0 q) (went t (t .heard) (symbolsOf xs) room)
-      go false q = table.Hears.ten (eqb-false (length xs % 4) 0 q) refl refl
+          table.Hears t q room (d .taken) (length (d .words)) (d .reason)
+      go true e₀ = walked e₀ (went t (t .heard) (q .symbols) room)
+      go false e₀ = table.Hears.ten e₀ refl refl
+
+pub apart : (b : Bool) → b ≡ true → b ≡ false → ⊥
+apart b e f = let z : _≡_ {A = ℕ} 0 1 = cc in omega arith
 
 -- one place has one next symbol
 not-more : (l : List (Two Received)) (m : ℕ) (y : Two Received) (later : List (Two Received)) → m ≡ length l → drop m l ≡ y ∷ later → ⊥
@@ -193,17 +193,17 @@ abbrev headOr : Two Received → List (Two Received) → Two Received
 headOr d [] = d
 headOr d (x ∷ l) = x
 
-pub piece-one : (t : Told) (xs : List ℤ) (room m n : ℕ) (g h : Reason) → table.Hears t xs room m n g → table.Hears t xs room m n h → g ≡ h
-piece-one t xs room m n g h (table.Hears.ten a p q) (table.Hears.ten b r s) = refl
-piece-one t xs room m n g h (table.Hears.ten a p q) (table.Hears.whole b r) = absurd (a b)
-piece-one t xs room m n g h (table.Hears.ten a p q) (table.Hears.stopped b y later d g′ z s) = absurd (a b)
-piece-one t xs room m n g h (table.Hears.whole a p) (table.Hears.ten b r s) = absurd (b a)
-piece-one t xs room m n g h (table.Hears.whole a p) (table.Hears.whole b r) = refl
-piece-one t xs room m n g h (table.Hears.whole a p) (table.Hears.stopped b y later d g′ z s) = absurd (not-more (symbolsOf xs) m y later p d)
-piece-one t xs room m n g h (table.Hears.stopped a y later d g′ z s) (table.Hears.ten b r q) = absurd (b a)
-piece-one t xs room m n g h (table.Hears.stopped a y later d g′ z s) (table.Hears.whole b r) = absurd (not-more (symbolsOf xs) m y later r d)
-piece-one t xs room m n g h (table.Hears.stopped a y later d g′ z s) (table.Hears.stopped b y₂ later₂ d₂ g₂ z₂ s₂) =
-    let ys = reverse (take m (symbolsOf xs)) ++ t .heard in
+pub piece-one : (t : Told) (q : Piece) (room m n : ℕ) (g h : Reason) → table.Hears t q room m n g → table.Hears t q room m n h → g ≡ h
+piece-one t q room m n g h (table.Hears.ten a p k) (table.Hears.ten b r s) = refl
+piece-one t q room m n g h (table.Hears.ten a p k) (table.Hears.whole b r) = absurd (apart (q .fits) b a)
+piece-one t q room m n g h (table.Hears.ten a p k) (table.Hears.stopped b y later d g′ z s) = absurd (apart (q .fits) b a)
+piece-one t q room m n g h (table.Hears.whole a p) (table.Hears.ten b r s) = absurd (apart (q .fits) a b)
+piece-one t q room m n g h (table.Hears.whole a p) (table.Hears.whole b r) = refl
+piece-one t q room m n g h (table.Hears.whole a p) (table.Hears.stopped b y later d g′ z s) = absurd (not-more (q .symbols) m y later p d)
+piece-one t q room m n g h (table.Hears.stopped a y later d g′ z s) (table.Hears.ten b r k) = absurd (apart (q .fits) a b)
+piece-one t q room m n g h (table.Hears.stopped a y later d g′ z s) (table.Hears.whole b r) = absurd (not-more (q .symbols) m y later r d)
+piece-one t q room m n g h (table.Hears.stopped a y later d g′ z s) (table.Hears.stopped b y₂ later₂ d₂ g₂ z₂ s₂) =
+    let ys = reverse (take m (q .symbols)) ++ t .heard in
     let e : y ≡ y₂ = ap (headOr y) (sym d ∙ d₂) in
     sym (said-is t ys y (room - n) g s) ∙ ap (λ (x : Two Received). judgeSymbol t ys x (room - n)) e ∙ said-is t ys y₂ (room - n) h s₂
 
@@ -224,25 +224,3 @@ module _ (t : Told) (room : ℕ) where
   unfolding finishOwed
   finish-is k (table.Finishes.eight h) = rw (lt-ltb room (length (rest (speakerOf t) (t .heard))) h)
   finish-is k (table.Finishes.done h) = rw (le-ltb room (length (rest (speakerOf t) (t .heard))) h)
-
--- ---- ends
-
-pub record Known (rx : Receiver) : Type 0 where
-  pub told : Told
-  pub fine : Fine told
-  pub machine : rx ≡ machineOf told
-
-shut-sound : sound shut ≡ false
-unfolding sound shut
-shut-sound = refl
-
-pub shut-hears : (xs : List ℤ) (room : ℕ) → hearing shut xs room ≡ stopped shut Closed
-unfolding hearing
-shut-hears xs room = rw shut-sound
-
-pub shut-finishes : (room : ℕ) → finishing shut room ≡ stopped shut Closed
-unfolding finishing
-shut-finishes room = rw shut-sound
-
-pub end-known : (rx : Receiver) → End rx → (rx ≡ shut) ⊎ Known rx
-end-known rx e = ⊎-elim (λ z. inl z) (λ z. let (t, f, m) = z in inr (record { told = t; fine = f; machine = m })) (told-or-shut rx e)

@@ -19,8 +19,8 @@ use Rattle.points.specs.declared.Point.{Point}
 use Rattle.points.specs.Pair.{firstPoint, secondPoint}
 use Rattle.trellis.specs.Measure.{Two, mayStart}
 use Rattle.nearest.specs.declared.Received.{Received}
-use Rattle.receiver.specs.declared.Start.{Start}
-use Rattle.receiver.specs.Given.{startOf}
+use Rattle.openings.specs.declared.Start.{Start}
+use Rattle.openings.specs.Given.{startOf}
 
 abbrev pub onLine : ℤ → ℤ
 onLine c = pos 128 *ℤ c

@@ -1,3 +1,4 @@
+pub mod End
 pub mod Talk
 pub mod Clean
 pub mod Table

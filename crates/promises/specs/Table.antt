@@ -4,10 +4,10 @@
 --   Sends s n out k         sending the word n into `out` gives k
 --   ReceiverOpens u w b k   the receiver's opening gives k
 --   Said t ys y room g      the symbol y, heard after ys with room for so many words, is answered with g
---   Hears t xs room m n g   a piece xs gives g, after m symbols taken and n words written
+--   Hears t q room m n g    a piece q gives g, after m symbols taken and n words written
 --   Finishes t room k       a finish gives k
 -- A receiver that has been told t is open; a closed one is answered 9, as said in proofs/Demand1.
-use Prim.Native.Nat.{ℕ, _-_, _%_, _≤_, _<_}
+use Prim.Native.Nat.{ℕ, _-_, _≤_, _<_}
 use mathlib.Core.Path.{_≡_}
 use mathlib.Core.Bool.{true, false}
 use mathlib.Core.Logic.{_⊎_}
@@ -19,12 +19,13 @@ use Rattle.calls.specs.Calls.{fresh, rest}
 use Rattle.trellis.specs.Measure.{Two}
 use Rattle.nearest.specs.declared.Received.{Received}
 use Rattle.nearest.specs.Line.{BothInRange}
-use Rattle.machine.specs.Told.{Told, Reason, reason, speakerOf, pendingAfter, faultOf}
+use Rattle.told.specs.Told.{Told, speakerOf, pendingAfter, faultOf}
+use Rattle.reasons.specs.Reason.{Reason, reason}
 use Rattle.sender.specs.declared.Sender.{Sender}
-use Rattle.receiver.specs.declared.Start.{Start}
-use Rattle.receiver.specs.declared.Start.the-variants.{At}
-use Rattle.receiver.specs.Given.{startFits}
-use Rattle.receiver.specs.Doors.{symbolsOf}
+use Rattle.openings.specs.declared.Start.{Start}
+use Rattle.openings.specs.declared.Start.the-variants.{At}
+use Rattle.openings.specs.Given.{startFits}
+use Rattle.told.specs.Piece.{Piece}
 
 -- "u above 8 at an opening"; "a sender has only 1"
 pub data SenderOpens (u : ℕ) : ℕ → Type 0 where
@@ -54,11 +55,11 @@ pub data Said (t : Told) (ys : List (Two Received)) (y : Two Received) (room : �
   taken : BothInRange y → length ys < 4294967295 → pendingAfter t (y ∷ ys) ≤ t .window → length (fresh (speakerOf t) ys y) ≤ room → Said t ys y room (reason 0)
 
 -- "A piece: 9, 10, then symbol by symbol .., stopping at the first refusal. Earlier symbols of that piece stay taken"
-pub data Hears (t : Told) (xs : List ℤ) (room m n : ℕ) : Reason → Type 0 where
-  ten : (length xs % 4 ≡ 0 → ⊥) → m ≡ 0 → n ≡ 0 → Hears t xs room m n (reason 10)
-  whole : length xs % 4 ≡ 0 → m ≡ length (symbolsOf xs) → Hears t xs room m n (reason 0)
-  stopped : length xs % 4 ≡ 0 → (y : Two Received) (later : List (Two Received)) → drop m (symbolsOf xs) ≡ y ∷ later →
-      (g : Reason) → (g .number ≡ 0 → ⊥) → Said t (reverse (take m (symbolsOf xs)) ++ t .heard) y (room - n) g → Hears t xs room m n g
+pub data Hears (t : Told) (q : Piece) (room m n : ℕ) : Reason → Type 0 where
+  ten : q .fits ≡ false → m ≡ 0 → n ≡ 0 → Hears t q room m n (reason 10)
+  whole : q .fits ≡ true → m ≡ length (q .symbols) → Hears t q room m n (reason 0)
+  stopped : q .fits ≡ true → (y : Two Received) (later : List (Two Received)) → drop m (q .symbols) ≡ y ∷ later →
+      (g : Reason) → (g .number ≡ 0 → ⊥) → Said t (reverse (take m (q .symbols)) ++ t .heard) y (room - n) g → Hears t q room m n g
 
 -- "Finish: 9, 8"; "Need for 8: room .. at finish for all pending words"
 pub data Finishes (t : Told) (room : ℕ) : ℕ → Type 0 where

@@ -6,22 +6,21 @@
 use Prim.Native.Nat.{ℕ}
 use mathlib.Core.Path.{_≡_}
 use mathlib.Core.List.{List, [], _++_}
-use lib.IntN.{ℤ}
 use lib.ListN.{take}
 use Rattle.trellis.specs.Measure.{Two}
 use Rattle.nearest.specs.declared.Received.{Received}
-use Rattle.machine.specs.declared.Receiver.{Receiver}
-use Rattle.machine.specs.Told.{givenOf}
-use Rattle.receiver.specs.declared.Start.{Start}
-use Rattle.receiver.specs.declared.Opened.{Opened}
+use Rattle.reasons.specs.Reason.{givenOf}
+use Rattle.openings.specs.declared.Start.{Start}
+use Rattle.openings.specs.declared.Opened.{Opened}
 use Rattle.receiver.specs.declared.Answer.{Answer}
-use Rattle.receiver.specs.Doors.{symbolsOf}
-use Rattle.receiver.specs.Promise.{Opens, Hears, Finishes}
+use Rattle.told.specs.Piece.{Piece}
+use Rattle.openings.specs.Opening.{Receiver, Opens}
+use Rattle.receiver.specs.Promise.{Hears, Finishes}
 
 pub data Talk (u w : ℕ) (b : Start) : List (Two Received) → List ℕ → Receiver → Type 0 where
   opens : (r : Opened) → Opens u w b r → givenOf (r .why) .number ≡ 0 → Talk u w b [] [] (r .receiver)
   hears : {took : List (Two Received)} {ws : List ℕ} {rx : Receiver} → Talk u w b took ws rx →
-      (xs : List ℤ) (out o : List ℕ) (r : Answer) → Hears rx xs out r o → Talk u w b (took ++ take (r .taken) (symbolsOf xs)) (ws ++ take (r .written) o) (r .receiver)
+      (p : Piece) (out o : List ℕ) (r : Answer) → Hears rx p out r o → Talk u w b (took ++ take (r .taken) (p .symbols)) (ws ++ take (r .written) o) (r .receiver)
   refuses : {took : List (Two Received)} {ws : List ℕ} {rx : Receiver} → Talk u w b took ws rx →
       (out o : List ℕ) (r : Answer) → Finishes rx out r o → (givenOf (r .why) .number ≡ 0 → ⊥) → Talk u w b took (ws ++ take (r .written) o) (r .receiver)
 

@@ -4,29 +4,29 @@
 use mathlib.Core.Path.{_≡_, refl, sym, ap, ap₂, subst, _∙_}
 use mathlib.Core.Bool.{Bool, true, false, cond}
 use mathlib.Core.List.{List, [], _++_}
-use Prim.Native.Nat.{ℕ, _+_, _%_, _<_, _≤_}
-use borrow.Author.Tests.{lt-ltb, le-ltb, eq-eqb, ne-eqb}
+use Prim.Native.Nat.{ℕ, _+_, _<_, _≤_}
+use borrow.Author.Tests.{lt-ltb, le-ltb}
 use native.Mathlib.Nat.{sub-zero}
 use native.Mathlib.Omega.{arith}
-use lib.Dec.{eqb, ltb}
-use lib.IntN.{ℤ}
+use lib.Dec.{ltb}
 use lib.ListN.{length, take, drop}
 use Rattle.calls.specs.Calls.{rest}
 use Rattle.trellis.specs.Words.{wordsFrom}
 use Rattle.machine.specs.declared.Core.{Core}
 use Rattle.machine.specs.declared.Receiver.{Receiver}
-use Rattle.machine.specs.declared.Why.the-variants.{Done, NoRoom, Closed, Uneven}
-use Rattle.machine.specs.Machine.{shut, lastWords, sound}
+use Rattle.reasons.specs.declared.Why.the-variants.{Done, NoRoom, Closed, Uneven}
+use Rattle.machine.specs.Machine.{shut, lastWords, sound, wayFrom, machineOf}
 use Rattle.select.specs.Select.{endOf}
-use Rattle.machine.specs.Machine.{wayFrom}
-use Rattle.machine.specs.Told.{Told, reason, speakerOf, Fine, machineOf, givenOf, withHeard}
+use Rattle.told.specs.Told.{Told, speakerOf, Fine, withHeard}
+use Rattle.reasons.specs.Reason.{reason, givenOf}
 use Rattle.machine.proofs.Owed.{machine-same, sound-told, last-told, rest-many}
 use Rattle.machine.proofs.Finish.{last-many, last-from}
 use Rattle.machine.proofs.Sound.{sound-live}
 use Rattle.receiver.specs.declared.Answer.{Answer}
 use Rattle.receiver.specs.declared.Heard.{Heard}
-use Rattle.receiver.specs.Doors.{symbolsOf, Ran, stopped, running, hearing, finishing, End, heard, finished}
-use Rattle.receiver.specs.Meaning.{Owed, endedOf, pieceOwed, FinishOwed, finishOwed}
+use Rattle.told.specs.Piece.{Piece}
+use Rattle.receiver.specs.Doors.{Ran, stopped, running, hearing, finishing}
+use Rattle.told.specs.Owed.{Owed, endedOf, pieceOwed, FinishOwed, finishOwed}
 use Rattle.receiver.specs.Promise.{Is, partsOf, answerOf, Hears, Finishes}
 use Rattle.receiver.proofs.Pieces.{walked, RunsAs, runs}
 
@@ -39,27 +39,27 @@ pub record OwedBy (h : Ran) (d : Owed) : Type 0 where
   pub fine : Fine (d .told)
   pub receiver : h .receiver ≡ machineOf (d .told)
 
-pub hearing-owes : (t : Told) → Fine t → (xs : List ℤ) (room : ℕ) → OwedBy (hearing (machineOf t) xs room) (pieceOwed t xs room)
+pub hearing-owes : (t : Told) → Fine t → (p : Piece) (room : ℕ) → OwedBy (hearing (machineOf t) p room) (pieceOwed t p room)
 unfolding hearing pieceOwed
-hearing-owes t f xs room = rw (sound-told t f) (go (eqb (length xs % 4) 0))
+hearing-owes t f p room = rw (sound-told t f) (go (p .fits))
   where
-    e : RunsAs t (endedOf t xs room) 0 [] (running (symbolsOf xs) (machineOf t) 0 [] room)
+    e : RunsAs t (endedOf t p room) 0 [] (running (p .symbols) (machineOf t) 0 [] room)
     e =
-        subst (λ (m : ℕ). RunsAs t (walked t (t .heard) (symbolsOf xs) m) 0 [] (running (symbolsOf xs) (machineOf t) 0 [] room)) (sub-zero room)
-        (runs t (symbolsOf xs) (t .heard) f 0 [] room)
+        subst (λ (m : ℕ). RunsAs t (walked t (t .heard) (p .symbols) m) 0 [] (running (p .symbols) (machineOf t) 0 [] room)) (sub-zero room)
+        (runs t (p .symbols) (t .heard) f 0 [] room)
 
-    go : (b : Bool) → OwedBy (cond b (running (symbolsOf xs) (machineOf t) 0 [] room) (stopped (machineOf t) Uneven))
-        (let r = endedOf t xs room in cond b (record { reason = r .why; taken = r .taken; words = r .said; told = withHeard t (r .heard) }) (record { reason = reason 10; taken = 0; words = []; told = t }))
-    go true = record { given = e .given; taken = omega (arith, e .taken); words = e .words; fine = e .fine; receiver = e .receiver ∙ sym (machine-same t (endedOf t xs room .heard) (endedOf t xs room .heard)) }
+    go : (b : Bool) → OwedBy (cond b (running (p .symbols) (machineOf t) 0 [] room) (stopped (machineOf t) Uneven))
+        (let r = endedOf t p room in cond b (record { reason = r .why; taken = r .taken; words = r .said; told = withHeard t (r .heard) }) (record { reason = reason 10; taken = 0; words = []; told = t }))
+    go true = record { given = e .given; taken = omega (arith, e .taken); words = e .words; fine = e .fine; receiver = e .receiver ∙ sym (machine-same t (endedOf t p room .heard) (endedOf t p room .heard)) }
     go false = record { given = refl; taken = refl; words = refl; fine = f; receiver = refl }
 
-pub hears : (rx : Receiver) (xs : List ℤ) (out : List ℕ) (r : Answer) (o : List ℕ) → Is (hearing rx xs (length out)) out r o → Hears rx xs out r o
-hears rx xs out r o k =
+pub hears : (rx : Receiver) (p : Piece) (out : List ℕ) (r : Answer) (o : List ℕ) → Is (hearing rx p (length out)) out r o → Hears rx p out r o
+hears rx p out r o k =
     record {
       always = k;
       owed = λ t f e.
-          let h = subst (λ (q : Receiver). Is (hearing q xs (length out)) out r o) e k in
-          let d = hearing-owes t f xs (length out) in
+          let h = subst (λ (q : Receiver). Is (hearing q p (length out)) out r o) e k in
+          let d = hearing-owes t f p (length out) in
           record {
             given = h .given ∙ d .given;
             taken = h .taken ∙ d .taken;
@@ -68,7 +68,6 @@ hears rx xs out r o k =
             fine = d .fine;
             receiver = h .receiver ∙ d .receiver;
           };
-      again = λ e. subst End (sym (k .receiver)) (heard e xs (length out));
     }
 
 -- ---- a finish
@@ -110,7 +109,6 @@ finishes rx out r o k =
             output = h .output ∙ ap (λ (ws : List ℕ). ws ++ drop (length ws) out) (d .words);
             receiver = h .receiver ∙ d .receiver ∙ ap (cond (finishOwed t (length out) .closes) shut) (sym e);
           };
-      again = λ e. subst End (sym (k .receiver)) (finished e (length out));
     }
 
 -- ---- the machine's answers, as the code gives them
@@ -132,22 +130,22 @@ module _ (rx : Receiver) (out : List ℕ) where
       let z : o ≡ lastWords rx ++ drop (length (lastWords rx)) out = w ∙ ap₂ (λ (ws : List ℕ) (n : ℕ). ws ++ drop n out) (last-from rx s k) (sym (last-many rx)) in
       rw (e, le-ltb (length out) (rx .core .pending) h) (record { receiver = refl; taken = refl; written = sym (last-many rx); given = refl; output = z })
 
-  pub hear-closed : (xs : List ℤ) → sound rx ≡ false → Is (hearing rx xs (length out)) out (record { receiver = rx; taken = 0; written = 0; why = Closed }) out
+  pub hear-closed : (p : Piece) → sound rx ≡ false → Is (hearing rx p (length out)) out (record { receiver = rx; taken = 0; written = 0; why = Closed }) out
   unfolding hearing
-  hear-closed xs e = rw e (record { receiver = refl; taken = refl; written = refl; given = refl; output = refl })
+  hear-closed p e = rw e (record { receiver = refl; taken = refl; written = refl; given = refl; output = refl })
 
-  pub hear-uneven : (xs : List ℤ) → sound rx ≡ true → (length xs % 4 ≡ 0 → ⊥) → Is (hearing rx xs (length out)) out (record { receiver = rx; taken = 0; written = 0; why = Uneven }) out
+  pub hear-uneven : (p : Piece) → sound rx ≡ true → p .fits ≡ false → Is (hearing rx p (length out)) out (record { receiver = rx; taken = 0; written = 0; why = Uneven }) out
   unfolding hearing
-  hear-uneven xs e n = rw (e, ne-eqb (length xs % 4) 0 n) (record { receiver = refl; taken = refl; written = refl; given = refl; output = refl })
+  hear-uneven p e n = rw (e, n) (record { receiver = refl; taken = refl; written = refl; given = refl; output = refl })
 
-  pub hear-is : (xs : List ℤ) → sound rx ≡ true → length xs % 4 ≡ 0 → (r : Answer) (o : List ℕ) → Is (running (symbolsOf xs) rx 0 [] (length out)) out r o → Is (hearing rx xs (length out)) out r o
+  pub hear-is : (p : Piece) → sound rx ≡ true → p .fits ≡ true → (r : Answer) (o : List ℕ) → Is (running (p .symbols) rx 0 [] (length out)) out r o → Is (hearing rx p (length out)) out r o
   unfolding hearing
-  hear-is xs e z r o is = rw (e, eq-eqb (length xs % 4) 0 z) is
+  hear-is p e z r o is = rw (e, z) is
 
 -- an open receiver is live
-pub hear-parts : (live : Bool) (core : Core) (sums planes picks out : List ℕ) (xs : List ℤ) (e : sound (partsOf live core sums planes picks) ≡ true) → length xs % 4 ≡ 0 → (h : Heard) (sums₁ planes₁ picks₁ o : List ℕ)
-    → Is (running (symbolsOf xs) (partsOf true core sums planes picks) 0 [] (length out)) out (answerOf true h sums₁ planes₁ picks₁) o
-    → Is (hearing (partsOf live core sums planes picks) xs (length out)) out (answerOf live h sums₁ planes₁ picks₁) o
-hear-parts live core sums planes picks out xs e z h sums₁ planes₁ picks₁ o is =
-    hear-is (partsOf live core sums planes picks) out xs e z (answerOf live h sums₁ planes₁ picks₁) o
-    (subst (λ (b : Bool). Is (running (symbolsOf xs) (partsOf b core sums planes picks) 0 [] (length out)) out (answerOf b h sums₁ planes₁ picks₁) o) (sym (sound-live (partsOf live core sums planes picks) e)) is)
+pub hear-parts : (live : Bool) (core : Core) (sums planes picks out : List ℕ) (p : Piece) (e : sound (partsOf live core sums planes picks) ≡ true) → p .fits ≡ true → (h : Heard) (sums₁ planes₁ picks₁ o : List ℕ)
+    → Is (running (p .symbols) (partsOf true core sums planes picks) 0 [] (length out)) out (answerOf true h sums₁ planes₁ picks₁) o
+    → Is (hearing (partsOf live core sums planes picks) p (length out)) out (answerOf live h sums₁ planes₁ picks₁) o
+hear-parts live core sums planes picks out p e z h sums₁ planes₁ picks₁ o is =
+    hear-is (partsOf live core sums planes picks) out p e z (answerOf live h sums₁ planes₁ picks₁) o
+    (subst (λ (b : Bool). Is (running (p .symbols) (partsOf b core sums planes picks) 0 [] (length out)) out (answerOf b h sums₁ planes₁ picks₁) o) (sym (sound-live (partsOf live core sums planes picks) e)) is)

@@ -15,14 +15,16 @@ use Rattle.trellis.specs.Measure.{Two}
 use Rattle.nearest.specs.declared.Received.{Received}
 use Rattle.machine.specs.declared.Receiver.{Receiver}
 use Rattle.machine.specs.declared.Took.{Took}
-use Rattle.machine.specs.declared.Why.{Why}
-use Rattle.machine.specs.declared.Why.the-variants.{Done}
+use Rattle.reasons.specs.declared.Why.{Why}
+use Rattle.reasons.specs.declared.Why.the-variants.{Done}
 use Rattle.machine.specs.Machine.{Outcome, sound}
-use Rattle.machine.specs.Told.{reason, givenOf}
-use Rattle.receiver.specs.Doors.{symbolFrom, symbolsOf, symbolAt, Ran, isDone, running}
+use Rattle.reasons.specs.Reason.{reason, givenOf, isDone}
+use Rattle.told.specs.Piece.{symbolFrom, symbolsOf}
+use Rattle.receiver.specs.Doors.{symbolAt, Ran, running}
 use Rattle.receiver.specs.Promise.{Is}
 use Rattle.machine.specs.Taken.{whole, TookIs}
-use Rattle.receiver.proofs.Kept.{symbol-refused, symbol-sound, done-given}
+use Rattle.receiver.proofs.Kept.{symbol-refused, symbol-sound}
+use Rattle.reasons.proofs.Apart.{done-given}
 use Rattle.receiver.proofs.Lent.{part, back-is, lent-fits, back-take, back-drop, back-length}
 
 pub record Going (xs : List ℤ) (out₀ : List ℕ) (rx₀ : Receiver) (out : List ℕ) (rx : Receiver) (taken written : ℕ) (why : Why) (i : ℕ) : Type 0 where

@@ -1,13 +1,12 @@
 -- What one symbol leaves: refused, nothing written and the receiver as it was; taken, a receiver that is sound again.
 --   symbol-refused   a refused symbol leaves all as it was
 --   symbol-sound     a receiver stays sound
---   done-given       only one reason has the number 0
 use mathlib.Core.Path.{_≡_, refl, sym, ap, subst, _∙_}
 use mathlib.Core.Bool.{Bool, true, false, cond}
 use mathlib.Core.List.{List, []}
 use Prim.Native.Nat.{ℕ, _<_, _≤_}
 use native.Mathlib.Omega.{arith}
-use borrow.Author.Tests.{eqb-true, ltb-false, lt-ltb, le-ltb}
+use borrow.Author.Tests.{ltb-false, lt-ltb, le-ltb}
 use lib.Dec.{T, eqb, ltb}
 use lib.ListN.{length}
 use Rattle.trellis.specs.Measure.{Two}
@@ -16,14 +15,14 @@ use Rattle.nearest.specs.Line.{BothInRange}
 use Rattle.machine.specs.declared.Core.{Core}
 use Rattle.machine.specs.declared.Receiver.{Receiver}
 use Rattle.machine.specs.declared.Took.{Took}
-use Rattle.machine.specs.declared.Why.{Why}
-use Rattle.machine.specs.declared.Why.the-variants.{Done, BadWidth, BadWindow, BadStart, BadSample, Full, TooMany, NoRoom, Closed, Uneven}
+use Rattle.reasons.specs.declared.Why.the-variants.{BadSample}
 use Rattle.machine.specs.Machine.{Outcome, taking, agreedOf, keptOf, sound}
 use Rattle.machine.specs.Taken.{whole, TookIs}
-use Rattle.machine.specs.Told.{reason, givenOf, faultOf}
+use Rattle.reasons.specs.Reason.{isDone}
+use Rattle.told.specs.Told.{faultOf}
 use Rattle.machine.proofs.Sound.{grown-sound}
-use Rattle.receiver.specs.Doors.{symbolAt, isDone}
-use Rattle.receiver.proofs.Symbols.{no-fault}
+use Rattle.receiver.specs.Doors.{symbolAt}
+use Rattle.told.proofs.Telling.{in-range}
 
 -- either of two outcomes
 either : (P : Outcome → Type 0) (b : Bool) (x y : Outcome) → (b ≡ true → P x) → (b ≡ false → P y) → P (cond b x y)
@@ -52,23 +51,7 @@ module _ (rx : Receiver) (f : sound rx ≡ true) (y : Two Received) (room : ℕ)
       either Fit (ltb (faultOf y) 4) _ _ (λ _. f)
       (λ a. either Fit (eqb (rx .core .taken) 4294967295) _ _ (λ _. f)
       (λ _. either Fit (ltb (rx .core .window) (keptOf rx y)) _ _ (λ _. f)
-      (λ c. either Fit (ltb room (agreedOf rx y)) _ _ (λ _. f) (λ _. grown-sound rx y f (no-fault y a) (ltb-false (rx .core .window) (keptOf rx y) c)))))
-
--- a call that stops at a refusal takes nothing else for done
-pub done-given : (w : Why) → isDone w ≡ true → givenOf w ≡ reason 0
-done-given w e = go w (eqb-true (givenOf w .number) 0 e)
-  where
-    go : (w : Why) → givenOf w .number ≡ 0 → givenOf w ≡ reason 0
-    go Done z = refl
-    go BadWidth z = absurd (omega arith)
-    go BadWindow z = absurd (omega arith)
-    go BadStart z = absurd (omega arith)
-    go (BadSample p) z = absurd (omega arith)
-    go Full z = absurd (omega arith)
-    go TooMany z = absurd (omega arith)
-    go NoRoom z = absurd (omega arith)
-    go Closed z = absurd (omega arith)
-    go Uneven z = absurd (omega arith)
+      (λ c. either Fit (ltb room (agreedOf rx y)) _ _ (λ _. f) (λ _. grown-sound rx y f (in-range y a) (ltb-false (rx .core .window) (keptOf rx y) c)))))
 
 -- ---- one symbol, as the code has it
 
@@ -86,7 +69,7 @@ module _ (core : Core) (sums planes picks before : List ℕ) (y : Two Received) 
   unfolding symbolAt
   good-taking h =
       let l : ltb (faultOf y) 4 ≡ false = le-ltb (faultOf y) 4 (omega arith) in
-      (rw l, no-fault y l)
+      (rw l, in-range y l)
 
   pub good-took : (z : Two Received) → z ≡ y → 4 ≤ place → (r : Took) (sums₁ planes₁ picks₁ after : List ℕ) →
       TookIs (taking (whole core sums planes picks) z (length before)) r sums₁ planes₁ picks₁ before after → TookIs here r sums₁ planes₁ picks₁ before after

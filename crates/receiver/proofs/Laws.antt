@@ -1,41 +1,37 @@
 -- What callers of the doors may rely on, beside the promises.
 --   hears-fit, finishes-fit     a call writes no more words than the room it was lent
---   piece-below, finish-below   every word has 3 + 2u bits
---   finish-most                 a finish writes at most 64 words; for one symbol see `fresh-most` of machine
+--   fresh-most, finish-most     one symbol and a finish write at most 64 words each
 --   never-short                 with room for all pending words and the piece's own, no piece is refused with 8
-use mathlib.Core.Path.{_≡_, refl, sym, ap, _∙_}
+use mathlib.Core.Path.{_≡_, refl}
 use mathlib.Core.Bool.{Bool, true, false, cond}
 use mathlib.Core.List.{List, [], _∷_, _++_}
-use Prim.Native.Nat.{ℕ, _+_, _-_, _*_, _^_, _%_, _≤_, _<_}
+use Prim.Native.Nat.{ℕ, _+_, _-_, _≤_, _<_}
 use native.Mathlib.Omega.{arith}
 use borrow.Author.Tests.{eqb-true, ltb-true, ltb-false, leb-false}
 use lib.Dec.{eqb, leb, ltb}
-use lib.IntN.{ℤ}
-use lib.ListN.{length, take, drop, length-append, length-take}
-use lib.Seq.{drop-at}
+use lib.ListN.{length, take, length-append, length-take}
 use Rattle.calls.specs.Calls.{walk, after, fresh, rest}
-use Rattle.calls.proofs.Steps.{walk-said}
-use Rattle.trellis.specs.Lists.{Every}
 use Rattle.trellis.specs.Measure.{Two}
 use Rattle.trellis.specs.Words.{word, wordsFrom, turnAfter}
 use Rattle.trellis.proofs.Speak.{speak-length}
-use Rattle.trellis.proofs.Lists.{every-drop}
-use Rattle.trellis.proofs.Spoken.{spoken-below}
 use Rattle.nearest.specs.declared.Received.{Received}
-use Rattle.nearest.proofs.Laws.{line-chooses}
-use Rattle.nearest.specs.Line.{BothInRange, lineMeasure, lineChoice}
+use Rattle.nearest.specs.Line.{BothInRange}
 use Rattle.machine.specs.declared.Receiver.{Receiver}
-use Rattle.machine.specs.declared.Why.the-variants.{Done, NoRoom, Closed, Uneven}
+use Rattle.reasons.specs.declared.Why.the-variants.{Done, NoRoom, Closed, Uneven}
 use Rattle.select.specs.Select.{prevIn}
 use Rattle.machine.specs.Machine.{Outcome, shut, nextSteps, wayFrom, taking, agreedOf, keptOf, releasedOf, lastWords, sound}
-use Rattle.machine.specs.Told.{Told, withHeard, reason, speakerOf, pendingAfter, faultOf, judgeSymbol, judgeOf, Fine}
+use Rattle.told.specs.Told.{Told, withHeard, speakerOf, pendingAfter, faultOf, judgeSymbol, judgeOf, Fine}
+use Rattle.reasons.specs.Reason.{reason, isDone}
 use Rattle.machine.proofs.Finish.{last-many}
-use Rattle.machine.proofs.Owed.{speaks, fresh-kept, rest-below, rest-most}
+use Rattle.machine.proofs.Owed.{fresh-kept, rest-most}
+pub use Rattle.machine.proofs.Owed.{fresh-most}
 use Rattle.receiver.specs.declared.Answer.{Answer}
-use Rattle.receiver.specs.Doors.{symbolsOf, symbolAt, isDone, stopped, running, hearing, finishing}
-use Rattle.receiver.specs.Meaning.{Owed, endedOf, pieceOwed, FinishOwed, finishOwed}
+use Rattle.told.specs.Piece.{Piece}
+use Rattle.receiver.specs.Doors.{symbolAt, stopped, running, hearing, finishing}
+use Rattle.told.specs.Owed.{Owed, endedOf, pieceOwed, FinishOwed, finishOwed}
 use Rattle.receiver.specs.Promise.{Hears, Finishes}
-use Rattle.receiver.proofs.Symbols.{no-fault, symbol-judged}
+use Rattle.told.proofs.Telling.{in-range}
+use Rattle.receiver.proofs.Symbols.{symbol-judged}
 
 -- ---- room
 
@@ -74,12 +70,12 @@ running-few (y ∷ zs) rx n ws room h =
     go false k = h
 
 module _ (rx : Receiver) (room : ℕ) where
-  hearing-few : (xs : List ℤ) → length (hearing rx xs room .words) ≤ room
+  hearing-few : (p : Piece) → length (hearing rx p room .words) ≤ room
   unfolding hearing
-  hearing-few xs = go (sound rx) (eqb (length xs % 4) 0)
+  hearing-few p = go (sound rx) (p .fits)
     where
-      go : (a b : Bool) → length (cond a (cond b (running (symbolsOf xs) rx 0 [] room) (stopped rx Uneven)) (stopped rx Closed) .words) ≤ room
-      go true true = running-few (symbolsOf xs) rx 0 [] room (omega arith)
+      go : (a b : Bool) → length (cond a (cond b (running (p .symbols) rx 0 [] room) (stopped rx Uneven)) (stopped rx Closed) .words) ≤ room
+      go true true = running-few (p .symbols) rx 0 [] room (omega arith)
       go true false = omega arith
       go false b = omega arith
 
@@ -92,8 +88,8 @@ module _ (rx : Receiver) (room : ℕ) where
       go true false e = omega (arith, last-many rx, ltb-false room (rx .core .pending) e)
       go false b e = omega arith
 
-pub hears-fit : (rx : Receiver) (xs : List ℤ) (out : List ℕ) (r : Answer) (o : List ℕ) → Hears rx xs out r o → r .written ≤ length out
-hears-fit rx xs out r o h = omega (arith, h .always .written, hearing-few rx (length out) xs)
+pub hears-fit : (rx : Receiver) (p : Piece) (out : List ℕ) (r : Answer) (o : List ℕ) → Hears rx p out r o → r .written ≤ length out
+hears-fit rx p out r o h = omega (arith, h .always .written, hearing-few rx (length out) p)
 
 pub finishes-fit : (rx : Receiver) (out : List ℕ) (r : Answer) (o : List ℕ) → Finishes rx out r o → r .written ≤ length out
 finishes-fit rx out r o h = omega (arith, h .always .written, finishing-few rx (length out))
@@ -101,36 +97,6 @@ finishes-fit rx out r o h = omega (arith, h .always .written, finishing-few rx (
 -- ---- words
 
 module _ (t : Told) (f : Fine t) where
-  abbrev IsWord : ℕ → Type 0
-  IsWord n = n < 2 ^ (3 + 2 * t .u)
-
-  pub piece-below : (xs : List ℤ) (room : ℕ) → Every IsWord (pieceOwed t xs room .words)
-  unfolding pieceOwed
-  piece-below xs room = go (eqb (length xs % 4) 0)
-    where
-      ys : List (Two Received)
-      ys = endedOf t xs room .heard
-
-      said-is : endedOf t xs room .said ≡ drop (length (speakerOf t .spoken (t .heard))) (speakerOf t .spoken ys)
-      said-is =
-          sym (drop-at (speakerOf t .spoken (t .heard)) (endedOf t xs room .said) (length (speakerOf t .spoken (t .heard))) refl)
-          ∙ ap (drop (length (speakerOf t .spoken (t .heard)))) (walk-said (speakerOf t) (speaks t f) (judgeOf t) (t .heard) (symbolsOf xs) room)
-
-      go : (b : Bool) → Every IsWord (cond {A = Owed} b (record { reason = endedOf t xs room .why; taken = endedOf t xs room .taken; words = endedOf t xs room .said; told = withHeard t ys }) (record { reason = reason 10; taken = 0; words = []; told = t }) .words)
-      go false = tt
-      go true =
-          rw said-is
-          (every-drop IsWord (length (speakerOf t .spoken (t .heard))) (speakerOf t .spoken ys)
-          (spoken-below (t .u) lineMeasure (lineChoice (t .u)) (line-chooses (t .u)) (t .start) (f .good-start) ys))
-
-  pub finish-below : (room : ℕ) → Every IsWord (finishOwed t room .words)
-  unfolding finishOwed
-  finish-below room = go (ltb room (length (rest (speakerOf t) (t .heard))))
-    where
-      go : (b : Bool) → Every IsWord (cond {A = FinishOwed} b (record { reason = reason 8; words = []; closes = false }) (record { reason = reason 0; words = rest (speakerOf t) (t .heard); closes = true }) .words)
-      go true = tt
-      go false = rest-below t f (t .heard)
-
   pub finish-most : (room : ℕ) → length (finishOwed t room .words) ≤ 64
   unfolding finishOwed
   finish-most room = go (ltb room (length (rest (speakerOf t) (t .heard))))
@@ -155,7 +121,7 @@ module _ (t : Told) where
       go false true c d e g h z = absurd (omega arith)
       go false false true d e g h z = absurd (omega arith)
       go false false false false e g h z = absurd (omega arith)
-      go false false false true e g h z = (no-fault y e, leb-false 4294967295 (length ys) g, ltb-true room (length (fresh (speakerOf t) ys y)) h)
+      go false false false true e g h z = (in-range y e, leb-false 4294967295 (length ys) g, ltb-true room (length (fresh (speakerOf t) ys y)) h)
 
   enough : (zs ys : List (Two Received)) → Fine (withHeard t ys) → (room : ℕ) → length zs + pendingAfter t ys ≤ room → walk (speakerOf t) (judgeOf t) ys zs room .why .number ≡ 8 → ⊥
   unfolding walk
@@ -172,10 +138,10 @@ module _ (t : Told) where
           let g : Fine (withHeard t (y ∷ ys)) = symbol-judged t ys f y room .fine (eqb-true (judgeSymbol t ys y room .number) 0 e) in
           ih g left (omega (arith, fresh-kept (withHeard t ys) f y (g .each .0) (g .few))) z
 
-  pub never-short : Fine t → (xs : List ℤ) (room : ℕ) → length (symbolsOf xs) + pendingAfter t (t .heard) ≤ room → pieceOwed t xs room .reason .number ≡ 8 → ⊥
+  pub never-short : Fine t → (p : Piece) (room : ℕ) → length (p .symbols) + pendingAfter t (t .heard) ≤ room → pieceOwed t p room .reason .number ≡ 8 → ⊥
   unfolding pieceOwed
-  never-short f xs room h = go (eqb (length xs % 4) 0)
+  never-short f p room h = go (p .fits)
     where
-      go : (b : Bool) → cond {A = Owed} b (record { reason = endedOf t xs room .why; taken = endedOf t xs room .taken; words = endedOf t xs room .said; told = withHeard t (endedOf t xs room .heard) }) (record { reason = reason 10; taken = 0; words = []; told = t }) .reason .number ≡ 8 → ⊥
+      go : (b : Bool) → cond {A = Owed} b (record { reason = endedOf t p room .why; taken = endedOf t p room .taken; words = endedOf t p room .said; told = withHeard t (endedOf t p room .heard) }) (record { reason = reason 10; taken = 0; words = []; told = t }) .reason .number ≡ 8 → ⊥
       go false z = omega arith
-      go true z = enough (symbolsOf xs) (t .heard) f room h z
+      go true z = enough (p .symbols) (t .heard) f room h z

@@ -3,7 +3,7 @@
 --   lent-fits   the words fit
 --   back-is     the whole afterwards: what was written before, the words, and the rest unchanged
 --   front, back-take, back-drop, back-length   its parts and its length
-use mathlib.Core.Path.{_≡_, refl, sym, _∙_}
+use mathlib.Core.Path.{_≡_, sym, _∙_}
 use mathlib.Core.List.{List, [], _++_, append-assoc, append-nil}
 use Prim.Native.Nat.{ℕ, _+_, _-_, _≤_}
 use native.Mathlib.Omega.{arith}

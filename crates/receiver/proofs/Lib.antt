@@ -1,9 +1,9 @@
 pub mod Symbols
 pub mod Pieces
-pub mod Openings
 pub mod Lent
 pub mod Kept
 pub mod Going
 pub mod Doors
 pub mod Settled
 pub mod Laws
+pub mod Left

@@ -4,7 +4,7 @@
 use mathlib.Core.Path.{_≡_, refl, sym, ap, subst, _∙_}
 use mathlib.Core.Bool.{Bool, true, false, cond}
 use mathlib.Core.List.{List, [], _∷_, _++_, append-assoc, append-nil}
-use Prim.Native.Nat.{ℕ, suc, _+_, _-_}
+use Prim.Native.Nat.{ℕ, _+_, _-_}
 use native.Mathlib.Omega.{arith}
 use borrow.Author.Tests.{eqb-true}
 use lib.Dec.{eqb}
@@ -13,9 +13,10 @@ use Rattle.calls.specs.Calls.{Ended, walk, after, fresh}
 use Rattle.trellis.specs.Measure.{Two}
 use Rattle.nearest.specs.declared.Received.{Received}
 use Rattle.machine.specs.declared.Receiver.{Receiver}
-use Rattle.machine.specs.Machine.{Outcome}
-use Rattle.machine.specs.Told.{Told, Reason, speakerOf, judgeSymbol, judgeOf, Fine, machineOf, machineAfter, givenOf, withHeard}
-use Rattle.receiver.specs.Doors.{symbolAt, Ran, isDone, running}
+use Rattle.machine.specs.Machine.{Outcome, machineAfter}
+use Rattle.told.specs.Told.{Told, speakerOf, judgeSymbol, judgeOf, Fine, withHeard}
+use Rattle.reasons.specs.Reason.{Reason, givenOf, isDone}
+use Rattle.receiver.specs.Doors.{symbolAt, Ran, running}
 use Rattle.receiver.proofs.Symbols.{Judged, symbol-judged}
 
 -- how the walk goes after ys

@@ -1,4 +1,2 @@
-pub mod Given
 pub mod Doors
-pub mod Meaning
 pub mod Promise

@@ -1,40 +1,28 @@
 -- The promises of the receiver's doors. `always` fixes result and output for every record, so any two results are equal (proofs/Settled);
--- `owed` says, for whatever the receiver has been told, what that is in the words of 01; `again` hands ends on.
+-- `owed` says, for whatever the receiver has been told, what that is in the words of 01.
 --   Written words out o      o is the output `out` with the words in its first places, and all else unchanged
 --   partsOf, answerOf        a receiver, and an answer, put together from their parts
---   Opens u w b r            the promise of `open_receiver`
---   Hears rx xs out r o      the promise of `hear`, where the output holds `out` before the call and `o` after it
+--   Hears rx p out r o       the promise of `hear`, where the output holds `out` before the call and `o` after it
 --   Finishes rx out r o      the promise of `finish`
 use Prim.Native.Nat.{ℕ}
 use mathlib.Core.Path.{_≡_}
 use mathlib.Core.Bool.{Bool, cond}
 use mathlib.Core.List.{List, _++_}
-use lib.IntN.{ℤ}
 use lib.ListN.{length, drop}
 use Rattle.machine.specs.declared.Core.{Core}
 use Rattle.machine.specs.declared.Receiver.{Receiver}
-use Rattle.machine.specs.Machine.{shut}
-use Rattle.machine.specs.Told.{Told, Fine, machineOf, givenOf}
-use Rattle.receiver.specs.declared.Start.{Start}
-use Rattle.receiver.specs.declared.Opened.{Opened}
+use Rattle.machine.specs.Machine.{shut, machineOf}
+use Rattle.told.specs.Told.{Told, Fine}
+use Rattle.reasons.specs.Reason.{givenOf}
 use Rattle.receiver.specs.declared.Answer.{Answer}
 use Rattle.receiver.specs.declared.Heard.{Heard}
-use Rattle.receiver.specs.Given.{startOf}
-use Rattle.receiver.specs.Doors.{opening, Ran, hearing, finishing, End}
-use Rattle.receiver.specs.Meaning.{Owed, pieceOwed, FinishOwed, finishOwed, openingOwed}
+use Rattle.told.specs.Piece.{Piece}
+use Rattle.receiver.specs.Doors.{Ran, hearing, finishing}
+use Rattle.told.specs.Owed.{Owed, pieceOwed, FinishOwed, finishOwed}
 
 -- "Released words go straight after those already written by that call. All other places of the output stay unchanged"
 abbrev pub Written : List ℕ → List ℕ → List ℕ → Type 0
 Written words out o = o ≡ words ++ drop (length words) out
-
--- ---- openings
-
-pub record Opens (u w : ℕ) (b : Start) (r : Opened) : Type 0 where
-  pub always-given : givenOf (r .why) ≡ givenOf (opening u w b .why)
-  pub always-receiver : r .receiver ≡ opening u w b .receiver
-  pub owed : givenOf (r .why) .number ≡ openingOwed u w b
-  pub fresh : givenOf (r .why) .number ≡ 0 → let t : Told = record { u = u; window = w; start = startOf b; heard = mathlib.Core.List.[] } in Fine t × (r .receiver ≡ machineOf t)
-  pub again : End (r .receiver)
 
 -- ---- a piece and a finish
 
@@ -62,10 +50,9 @@ pub record Owes (d : Owed) (out : List ℕ) (r : Answer) (o : List ℕ) : Type 0
   pub fine : Fine (d .told)
   pub receiver : r .receiver ≡ machineOf (d .told)
 
-pub record Hears (rx : Receiver) (xs : List ℤ) (out : List ℕ) (r : Answer) (o : List ℕ) : Type 0 where
-  pub always : Is (hearing rx xs (length out)) out r o
-  pub owed : (t : Told) → Fine t → rx ≡ machineOf t → Owes (pieceOwed t xs (length out)) out r o
-  pub again : End rx → End (r .receiver)
+pub record Hears (rx : Receiver) (p : Piece) (out : List ℕ) (r : Answer) (o : List ℕ) : Type 0 where
+  pub always : Is (hearing rx p (length out)) out r o
+  pub owed : (t : Told) → Fine t → rx ≡ machineOf t → Owes (pieceOwed t p (length out)) out r o
 
 pub record EndOwes (d : FinishOwed) (rx : Receiver) (out : List ℕ) (r : Answer) (o : List ℕ) : Type 0 where
   pub given : givenOf (r .why) ≡ d .reason
@@ -77,4 +64,3 @@ pub record EndOwes (d : FinishOwed) (rx : Receiver) (out : List ℕ) (r : Answer
 pub record Finishes (rx : Receiver) (out : List ℕ) (r : Answer) (o : List ℕ) : Type 0 where
   pub always : Is (finishing rx (length out)) out r o
   pub owed : (t : Told) → Fine t → rx ≡ machineOf t → EndOwes (finishOwed t (length out)) rx out r o
-  pub again : End rx → End (r .receiver)

@@ -1,8 +1,8 @@
 // The receiver's rows of 01: what each piece and each finish gives back, and the words written into five nines.
 use crate::say;
 use machine::Receiver;
-use machine::Why;
-use receiver::Start;
+use openings::Start;
+use reasons::Why;
 
 // Symbols taken, words written, the number, and the output.
 struct Shown {
@@ -57,7 +57,7 @@ fn told(taken: usize, written: usize, why: Why, out: [u32; 5]) -> Shown {
     Shown {
         taken: taken,
         written: written,
-        number: receiver::number(why),
+        number: reasons::number(why),
         out: out,
     }
 }
@@ -80,7 +80,7 @@ fn finished(rx: Receiver, should: Shown) {
 }
 
 fn fresh(window: u32) -> Receiver {
-    let r = receiver::open_receiver(0, window, Start::Free);
+    let r = openings::open_receiver(0, window, Start::Free);
     r.receiver
 }
 

@@ -109,7 +109,7 @@ pub fn load_receiver(words: &[u64]) -> Receiver
     ensures { λ r. ⌜ r ≡ receiverIn (now (words .entry)) ⌝ }
 {
     if !holds_record(words, layout::RECEIVER_WORDS, layout::RECEIVER) {
-        return receiver::closed_receiver();
+        return openings::closed_receiver();
     }
     let mut sums = [0u64; 16];
     let mut planes = [0u64; 48];

@@ -3,15 +3,15 @@
 use crate::Desk;
 use crate::Done;
 use crate::ends;
-use receiver::Opened;
-use receiver::Start;
+use openings::Opened;
+use openings::Start;
 use requests::Request;
 ghost use mathlib.Core.Path.{_≡_};
 ghost use mathlib.Core.List.{[]};
 ghost use Prim.Native.Nat.{_+_, _≤_};
 ghost use lib.ListN.{length};
-ghost use Rattle.machine.specs.Told.{givenOf};
-ghost use Rattle.receiver.specs.Doors.{Opening};
+ghost use Rattle.reasons.specs.Reason.{givenOf};
+ghost use Rattle.openings.specs.Opening.{Opening};
 ghost use Rattle.answers.specs.Answer.{answerRoom};
 ghost use Rattle.desk.specs.Desk.{openingGives, Does, Acts};
 
@@ -21,7 +21,7 @@ fn opened(desk: Desk, o: Opened, page: &mut [u8], at: usize) -> Done
     ensures { λ r. ⌜ ((g : Opening) → givenOf (o .why) ≡ givenOf (g .why) → o .receiver ≡ g .receiver → Does (openingGives desk g) answerRoom (now (page .entry)) at r (now (page .exit))) ⌝ }
 {
     let why = o.why;
-    let p = answers::number(page, at, receiver::number(why) as u64);
+    let p = answers::number(page, at, reasons::number(why) as u64);
     let receiver = o.receiver;
     ends::with_receiver(desk, receiver, p)
 }
@@ -30,14 +30,14 @@ pub fn open_plain(desk: Desk, u: u32, page: &mut [u8], at: usize) -> Done
     requires { ⌜ at + answerRoom ≤ length (now page) ⌝ }
     ensures { λ r. ⌜ Acts desk (Request.Plain u) [] (now (page .entry)) at r (now (page .exit)) ⌝ }
 {
-    opened(desk, receiver::open_plain(u), page, at)
+    opened(desk, openings::open_plain(u), page, at)
 }
 
 pub fn open_free(desk: Desk, u: u32, window: u32, page: &mut [u8], at: usize) -> Done
     requires { ⌜ at + answerRoom ≤ length (now page) ⌝ }
     ensures { λ r. ⌜ Acts desk (Request.Free u window) [] (now (page .entry)) at r (now (page .exit)) ⌝ }
 {
-    let o = receiver::open_receiver(u, window, Start::Free);
+    let o = openings::open_receiver(u, window, Start::Free);
     opened(desk, o, page, at)
 }
 
@@ -45,6 +45,6 @@ pub fn open_at(desk: Desk, u: u32, window: u32, state: u32, page: &mut [u8], at:
     requires { ⌜ at + answerRoom ≤ length (now page) ⌝ }
     ensures { λ r. ⌜ Acts desk (Request.At u window state) [] (now (page .entry)) at r (now (page .exit)) ⌝ }
 {
-    let o = receiver::open_receiver(u, window, Start::At(state));
+    let o = openings::open_receiver(u, window, Start::At(state));
     opened(desk, o, page, at)
 }

@@ -13,7 +13,7 @@ pub fn pending(desk: Desk, page: &mut [u8], at: usize) -> Done
     ensures { λ r. ⌜ Acts desk Request.Pending [] (now (page .entry)) at r (now (page .exit)) ⌝ }
 {
     let receiver = desk.receiver;
-    let n = receiver::pending(receiver);
+    let n = openings::pending(receiver);
     let p = answers::number(page, at, n as u64);
     Done { desk, at: p }
 }

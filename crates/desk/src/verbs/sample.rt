@@ -10,8 +10,7 @@ ghost use Prim.Native.Nat.{_+_, _≤_};
 ghost use lib.ListN.{length};
 ghost use Rattle.samples.specs.Heard.{heardCoordinate, heardBits, bothOrFault};
 ghost use Rattle.page.specs.Page.{Puts};
-ghost use Rattle.answers.specs.Answer.{sampleLine};
-ghost use Rattle.answers.specs.Answer.{answerRoom};
+ghost use Rattle.answers.specs.Answer.{sampleLine, answerRoom};
 ghost use Rattle.desk.specs.Desk.{Acts};
 
 // The float with these bits. No float is made of the bits of a NaN; what is not a number is refused as what is infinite is, so

@@ -7,7 +7,7 @@ use mir.Syntax.{w32}
 use mir.Val.{SFits, toZ, ofZ}
 use mir.Facts.{toZ-ofZ}
 use Rattle.nearest.specs.Line.{isCoordinate}
-use Rattle.machine.specs.Told.{faultOf}
+use Rattle.told.specs.Told.{faultOf}
 use borrow.Author.Needs.{needs}
 use Rattle.receiver.proofs.fault.Statement.{statement}
 use Rattle.receiver.proofs.fault.Tie as tie

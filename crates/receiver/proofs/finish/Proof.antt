@@ -1,5 +1,5 @@
 -- `finish`: closed, no room, or the last words.
-use mathlib.Core.Path.{_≡_, sym, _∙_}
+use mathlib.Core.Path.{sym, _∙_}
 use borrow.Author.Tests.{not-true, not-false}
 use Rattle.machine.proofs.Sound.{sound-core}
 use Rattle.receiver.proofs.Doors.{finishes, finish-closed, finish-full, finish-done}

@@ -6,9 +6,9 @@ use mir.Val.{SFits, toZ, ofZ}
 use mir.Facts.{toZ-ofZ}
 use Rattle.nearest.specs.Line.{BothInRange}
 use Rattle.machine.specs.Taken.{whole}
-use Rattle.machine.specs.Told.{faultOf}
+use Rattle.told.specs.Told.{faultOf}
 use Rattle.machine.proofs.Sound.{sound-ready}
-use Rattle.receiver.specs.Doors.{symbolFrom}
+use Rattle.told.specs.Piece.{symbolFrom}
 use Rattle.receiver.proofs.Kept.{faulty-took, good-taking, good-took}
 use borrow.Author.Needs.{needs}
 use Rattle.receiver.proofs.symbol.Statement.{statement}

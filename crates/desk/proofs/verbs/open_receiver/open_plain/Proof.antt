@@ -1,5 +1,5 @@
 -- `verbs::open_receiver::open_plain`: what the receiver's opening gave.
-use Rattle.receiver.specs.Doors.{plainOpening}
+use Rattle.openings.specs.Opening.{plainOpening}
 use Rattle.desk.specs.Desk.{acting}
 use borrow.Author.Needs.{needs}
 use Rattle.desk.proofs.verbs.open_receiver.open_plain.Statement.{statement}

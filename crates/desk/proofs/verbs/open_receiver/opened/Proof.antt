@@ -1,7 +1,7 @@
 -- `verbs::open_receiver::opened`: the receiver and the number of the opening.
 use mathlib.Core.Path.{ap, _∙_}
 use native.Mathlib.Omega.{arith}
-use Rattle.machine.specs.Told.{Reason}
+use Rattle.reasons.specs.Reason.{Reason}
 use Rattle.answers.specs.Answer.{numberLine}
 use Rattle.desk.specs.Desk.{withReceiver}
 use Rattle.answers.proofs.Answers.{number-near}

@@ -3,6 +3,7 @@ use mathlib.Core.Path.{sym}
 use native.Mathlib.Omega.{arith}
 use lib.ListN.{take}
 use lib.Seq.{length-take-le}
+use Rattle.told.specs.Piece.{pieceOf}
 use Rattle.receiver.specs.Doors.{hearing}
 use Rattle.desk.specs.Desk.{ranGives, acting}
 use Rattle.desk.proofs.Desks.{within, at-cap, short}
@@ -32,7 +33,7 @@ returns : tie.Need-returns
 unfolding acting
 returns c =
     let start = c .before .before .before .before .before .before .before .before .before .before in
-    at-cap (λ n. ranGives (start .args .desk) (hearing (start .args .desk .receiver) (take (start .args .count) (start .args .coordinates .now)) n)) (length-take-le _ _ (start .pre .0))
+    at-cap (λ n. ranGives (start .args .desk) (hearing (start .args .desk .receiver) (pieceOf (take (start .args .count) (start .args .coordinates .now))) n)) (length-take-le _ _ (start .pre .0))
     (within (omega (arith, short (start .args .cap) (start .args .words .now) (start .pre .1))) (c .before .before .before .before .heard .ensures))
 
 pub hear-spec : {M : Type 1} → statement M

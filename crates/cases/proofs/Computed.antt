@@ -1,0 +1,108 @@
+-- The machine at work, computed: small pieces to fresh receivers, and what they give. Rows have the number, the place, the symbols taken
+-- and the words written.
+--   closed-row, uneven-row, sample-row   9 of a piece and of a finish; 10; 5 with its place
+--   many-row                             7, of a record that is set up with 4,294,967,295 symbols taken
+--   window-row, room-row, finish-row     6, 8 at a symbol, 8 at a finish
+--   zeros-taken, one-back, zero-one-back, five-one   symbols taken and words written, where a wrong receiver gives others
+use mathlib.Core.Path.{_≡_, refl}
+use mathlib.Core.Bool.{true}
+use mathlib.Core.List.{List, [], _∷_, _++_}
+use Prim.Native.Nat.{ℕ}
+use lib.IntN.{ℤ, pos, negℤ}
+use lib.ListN.{length, replicate}
+use Rattle.wei.specs.Word.{packed}
+use Rattle.wei.specs.State.{before, carryI1, carryI2, between}
+use Rattle.wei.specs.Label.{secondLabel}
+use Rattle.points.specs.Points.{aPoint, coordinates}
+use Rattle.points.specs.Turn.{pointOf}
+use Rattle.trellis.specs.Pick.{least, near, gapOf, typeSum, bestI3}
+use Rattle.trellis.specs.Search.{range}
+use Rattle.trellis.specs.Speak.{speak, after}
+use Rattle.trellis.specs.Words.{word, wordParts}
+use Rattle.nearest.specs.Line.{distance, lineDistance}
+use Rattle.nearest.specs.Found.{costOf, weighedOf}
+use Rattle.lists.specs.Tabled.{tabled}
+use Rattle.planes.specs.Planes.{carried, movedWords, movedOf, sameFrom, oldest}
+use Rattle.select.specs.Select.{arrive, winner, sumAt, firstStep, reachedOf, liveOf, followed, stepAt, endOf, allUpTo}
+use Rattle.picks.specs.Picks.{numbersOf, symbolBy, keptIn}
+use Rattle.reasons.specs.Reason.{givenOf}
+use Rattle.told.specs.Told.{faultOf}
+use Rattle.told.specs.Piece.{pieceOf}
+use Rattle.machine.specs.declared.Receiver.{Receiver}
+use Rattle.machine.specs.Machine.{freshSums, opened, shut, wayFrom, agreedOf, releasedOf, grown, taking, lastSymbols, soundCore, sound}
+use Rattle.openings.specs.declared.Start.{Start}
+use Rattle.openings.specs.declared.Start.the-variants.{Free, At}
+use Rattle.openings.specs.Opening.{opening}
+use Rattle.receiver.specs.Doors.{Ran, symbolAt, running, hearing, finishing}
+
+-- width 0 and window w
+abbrev pub freshly : ℕ → Start → Receiver
+freshly w b = opening 0 w b .receiver
+
+abbrev pub row : Ran → List ℕ
+row r = givenOf (r .why) .number ∷ givenOf (r .why) .place ∷ r .taken ∷ length (r .words) ∷ []
+
+abbrev pub zeros : List ℤ
+zeros = replicate 4 (pos 0)
+
+-- the points of (A,A), and those of word 1 from state 0
+abbrev pub a-a : List ℤ
+a-a = replicate 4 (pos 128)
+
+abbrev pub clean-one : List ℤ
+clean-one = pos 128 ∷ pos 128 ∷ negℤ (pos 128) ∷ negℤ (pos 128) ∷ []
+
+pub closed-row : (row (hearing shut (pieceOf []) 0) ≡ 9 ∷ 0 ∷ 0 ∷ 0 ∷ []) × (row (finishing shut 0) ≡ 9 ∷ 0 ∷ 0 ∷ 0 ∷ [])
+unfolding hearing finishing sound shut
+closed-row = (refl, refl)
+
+pub uneven-row : row (hearing (freshly 64 Free) (pieceOf (pos 0 ∷ [])) 0) ≡ 10 ∷ 0 ∷ 0 ∷ 0 ∷ []
+unfolding opening hearing sound soundCore allUpTo opened freshSums
+uneven-row = refl
+
+pub sample-row : row (hearing (freshly 64 Free) (pieceOf (pos 8192 ∷ negℤ (pos 8192) ∷ pos 0 ∷ pos 8193 ∷ [])) 0) ≡ 5 ∷ 3 ∷ 0 ∷ 0 ∷ []
+unfolding opening hearing sound soundCore allUpTo opened freshSums running symbolAt faultOf
+sample-row = refl
+
+-- a record that holds 4,294,967,295 symbols taken
+abbrev many : Receiver
+many =
+    let rx = freshly 64 Free in
+    record { live = true; core = record { u = 0; window = 64; taken = 4294967295; turn = 0; slot = 0; pending = 0 }; sums = rx .sums; planes = rx .planes; picks = rx .picks }
+
+pub many-row : row (hearing many (pieceOf zeros) 0) ≡ 7 ∷ 0 ∷ 0 ∷ 0 ∷ []
+unfolding opening hearing sound soundCore allUpTo opened freshSums running symbolAt faultOf taking
+many-row = refl
+
+-- "Window 1, u 0, free start, (128,128,128,128) twice: the first is taken, nothing released; the second gets 6"; with no room, the second
+-- symbol's word; with no room, the one pending word; all zeros once; word 1; words 0 and 1; (A,A) five times
+at-work : (row (hearing (freshly 1 Free) (pieceOf (a-a ++ a-a)) 0) ≡ 6 ∷ 0 ∷ 1 ∷ 0 ∷ [])
+    × (row (hearing (freshly 64 Free) (pieceOf (replicate 4 (pos 8192) ++ zeros)) 0) ≡ 8 ∷ 0 ∷ 1 ∷ 0 ∷ [])
+    × (row (finishing (hearing (freshly 64 Free) (pieceOf zeros) 0 .receiver) 0) ≡ 8 ∷ 0 ∷ 0 ∷ 0 ∷ [])
+    × (hearing (freshly 64 Free) (pieceOf zeros) 0 .taken ≡ 1)
+    × (finishing (hearing (freshly 64 (At 0)) (pieceOf clean-one) 1 .receiver) 1 .words ≡ 1 ∷ [])
+    × (finishing (hearing (freshly 64 (At 0)) (pieceOf (a-a ++ clean-one)) 2 .receiver) 2 .words ≡ 0 ∷ 1 ∷ [])
+    × (hearing (freshly 64 (At 0)) (pieceOf (replicate 20 (pos 128))) 5 .words ≡ 0 ∷ [])
+unfolding opening hearing finishing sound soundCore allUpTo opened freshSums running symbolAt faultOf taking agreedOf grown releasedOf oldest sameFrom carried movedWords movedOf tabled followed liveOf reachedOf sumAt stepAt firstStep winner arrive weighedOf costOf bestI3 typeSum gapOf near least lineDistance distance pointOf aPoint coordinates secondLabel before between carryI1 carryI2 wayFrom range speak after endOf lastSymbols symbolBy numbersOf keptIn word wordParts packed
+at-work = (refl, refl, refl, refl, refl, refl, refl)
+
+pub window-row : row (hearing (freshly 1 Free) (pieceOf (a-a ++ a-a)) 0) ≡ 6 ∷ 0 ∷ 1 ∷ 0 ∷ []
+window-row = at-work .0
+
+pub room-row : row (hearing (freshly 64 Free) (pieceOf (replicate 4 (pos 8192) ++ zeros)) 0) ≡ 8 ∷ 0 ∷ 1 ∷ 0 ∷ []
+room-row = at-work .1
+
+pub finish-row : row (finishing (hearing (freshly 64 Free) (pieceOf zeros) 0 .receiver) 0) ≡ 8 ∷ 0 ∷ 0 ∷ 0 ∷ []
+finish-row = at-work .2
+
+pub zeros-taken : hearing (freshly 64 Free) (pieceOf zeros) 0 .taken ≡ 1
+zeros-taken = at-work .3
+
+pub one-back : finishing (hearing (freshly 64 (At 0)) (pieceOf clean-one) 1 .receiver) 1 .words ≡ 1 ∷ []
+one-back = at-work .4
+
+pub zero-one-back : finishing (hearing (freshly 64 (At 0)) (pieceOf (a-a ++ clean-one)) 2 .receiver) 2 .words ≡ 0 ∷ 1 ∷ []
+zero-one-back = at-work .5
+
+pub five-one : hearing (freshly 64 (At 0)) (pieceOf (replicate 20 (pos 128))) 5 .words ≡ 0 ∷ []
+five-one = at-work .6

@@ -1,0 +1,21 @@
+-- What an opening names: the start as the theory has it, and the window of the plain opening.
+--   plainWindow    "The plain opening names only u; it has window 64 and a free start"
+--   startOf b      the start that an opening names
+--   startFits b    it is free, or names one of the sixteen states
+use Prim.Native.Nat.{ℕ}
+use mathlib.Core.Bool.{Bool, true}
+use lib.Dec.{leb}
+use Rattle.trellis.specs.Measure as measure
+use Rattle.openings.specs.declared.Start.{Start}
+use Rattle.openings.specs.declared.Start.the-variants.{Free, At}
+
+abbrev pub plainWindow : ℕ
+plainWindow = 64
+
+abbrev pub startOf : Start → measure.Start
+startOf Free = measure.free
+startOf (At n) = measure.named n
+
+abbrev pub startFits : Start → Bool
+startFits Free = true
+startFits (At n) = leb n 15

@@ -1,0 +1,177 @@
+// How a receiver begins and whether it stands open.
+//
+// `open_receiver` names the width, the window and the start; `open_plain` only the width. A refused opening gives a closed receiver. The
+// tests say whether a record is one that the machine can work on: whatever is not is answered like a closed receiver.
+use machine::Core;
+use machine::Receiver;
+use reasons::Why;
+ghost use mathlib.Core.Path.{_≡_};
+ghost use mathlib.Core.Bool.{true, cond, _&&_};
+ghost use Rattle.machine.specs.Machine.{core, freshSums, shut, topSum, soundCore, sound};
+ghost use Rattle.select.specs.Select.{allUpTo};
+ghost use Rattle.openings.specs.Given.{plainWindow, startOf, startFits};
+ghost use Rattle.openings.specs.Opening.{Opens};
+
+// Any first state, or the named one.
+pub enum Start {
+    Free,
+    At(u32),
+}
+
+pub struct Opened {
+    pub receiver: Receiver,
+    pub why: Why,
+}
+
+// A closed receiver.
+pub fn closed_receiver() -> Receiver
+    ensures { λ r. ⌜ r ≡ shut ⌝ }
+{
+    Receiver {
+        live: false,
+        core: fresh_core(0, 0),
+        sums: [0u64; 16],
+        planes: [0u64; 48],
+        picks: [0u64; 72],
+    }
+}
+
+fn fresh_core(u: u32, window: usize) -> Core
+    ensures { λ r. ⌜ r ≡ core u window ⌝ }
+{
+    Core {
+        u: u,
+        window: window,
+        taken: 0,
+        turn: 0,
+        slot: 0,
+        pending: 0,
+    }
+}
+
+// The sums before any symbol: 0 for a state that may stand first, and for every other one more than any sum can be.
+fn fresh_sums(start: Start) -> [u64; 16]
+    requires { ⌜ startFits start ≡ true ⌝ }
+    ensures { λ r. ⌜ r ≡ freshSums (startOf start) ⌝ }
+{
+    match start {
+        Start::Free => [0u64; 16],
+        Start::At(s) => {
+            let mut sums = [4611686018427387904u64; 16];
+            sums[s as usize] = 0;
+            sums
+        }
+    }
+}
+
+// Whether a start is free or names one of the sixteen states.
+fn start_fits(start: Start) -> bool
+    ensures { λ r. ⌜ r ≡ startFits start ⌝ }
+{
+    match start {
+        Start::Free => true,
+        Start::At(s) => s <= 15,
+    }
+}
+
+fn not_opened(why: Why) -> Opened
+    ensures { λ r. ⌜ r ≡ record { receiver = shut; why = why } ⌝ }
+{
+    Opened {
+        receiver: closed_receiver(),
+        why: why,
+    }
+}
+
+// Refused, in this order: a width above 8, a window not 1 to 64, a named start above 15.
+pub fn open_receiver(u: u32, window: u32, start: Start) -> Opened
+    ensures { λ r. ⌜ Opens u window start r ⌝ }
+{
+    if u > 8 {
+        return not_opened(Why::BadWidth);
+    }
+    if window < 1 {
+        return not_opened(Why::BadWindow);
+    }
+    if window > 64 {
+        return not_opened(Why::BadWindow);
+    }
+    if !start_fits(start) {
+        return not_opened(Why::BadStart);
+    }
+    Opened {
+        receiver: Receiver {
+            live: true,
+            core: fresh_core(u, window as usize),
+            sums: fresh_sums(start),
+            planes: [0u64; 48],
+            picks: [0u64; 72],
+        },
+        why: Why::Done,
+    }
+}
+
+// The window of the plain opening.
+pub const PLAIN_WINDOW: u32 = 64;
+
+// The plain opening names only the width: its start is free.
+pub fn open_plain(u: u32) -> Opened
+    ensures { λ r. ⌜ Opens u plainWindow Start.Free r ⌝ }
+{
+    open_receiver(u, PLAIN_WINDOW, Start::Free)
+}
+
+// Whether the numbers beside the sums are in range.
+fn core_fits(c: Core) -> bool
+    ensures { λ r. ⌜ r ≡ soundCore c ⌝ }
+{
+    if c.u > 8 {
+        return false;
+    }
+    if c.window < 1 {
+        return false;
+    }
+    if c.window > 64 {
+        return false;
+    }
+    if c.turn > 3 {
+        return false;
+    }
+    if c.slot > 63 {
+        return false;
+    }
+    c.pending <= c.window
+}
+
+// Whether a receiver of these parts is open and in range: no sum is above what so many symbols can make.
+pub fn parts_fit(live: bool, c: Core, sums: &[u64; 16]) -> bool
+    ensures { λ r. ⌜ r ≡ (live && (soundCore c && allUpTo (topSum (c .taken)) (now (sums .entry)))) ⌝ }
+{
+    if !live {
+        return false;
+    }
+    if !core_fits(c) {
+        return false;
+    }
+    select::all_up_to(sums, 4611686018427387904 + (c.taken as u64) * 1073741824)
+}
+
+// Whether the receiver is open and in range.
+pub fn is_open(rx: Receiver) -> bool
+    ensures { λ r. ⌜ r ≡ sound rx ⌝ }
+{
+    let c = rx.core;
+    let sums = rx.sums;
+    parts_fit(rx.live, c, &sums)
+}
+
+// How many symbols are taken and not released; 0 of a closed receiver.
+pub fn pending(rx: Receiver) -> usize
+    ensures { λ r. ⌜ r ≡ cond (sound rx) (rx .core .pending) 0 ⌝ }
+{
+    if is_open(rx) {
+        let c = rx.core;
+        return c.pending;
+    }
+    0
+}

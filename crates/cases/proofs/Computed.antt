@@ -13,6 +13,7 @@ use lib.ListN.{length, replicate}
 use Rattle.wei.specs.Word.{packed}
 use Rattle.wei.specs.State.{before, carryI1, carryI2, between}
 use Rattle.wei.specs.Label.{secondLabel}
+use Rattle.points.specs.Agreed.{ofWidth}
 use Rattle.points.specs.Points.{aPoint, coordinates}
 use Rattle.points.specs.Turn.{pointOf}
 use Rattle.trellis.specs.Pick.{least, near, gapOf, typeSum, bestI3}
@@ -37,7 +38,7 @@ use Rattle.receiver.specs.Doors.{Ran, symbolAt, running, hearing, finishing}
 
 -- width 0 and window w
 abbrev pub freshly : ℕ → Start → Receiver
-freshly w b = opening 0 w b .receiver
+freshly w b = opening (ofWidth 0) w b .receiver
 
 abbrev pub row : Ran → List ℕ
 row r = givenOf (r .why) .number ∷ givenOf (r .why) .place ∷ r .taken ∷ length (r .words) ∷ []
@@ -68,7 +69,7 @@ sample-row = refl
 abbrev many : Receiver
 many =
     let rx = freshly 64 Free in
-    record { live = true; core = record { u = 0; window = 64; taken = 4294967295; turn = 0; slot = 0; pending = 0 }; sums = rx .sums; planes = rx .planes; picks = rx .picks }
+    record { live = true; core = record { accord = ofWidth 0; window = 64; taken = 4294967295; turn = 0; slot = 0; pending = 0 }; sums = rx .sums; planes = rx .planes; picks = rx .picks }
 
 pub many-row : row (hearing many (pieceOf zeros) 0) ≡ 7 ∷ 0 ∷ 0 ∷ 0 ∷ []
 unfolding opening hearing sound soundCore allUpTo opened freshSums running symbolAt faultOf taking

@@ -18,6 +18,8 @@ use Rattle.wei.specs.State.{before, carryI1, carryI2, between}
 use Rattle.wei.specs.Label.{secondLabel}
 use Rattle.wei.proofs.Finite.{equal1}
 use Rattle.wei.proofs.States.{before-below, between-below}
+use Rattle.points.specs.declared.Accord.{Accord}
+use Rattle.points.specs.Agreed.{ofWidth}
 use Rattle.points.specs.Points.{coordinates, aPoint}
 use Rattle.points.specs.Turn.{pointOf}
 use Rattle.trellis.specs.Measure.{Two, free}
@@ -34,7 +36,7 @@ use Rattle.machine.specs.Machine.{freshSums, opened, nextSums, nextSteps, agree
 use Rattle.told.specs.Told.{Told, Fine}
 use Rattle.select.proofs.Lists.{sixteen-at, sixteen-same}
 use Rattle.select.proofs.Followed.{followed-live}
-use Rattle.machine.proofs.Owed.{width-told, kept-told, grown-told}
+use Rattle.machine.proofs.Owed.{accord-told, kept-told, grown-told}
 use Rattle.told.proofs.Telling.{telling-fine, fine-opened}
 
 abbrev pub zeros : Two Received
@@ -44,12 +46,12 @@ pub zeros-good : BothInRange zeros
 zeros-good = record { first-in = record { x-in = omega arith; y-in = omega arith }; second-in = record { x-in = omega arith; y-in = omega arith } }
 
 abbrev pub told : ℕ → Told
-told n = record { u = 0; window = 64; start = free; heard = replicate n zeros }
+told n = record { accord = ofWidth 0; window = 64; start = free; heard = replicate n zeros }
 
 -- ---- one step over equal sums
 
 abbrev costs : List ℕ
-costs = weighedOf 0 zeros .costs
+costs = weighedOf (ofWidth 0) zeros .costs
 
 costs-at : (i : ℕ) → i < 8 → getD costs i 0 ≡ 65536
 unfolding weighedOf costOf bestI3 typeSum gapOf near least lineDistance distance pointOf aPoint coordinates secondLabel
@@ -119,8 +121,8 @@ module _ (n : ℕ) (S : Steady n) (more : n < 4294967295) where
   small : 65536 * n + 65536 < limit
   small = omega arith
 
-  costs-are : weighedOf (rx .core .u) zeros .costs ≡ costs
-  costs-are = ap (λ (u : ℕ). weighedOf u zeros .costs) (width-told (told n) (S .fine))
+  costs-are : weighedOf (rx .core .accord) zeros .costs ≡ costs
+  costs-are = ap (λ (k : Accord). weighedOf k zeros .costs) (accord-told (told n) (S .fine))
 
   next-sums : nextSums rx zeros ≡ sixteen (λ s. 65536 * n + 65536)
   next-sums = ap₂ (λ (l c : List ℕ). sixteen (sumAt l c)) (S .sums) costs-are ∙ sums-next (65536 * n) small
@@ -167,7 +169,7 @@ module _ (n : ℕ) (S : Steady n) (more : n < 4294967295) where
 
 steady-after : (n : ℕ) → n ≤ 4294967295 → Steady n
 unfolding machineAfter opened freshSums
-steady-after zero h = record { fine = fine-opened 0 64 free (omega arith) (omega arith) (omega arith) tt; sums = refl; few = omega arith; newest = λ s l k. absurd (omega arith); older = λ s l k. absurd (omega arith) }
+steady-after zero h = record { fine = fine-opened (ofWidth 0) 64 free refl (omega arith) (omega arith) tt; sums = refl; few = omega arith; newest = λ s l k. absurd (omega arith); older = λ s l k. absurd (omega arith) }
 steady-after (suc n) h =
     let s = steady-after n (omega arith) in
     grown-steady n s (omega arith) (grown-told (told n) (s .fine) zeros)

@@ -9,6 +9,7 @@ use borrow.Author.Tests.{lt-ltb, le-ltb, eq-eqb, ne-eqb}
 use lib.Dec.{eqb, ltb}
 use lib.IntN.{ℤ}
 use lib.ListN.{length, drop}
+use Rattle.points.specs.declared.Accord.{Accord}
 use Rattle.machine.proofs.Sound.{sound-core}
 use Rattle.sender.specs.declared.Sender.{Sender}
 use Rattle.sender.specs.declared.Sent.{Sent}
@@ -73,34 +74,34 @@ finished-open rx room e = go (sound rx) refl where
 
 -- ---- openings
 
-pub sender-short : (state : List ℕ) (u : ℕ) → length state < senderLength → Opens senderIn (senderOpening state u) 8 state
+pub sender-short : (state : List ℕ) (k : Accord) → length state < senderLength → Opens senderIn (senderOpening state k) 8 state
 unfolding senderOpening
-sender-short state u h = rw (lt-ltb (length state) senderLength h) (record { number = refl; state-is = refl; reads = refl })
+sender-short state k h = rw (lt-ltb (length state) senderLength h) (record { number = refl; state-is = refl; reads = refl })
 
-pub sender-opened : (state l : List ℕ) (u n : ℕ) (r : Sent) → senderLength ≤ length state → sends.Opens u r → n ≡ sender.numberOf (r .why) →
-    SenderStored (r .sender) state l → Opens senderIn (senderOpening state u) n l
+pub sender-opened : (state l : List ℕ) (k : Accord) (n : ℕ) (r : Sent) → senderLength ≤ length state → sends.Opens k r → n ≡ sender.numberOf (r .why) →
+    SenderStored (r .sender) state l → Opens senderIn (senderOpening state k) n l
 unfolding senderOpening
-sender-opened state l u n r h o e f =
+sender-opened state l k n r h o e f =
     rw (le-ltb (length state) senderLength h)
     (record {
       number = e ∙ o .number;
       state-is = f .words ∙ ap (λ (s : Sender). wordsOfSender s ++ drop senderLength state) (o .sender);
-      reads = f .reads ∙ ap readSender (o .sender) ∙ sender-opening-reads u;
+      reads = f .reads ∙ ap readSender (o .sender) ∙ sender-opening-reads k;
     })
 
-pub receiver-short : (state : List ℕ) (u w : ℕ) (b : Start) → length state < receiverLength → Opens receiverIn (receiverOpening state u w b) 8 state
+pub receiver-short : (state : List ℕ) (k : Accord) (w : ℕ) (b : Start) → length state < receiverLength → Opens receiverIn (receiverOpening state k w b) 8 state
 unfolding receiverOpening
-receiver-short state u w b h = rw (lt-ltb (length state) receiverLength h) (record { number = refl; state-is = refl; reads = refl })
+receiver-short state k w b h = rw (lt-ltb (length state) receiverLength h) (record { number = refl; state-is = refl; reads = refl })
 
-pub receiver-opened : (state l : List ℕ) (u w : ℕ) (b : Start) (n : ℕ) (r : Opened) → receiverLength ≤ length state → openings.Opens u w b r →
-    n ≡ givenOf (r .why) .number → ReceiverStored (r .receiver) state l → Opens receiverIn (receiverOpening state u w b) n l
+pub receiver-opened : (state l : List ℕ) (k : Accord) (w : ℕ) (b : Start) (n : ℕ) (r : Opened) → receiverLength ≤ length state → openings.Opens k w b r →
+    n ≡ givenOf (r .why) .number → ReceiverStored (r .receiver) state l → Opens receiverIn (receiverOpening state k w b) n l
 unfolding receiverOpening
-receiver-opened state l u w b n r h o e f =
+receiver-opened state l k w b n r h o e f =
     rw (le-ltb (length state) receiverLength h)
     (record {
       number = e ∙ ap (λ (g : Reason). g .number) (o .always-given);
       state-is = f .words ∙ ap (λ (rx : Receiver). wordsOfReceiver rx ++ drop receiverLength state) (o .always-receiver);
-      reads = f .reads ∙ ap readReceiver (o .always-receiver) ∙ receiver-opening-reads u w b;
+      reads = f .reads ∙ ap readReceiver (o .always-receiver) ∙ receiver-opening-reads k w b;
     })
 
 -- ---- a word sent

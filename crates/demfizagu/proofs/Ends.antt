@@ -7,6 +7,8 @@ use native.Mathlib.Omega.{arith}
 use lib.Dec.{eqb, leb, ltb}
 use lib.IntN.{ℤ}
 use lib.ListN.{length}
+use Rattle.points.specs.declared.Accord.{Accord}
+use Rattle.points.specs.Agreed.{isAccord}
 use Rattle.wei.specs.Word.{isWord}
 use Rattle.trellis.specs.Measure.{Two}
 use Rattle.nearest.specs.declared.Received.{Received}
@@ -26,18 +28,18 @@ use Rattle.stored.specs.State.{readSender, readReceiver}
 
 -- ---- the sender
 
-pub sender-opening-reads : (u : ℕ) → readSender (sender.opening u .sender) ≡ sender.opening u .sender
+pub sender-opening-reads : (k : Accord) → readSender (sender.opening k .sender) ≡ sender.opening k .sender
 unfolding sender.opening
-sender-opening-reads u = go (leb u 8) refl where
-  go : (b : Bool) → leb u 8 ≡ b → readSender (sender.opening u .sender) ≡ sender.opening u .sender
+sender-opening-reads k = go (isAccord k) refl where
+  go : (b : Bool) → isAccord k ≡ b → readSender (sender.opening k .sender) ≡ sender.opening k .sender
   go true e = rw e
   go false e = rw e
 
 module _ (s : Sender) (n : ℕ) (out : List ℤ) where
   pub sending-keeps : (sender.sending s n out .number ≡ 0 → ⊥) → sender.sending s n out .sender ≡ s
   unfolding sender.sending
-  sending-keeps h = go (sender.sound s) (isWord (s .u) n) (leb 4 (length out)) refl refl refl where
-    go : (a b c : Bool) → sender.sound s ≡ a → isWord (s .u) n ≡ b → leb 4 (length out) ≡ c → sender.sending s n out .sender ≡ s
+  sending-keeps h = go (sender.sound s) (isWord (s .accord .u) n) (leb 4 (length out)) refl refl refl where
+    go : (a b c : Bool) → sender.sound s ≡ a → isWord (s .accord .u) n ≡ b → leb 4 (length out) ≡ c → sender.sending s n out .sender ≡ s
     go true true true x y z = absurd (h (rw (x, y, z)))
     go true true false x y z = rw (x, y, z)
     go true false c x y z = rw (x, y)
@@ -45,8 +47,8 @@ module _ (s : Sender) (n : ℕ) (out : List ℤ) where
 
   pub sending-reads : sender.sending s n out .number ≡ 0 → readSender (sender.sending s n out .sender) ≡ sender.sending s n out .sender
   unfolding sender.sending sender.after
-  sending-reads h = go (sender.sound s) (isWord (s .u) n) (leb 4 (length out)) refl refl refl where
-    go : (a b c : Bool) → sender.sound s ≡ a → isWord (s .u) n ≡ b → leb 4 (length out) ≡ c → readSender (sender.sending s n out .sender) ≡ sender.sending s n out .sender
+  sending-reads h = go (sender.sound s) (isWord (s .accord .u) n) (leb 4 (length out)) refl refl refl where
+    go : (a b c : Bool) → sender.sound s ≡ a → isWord (s .accord .u) n ≡ b → leb 4 (length out) ≡ c → readSender (sender.sending s n out .sender) ≡ sender.sending s n out .sender
     go true true true x y z = rw (x, y, z)
     go true true false x y z = absurd (let k : _≡_ {A = ℕ} 8 0 = rw (x, y, z) at h in omega arith)
     go true false c x y z = absurd (let k : _≡_ {A = ℕ} 4 0 = rw (x, y) at h in omega arith)
@@ -57,10 +59,10 @@ module _ (s : Sender) (n : ℕ) (out : List ℤ) where
 live-reads : (rx : Receiver) → rx .live ≡ true → readReceiver rx ≡ rx
 live-reads rx e = rw e
 
-pub receiver-opening-reads : (u w : ℕ) (b : Start) → readReceiver (opening u w b .receiver) ≡ opening u w b .receiver
+pub receiver-opening-reads : (ac : Accord) (w : ℕ) (b : Start) → readReceiver (opening ac w b .receiver) ≡ opening ac w b .receiver
 unfolding opening opened shut
-receiver-opening-reads u w b = go (leb u 8) (leb 1 w && leb w 64) (startFits b) refl refl refl where
-  go : (i j k : Bool) → leb u 8 ≡ i → (leb 1 w && leb w 64) ≡ j → startFits b ≡ k → readReceiver (opening u w b .receiver) ≡ opening u w b .receiver
+receiver-opening-reads ac w b = go (isAccord ac) (leb 1 w && leb w 64) (startFits b) refl refl refl where
+  go : (i j k : Bool) → isAccord ac ≡ i → (leb 1 w && leb w 64) ≡ j → startFits b ≡ k → readReceiver (opening ac w b .receiver) ≡ opening ac w b .receiver
   go true true true x y z = rw (x, y, z)
   go true true false x y z = rw (x, y, z)
   go true false k x y z = rw (x, y)

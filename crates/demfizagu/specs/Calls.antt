@@ -16,6 +16,7 @@ use lib.Dec.{eqb, leb, ltb}
 use lib.Ieee.{Float}
 use lib.IntN.{ℤ, pos}
 use lib.ListN.{length, drop}
+use Rattle.points.specs.declared.Accord.{Accord}
 use Rattle.samples.specs.Heard.{heardSample}
 use Rattle.sender.specs.declared.Sender.{Sender}
 use Rattle.sender.specs.Send as sender
@@ -37,9 +38,9 @@ pub record Opening (End : Type 0) : Type 0 where
   pub state : List ℕ
   pub end : End
 
-unfoldable pub senderOpening : List ℕ → ℕ → Opening Sender
-senderOpening state u =
-    let g = sender.opening u in
+unfoldable pub senderOpening : List ℕ → Accord → Opening Sender
+senderOpening state k =
+    let g = sender.opening k in
     cond (ltb (length state) senderLength)
     (record { number = 8; state = state; end = senderIn state })
     (record { number = g .number; state = wordsOfSender (g .sender) ++ drop senderLength state; end = g .sender })
@@ -48,9 +49,9 @@ senderOpening state u =
 abbrev pub startAt : ℕ → Start
 startAt n = cond (eqb n 16) Free (At n)
 
-unfoldable pub receiverOpening : List ℕ → ℕ → ℕ → Start → Opening Receiver
-receiverOpening state u window start =
-    let o = opening u window start in
+unfoldable pub receiverOpening : List ℕ → Accord → ℕ → Start → Opening Receiver
+receiverOpening state k window start =
+    let o = opening k window start in
     cond (ltb (length state) receiverLength)
     (record { number = 8; state = state; end = receiverIn state })
     (record { number = givenOf (o .why) .number; state = wordsOfReceiver (o .receiver) ++ drop receiverLength state; end = o .receiver })

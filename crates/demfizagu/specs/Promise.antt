@@ -8,6 +8,7 @@ use mathlib.Core.Path.{_≡_}
 use mathlib.Core.List.{List, _++_}
 use lib.IntN.{ℤ}
 use lib.ListN.{length, drop}
+use Rattle.points.specs.declared.Accord.{Accord}
 use Rattle.openings.specs.declared.Start.{Start}
 use Rattle.openings.specs.declared.Opened.{Opened}
 use Rattle.openings.specs.Opening as opening
@@ -23,7 +24,7 @@ pub record Opens {End : Type 0} (read : List ℕ → End) (c : Opening End) (n :
 
 -- whatever opening gave o, the state holds what that opening gives
 abbrev pub OpensAs : Opened → List ℕ → ℕ → List ℕ → Type 0
-OpensAs o state n after = (u w : ℕ) (b : Start) → opening.Opens u w b o → Opens receiverIn (receiverOpening state u w b) n after
+OpensAs o state n after = (k : Accord) (w : ℕ) (b : Start) → opening.Opens k w b o → Opens receiverIn (receiverOpening state k w b) n after
 
 pub record Sends (c : Sending) (n : ℕ) (state : List ℕ) (out : List ℤ) : Type 0 where
   pub number : n ≡ c .number

@@ -4,6 +4,7 @@
 // where it is too short, its tag is another, or the record in it is not sound (crate stored).
 use openings::Opened;
 use openings::Start;
+use points::Accord;
 use samples::Pair;
 use samples::Sample;
 use stored::layout;
@@ -17,6 +18,7 @@ ghost use mathlib.Core.List.{[]};
 ghost use Prim.Native.Nat.{_+_, _%_, _≤_};
 ghost use lib.IntN.{pos};
 ghost use lib.ListN.{length, set};
+ghost use Rattle.points.specs.Agreed.{ofWidth};
 ghost use Rattle.openings.specs.Given.{plainWindow};
 ghost use Rattle.samples.specs.Heard.{heardSample};
 ghost use Rattle.demfizagu.specs.Calls.{senderOpening, startAt, receiverOpening, sendCall, toldOf, hearCall, finishCall, pendingIn, openIn, sampleCall, converting, samplesCall};
@@ -47,12 +49,12 @@ pub extern "C" fn demfizagu_receiver_words() -> usize
 
 #[no_mangle]
 pub extern "C" fn demfizagu_sender_open(state: &mut [u64], u: u32) -> u32
-    ensures { λ r. ⌜ Opens senderIn (senderOpening (now (state .entry)) u) r (now (state .exit)) ⌝ }
+    ensures { λ r. ⌜ Opens senderIn (senderOpening (now (state .entry)) (ofWidth u)) r (now (state .exit)) ⌝ }
 {
     if state.len() < layout::SENDER_WORDS {
         return 8;
     }
-    let o = sender::open_sender(u);
+    let o = sender::open_sender(Accord { u: u });
     let s = o.sender;
     let why = o.why;
     store_sender(s, state);
@@ -90,20 +92,26 @@ fn opened(state: &mut [u64], o: Opened) -> u32
 
 #[no_mangle]
 pub extern "C" fn demfizagu_receiver_open(state: &mut [u64], u: u32, window: u32, start: u32) -> u32
-    ensures { λ r. ⌜ Opens receiverIn (receiverOpening (now (state .entry)) u window (startAt start)) r (now (state .exit)) ⌝ }
+    ensures { λ r. ⌜ Opens receiverIn (receiverOpening (now (state .entry)) (ofWidth u) window (startAt start)) r (now (state .exit)) ⌝ }
 {
     if start == 16 {
-        return opened(state, openings::open_receiver(u, window, Start::Free));
+        return opened(
+            state,
+            openings::open_receiver(Accord { u: u }, window, Start::Free),
+        );
     }
-    opened(state, openings::open_receiver(u, window, Start::At(start)))
+    opened(
+        state,
+        openings::open_receiver(Accord { u: u }, window, Start::At(start)),
+    )
 }
 
 // The plain opening of the receiver.
 #[no_mangle]
 pub extern "C" fn demfizagu_receiver_open_plain(state: &mut [u64], u: u32) -> u32
-    ensures { λ r. ⌜ Opens receiverIn (receiverOpening (now (state .entry)) u plainWindow Start.Free) r (now (state .exit)) ⌝ }
+    ensures { λ r. ⌜ Opens receiverIn (receiverOpening (now (state .entry)) (ofWidth u) plainWindow Start.Free) r (now (state .exit)) ⌝ }
 {
-    opened(state, openings::open_plain(u))
+    opened(state, openings::open_plain(Accord { u: u }))
 }
 
 // The first three places of `told`.

@@ -65,7 +65,7 @@ first-four a b c d out = rw (le-leb 4 (length (a ∷ b ∷ c ∷ d ∷ out)) (om
 -- what the output held before makes no difference
 send-same : (d : Desk) (s : Sender) (w : ℕ) (out out' : List ℤ) → length out ≡ length out' → sendGives d (sending s w out) ≡ sendGives d (sending s w out')
 unfolding sending sentLine four
-send-same d s w out out' e = rw (← e) (by (sound s) (isWord (s .u) w) (leb 4 (length out))) where
+send-same d s w out out' e = rw (← e) (by (sound s) (isWord (s .accord .u) w) (leb 4 (length out))) where
   gives : Bool → Bool → Bool → List ℤ → Given
   gives a b c o =
       cond a

@@ -14,6 +14,7 @@ use mathlib.Core.Bool.{cond}
 use mathlib.Core.List.{List, []}
 use lib.IntN.{ℤ, pos}
 use lib.ListN.{take, replicate}
+use Rattle.points.specs.Agreed.{ofWidth}
 use Rattle.page.specs.Page.{Puts}
 use Rattle.requests.specs.declared.Request.{Request}
 use Rattle.requests.specs.declared.Request.the-variants as request
@@ -68,11 +69,11 @@ pendingOf rx = cond (machine.sound rx) (rx .core .pending) 0
 unfoldable pub acting : Desk → Request → List ℤ → Result
 acting d request.Nothing cs = says d []
 acting d request.Unread cs = says d unreadLine
-acting d (request.Sender u) cs = senderGives d (sender.opening u)
+acting d (request.Sender u) cs = senderGives d (sender.opening (ofWidth u))
 acting d (request.Send w cap) cs = sendGives d (sender.sending (d .sender) w (lent cap))
-acting d (request.Plain u) cs = openingGives d (openings.plainOpening u)
-acting d (request.Free u w) cs = openingGives d (openings.opening u w Free)
-acting d (request.At u w s) cs = openingGives d (openings.opening u w (At s))
+acting d (request.Plain u) cs = openingGives d (openings.plainOpening (ofWidth u))
+acting d (request.Free u w) cs = openingGives d (openings.opening (ofWidth u) w Free)
+acting d (request.At u w s) cs = openingGives d (openings.opening (ofWidth u) w (At s))
 acting d (request.Piece cap n) cs = ranGives d (receiver.hearing (d .receiver) (pieceOf (take n cs)) cap)
 acting d (request.Finish cap) cs = ranGives d (receiver.finishing (d .receiver) cap)
 acting d (request.Sample x y) cs = says d (sampleLine (bothOrFault (heardBits x) (heardBits y)))

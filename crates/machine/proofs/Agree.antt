@@ -50,7 +50,7 @@ module _ (c : Core) (planes picks steps : List ℕ) (live : ℕ → Bool) (from 
   shared : Shares 16 live way k
   shared s t hs ht ls lt =
       way-same c planes picks (from s) (from t) k (oldest-le (sameAt planes steps) n)
-      (λ j h. ap (symbolIn (c .u) picks (slotOf c j) (ageOf c j))
+      (λ j h. ap (symbolIn (c .accord .u) picks (slotOf c j) (ageOf c j))
       (ap (λ (r : ℕ). subsetIn planes r (n - 1 - j)) (is s hs ls) ∙ one-age j h s hs ∙ sym (ap (λ (r : ℕ). subsetIn planes r (n - 1 - j)) (is t ht lt) ∙ one-age j h t ht)))
 
   most : (m : ℕ) → m ≤ n → Shares 16 live way m → m ≤ k
@@ -63,7 +63,7 @@ module _ (c : Core) (planes picks steps : List ℕ) (live : ℕ → Bool) (from 
           let j = n - 1 - q in
           let back : n - 1 - j ≡ q = omega arith in
           let z : pendingAt c planes picks (from s) j ≡ pendingAt c planes picks (from t) j = same-way c planes picks (from s) (from t) m h (sh s t hs ht ls lt) j (omega arith) in
-          let w : subsetIn planes (from s) (n - 1 - j) ≡ subsetIn planes (from t) (n - 1 - j) = subset-of (c .u) picks (slotOf c j) (ageOf c j) (subsetIn planes (from s) (n - 1 - j)) (subsetIn planes (from t) (n - 1 - j)) (omega arith) (omega arith) z in
+          let w : subsetIn planes (from s) (n - 1 - j) ≡ subsetIn planes (from t) (n - 1 - j) = subset-of (c .accord .u) picks (slotOf c j) (ageOf c j) (subsetIn planes (from s) (n - 1 - j)) (subsetIn planes (from t) (n - 1 - j)) (omega arith) (omega arith) z in
           ap (λ (r : ℕ). subsetIn planes r q) (sym es) ∙ ap (subsetIn planes (from s)) (sym back) ∙ w ∙ ap (subsetIn planes (from t)) back ∙ ap (λ (r : ℕ). subsetIn planes r q) et
 
   pub agreed-most : Agreed 16 live (λ s. wayFrom c planes picks (from s)) (c .pending) (oldest (sameAt planes steps) (c .pending))

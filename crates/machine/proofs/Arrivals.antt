@@ -34,6 +34,7 @@ use Rattle.nearest.specs.Found.{weighedOf}
 use Rattle.select.specs.Select.{limit, sixteen, arrive, winner, sumAt, fromAt, rowOf, endOf}
 use Rattle.select.proofs.Lists.{sixteen-at}
 use Rattle.machine.proofs.Trellis.{searchOf, pickOf, laws, cost-at}
+use Rattle.points.specs.declared.Accord.{Accord}
 
 abbrev pub sealed : {P : Type 0} → ℕ → P → Surv P
 sealed v p = cond (ltb v limit) (alive v p) absent
@@ -120,40 +121,40 @@ raise-sealed v d t h = go (ltb v limit) refl
     go true e = rw (lt-ltb (v + d) limit (h (ltb-true v limit e)))
     go false e = rw (le-ltb (v + d) limit (omega (arith, ltb-false v limit e)))
 
-module _ (u : ℕ) (b : Start) (y : Two Received) (sums : List ℕ) (room : Room sums (weighedOf u y .costs)) where
+module _ (ac : Accord) (b : Start) (y : Two Received) (sums : List ℕ) (room : Room sums (weighedOf ac y .costs)) where
   abbrev costs : List ℕ
-  costs = weighedOf u y .costs
+  costs = weighedOf ac y .costs
 
   abbrev sumVia : ℕ → ℕ → ℕ
   sumVia t s = getD sums s 0 + getD costs (between s t) 0
 
-  via : (t s : ℕ) → s < 16 → tag s (raise (lineMeasure .far y (pickOf u y s t)) (rowOf sums s)) ≡ sealed (sumVia t s) s
+  via : (t s : ℕ) → s < 16 → tag s (raise (lineMeasure ac .far y (pickOf ac y s t)) (rowOf sums s)) ≡ sealed (sumVia t s) s
   via t s h =
-      ap (λ (d : ℕ). tag s (raise d (rowOf sums s))) (cost-at u y s t)
+      ap (λ (d : ℕ). tag s (raise d (rowOf sums s))) (cost-at ac y s t)
       ∙ raise-sealed (getD sums s 0) (getD costs (between s t) 0) s (room s t h)
 
-  acs-is : (t : ℕ) → t < 16 → acs (searchOf u b) y (rowOf sums) t ≡ sealed (sumAt sums costs t) (before t (winner sums costs t))
+  acs-is : (t : ℕ) → t < 16 → acs (searchOf ac b) y (rowOf sums) t ≡ sealed (sumAt sums costs t) (before t (winner sums costs t))
   unfolding acs arrive winner sumAt
   acs-is t h =
-      choose-ext (λ s. tag s (raise (lineMeasure .far y (pickOf u y s t)) (rowOf sums s))) (λ s. sealed (sumVia t s) s) (befores t)
+      choose-ext (λ s. tag s (raise (lineMeasure ac .far y (pickOf ac y s t)) (rowOf sums s))) (λ s. sealed (sumVia t s) s) (befores t)
       (λ s i. via t s (befores-below s t h i))
       ∙ choose-least (sumVia t) (before t) 3
 
   -- the new sums, and the states before
-  pub row-next : (t : ℕ) → t < 16 → rowOf (sixteen (sumAt sums (weighedOf u y .costs))) t ≡ bare (acs (searchOf u b) y (rowOf sums) t)
+  pub row-next : (t : ℕ) → t < 16 → rowOf (sixteen (sumAt sums (weighedOf ac y .costs))) t ≡ bare (acs (searchOf ac b) y (rowOf sums) t)
   row-next t h = ap (λ (v : ℕ). sealed v tt) (sixteen-at (sumAt sums costs) t h) ∙ sym (through bare (ltb (sumAt sums costs t) limit) (alive (sumAt sums costs t) (before t (winner sums costs t))) absent) ∙ ap bare (sym (acs-is t h))
 
   -- the state before a reached one
-  pub from-is : (t : ℕ) → t < 16 → getD (sixteen (sumAt sums (weighedOf u y .costs))) t 0 < limit → stateOf (acs (searchOf u b) y (rowOf sums) t) ≡ fromAt sums (weighedOf u y .costs) t
+  pub from-is : (t : ℕ) → t < 16 → getD (sixteen (sumAt sums (weighedOf ac y .costs))) t 0 < limit → stateOf (acs (searchOf ac b) y (rowOf sums) t) ≡ fromAt sums (weighedOf ac y .costs) t
   from-is t h k = ap stateOf (acs-is t h) ∙ rw (lt-ltb (sumAt sums costs t) limit (omega (arith, sixteen-at (sumAt sums costs) t h)))
 
-  pub off-new : (ys : List (Two Received)) (m : ℕ) → Off (searchOf u b) ys m (rowOf sums) → Off (searchOf u b) (y ∷ ys) m (rowOf (sixteen (sumAt sums (weighedOf u y .costs))))
-  off-new ys m off s h = off-next (searchOf u b) (laws u b) ys m (rowOf sums) off y s h ∙ ap (raise m) (sym (row-next s h))
+  pub off-new : (ys : List (Two Received)) (m : ℕ) → Off (searchOf ac b) ys m (rowOf sums) → Off (searchOf ac b) (y ∷ ys) m (rowOf (sixteen (sumAt sums (weighedOf ac y .costs))))
+  off-new ys m off s h = off-next (searchOf ac b) (laws ac b) ys m (rowOf sums) off y s h ∙ ap (raise m) (sym (row-next s h))
 
 -- ── the end ──
-pub end-is : (u : ℕ) (b : Start) (sums : List ℕ) (s : ℕ) → s < 16 → getD sums s 0 < limit → endOf sums ≡ end-state (searchOf u b) (rowOf sums)
+pub end-is : (ac : Accord) (b : Start) (sums : List ℕ) (s : ℕ) → s < 16 → getD sums s 0 < limit → endOf sums ≡ end-state (searchOf ac b) (rowOf sums)
 unfolding endOf end-state range
-end-is u b sums s h k =
+end-is ac b sums s h k =
     let m : ℕ = least (λ t. getD sums t 0) 15 in
     let l : getD sums m 0 < limit = omega (arith, least-is (λ t. getD sums t 0) 15 .is-least s (omega arith)) in
     let z : stateOf (sealed (getD sums m 0) m) ≡ m = rw (lt-ltb (getD sums m 0) limit l) in

@@ -3,6 +3,7 @@
 --   room       one more symbol finds room
 --   top-next   the bound after one more symbol
 use mathlib.Core.Path.{_≡_, subst}
+use mathlib.Core.Bool.{true}
 use mathlib.Core.List.{List, _∷_}
 use Prim.Native.Nat.{ℕ, _+_, _-_, _≤_, _<_}
 use native.Mathlib.Omega.{arith}
@@ -25,23 +26,25 @@ use Rattle.machine.specs.Machine.{topSum}
 use Rattle.select.proofs.Lists.{sixteen-most}
 use Rattle.machine.proofs.Trellis.{searchOf, pickOf, cost-at}
 use Rattle.machine.proofs.Arrivals.{Room}
+use Rattle.points.specs.declared.Accord.{Accord}
+use Rattle.points.specs.Agreed.{isAccord}
 
 -- "The squared distance of a 4D point from a received symbol stays below 2^30"
-near : (u : ℕ) → u ≤ 8 → Near u lineMeasure BothInRange
-near u small y c a v = far-below u y small a c v
+near : (ac : Accord) → isAccord ac ≡ true → Near (ac .u) (lineMeasure ac) BothInRange
+near ac small y c a v = far-below ac y small a c v
 
-module _ (u : ℕ) (small : u ≤ 8) (b : Start) (ys : List (Two Received)) (good : Every BothInRange ys) (y : Two Received) (fine : BothInRange y) (few : length (y ∷ ys) ≤ 4294967295) where
-  pub room : (sums : List ℕ) (m : ℕ) → Off (searchOf u b) ys m (rowOf sums) → Room sums (weighedOf u y .costs)
+module _ (ac : Accord) (small : isAccord ac ≡ true) (b : Start) (ys : List (Two Received)) (good : Every BothInRange ys) (y : Two Received) (fine : BothInRange y) (few : length (y ∷ ys) ≤ 4294967295) where
+  pub room : (sums : List ℕ) (m : ℕ) → Off (searchOf ac b) ys m (rowOf sums) → Room sums (weighedOf ac y .costs)
   room sums m off s t h k =
       let e : rowOf sums s ≡ alive (getD sums s 0) tt = rw (lt-ltb (getD sums s 0) limit k) in
-      let v = line-chooses u .is-first y (bitW4 s) (carryI1 s t) (carryI2 s t) (omega arith) (carryI1-below s t) (carryI2-below s t) .valid in
-      subst (λ (d : ℕ). getD sums s 0 + d < limit) (cost-at u y s t)
-      (branch-fits u lineMeasure BothInRange (near u small) b (lineChoice u) (line-chooses u) sameSymbol ys good m (rowOf sums) off s (getD sums s 0) h e y (pickOf u y s t) fine v (omega arith))
+      let v = line-chooses ac .is-first y (bitW4 s) (carryI1 s t) (carryI2 s t) (omega arith) (carryI1-below s t) (carryI2-below s t) .valid in
+      subst (λ (d : ℕ). getD sums s 0 + d < limit) (cost-at ac y s t)
+      (branch-fits (ac .u) (lineMeasure ac) BothInRange (near ac small) b (lineChoice ac) (line-chooses ac) sameSymbol ys good m (rowOf sums) off s (getD sums s 0) h e y (pickOf ac y s t) fine v (omega arith))
 
-pub top-next : (u : ℕ) → u ≤ 8 → (y : Two Received) → BothInRange y → (n : ℕ) (sums : List ℕ) → ((s : ℕ) → getD sums s 0 ≤ topSum n) → (s : ℕ) → getD (sixteen (sumAt sums (weighedOf u y .costs))) s 0 ≤ topSum (n + 1)
+pub top-next : (ac : Accord) → isAccord ac ≡ true → (y : Two Received) → BothInRange y → (n : ℕ) (sums : List ℕ) → ((s : ℕ) → getD sums s 0 ≤ topSum n) → (s : ℕ) → getD (sixteen (sumAt sums (weighedOf ac y .costs))) s 0 ≤ topSum (n + 1)
 unfolding sumAt arrive
-top-next u small y fine n sums top =
-    let costs : List ℕ = weighedOf u y .costs in
+top-next ac small y fine n sums top =
+    let costs : List ℕ = weighedOf ac y .costs in
     sixteen-most (sumAt sums costs) (topSum (n + 1)) (λ t.
     let s : ℕ = before t (winner sums costs t) in
-    omega (arith, top s, costs-below u y small fine (between s t)))
+    omega (arith, top s, costs-below ac y small fine (between s t)))

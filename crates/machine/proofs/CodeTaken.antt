@@ -43,15 +43,15 @@ unfolding agreedOf
 agreed-few rx y = oldest-le (sameAt (rx .planes) (nextSteps rx y)) (rx .core .pending)
 
 -- ---- the look ahead
-pub summable : (core : Core) (sums : List ℕ) (g h : Received) (w : Weighed) → Ready core sums → core .taken < 4294967295 → InRange g → InRange h → w ≡ weighedOf (core .u) (heardAs g h) → Summable sums (w .costs)
+pub summable : (core : Core) (sums : List ℕ) (g h : Received) (w : Weighed) → Ready core sums → core .taken < 4294967295 → InRange g → InRange h → w ≡ weighedOf (core .accord) (heardAs g h) → Summable sums (w .costs)
 summable core sums g h w r few a b e =
     record {
       sums-below = λ i. omega (arith, r .sums-fit i);
-      costs-below = rw e (costs-below (core .u) (heardAs g h) (r .core-fits .width) (record { first-in = a; second-in = b }));
+      costs-below = rw e (costs-below (core .accord) (heardAs g h) (r .core-fits .agreed) (record { first-in = a; second-in = b }));
     }
 
 pub looked : (core : Core) (sums planes : List ℕ) (y : Two Received) (w : Weighed) (next : Selected) (ways : List ℕ) (n numbers : ℕ)
-    → w ≡ weighedOf (core .u) y
+    → w ≡ weighedOf (core .accord) y
     → next ≡ record { sums = sixteen (sumAt sums (w .costs)); steps = sixteen (stepAt sums (w .costs)) }
     → ways ≡ wordsBefore planes (next .steps) 0
     → n ≡ oldest (sameAt planes (next .steps)) (core .pending)
@@ -63,7 +63,7 @@ looked core sums planes y w next ways n numbers ew es em en ek =
     let a : next .sums ≡ nextSums rx y = ap (λ (x : Selected). x .sums) es ∙ rw ew in
     let b : next .steps ≡ nextSteps rx y = ap (λ (x : Selected). x .steps) es ∙ rw ew in
     let f : ways ≡ wordsBefore planes (nextSteps rx y) 0 = em ∙ ap (λ (l : List ℕ). wordsBefore planes l 0) b in
-    let c : w .i3 ≡ weighedOf (core .u) y .i3 = ap (λ (x : Weighed). x .i3) ew in
+    let c : w .i3 ≡ weighedOf (core .accord) y .i3 = ap (λ (x : Weighed). x .i3) ew in
     let k : numbers ≡ numbersIn rx y = ek ∙ ap (λ (x : Weighed). numbersOf (x .w1) (x .w2)) ew in
     let s : getD (next .steps) 0 0 / 8 % 16 ≡ prevIn (nextSteps rx y) 0 = ap (λ (m : List ℕ). prevIn m 0) b in
     let m : n ≡ oldest (sameAt planes (nextSteps rx y)) (core .pending) = en ∙ ap (λ (l : List ℕ). oldest (sameAt planes l) (core .pending)) b in
@@ -113,18 +113,18 @@ module _ (core : Core) (sums planes picks : List ℕ) (y : Two Received) (out : 
         unfolding releasedOf
         released-is = ap₂ (λ (n s : ℕ). take n (wayFrom core planes picks s)) agreed-same (ap (λ (x : Outlook). x .state) is)
 
-        words-length : length (wordsFrom (core .u) (core .turn) released) ≡ o .agreed
+        words-length : length (wordsFrom (core .accord .u) (core .turn) released) ≡ o .agreed
         words-length =
-            speak-length turnAfter (word (core .u)) (core .turn) released
+            speak-length turnAfter (word (core .accord .u)) (core .turn) released
             ∙ length-take-le (o .agreed) (wayFrom core planes picks (o .state)) (rw (way-length core planes picks (o .state)) few)
 
         pub done : (core′ : Core) (sums′ planes′ picks′ out′ : List ℕ) (turn : ℕ) → o .agreed ≤ length out
             → turn ≡ after turnAfter (core .turn) released
-            → out′ ≡ wordsFrom (core .u) (core .turn) released ++ drop (o .agreed) out
+            → out′ ≡ wordsFrom (core .accord .u) (core .turn) released ++ drop (o .agreed) out
             → sums′ ≡ o .sums
             → planes′ ≡ movedOf (core .pending + 1) planes (o .steps)
             → picks′ ≡ keptIn picks (core .slot) (o .i3) (o .numbers)
-            → core′ ≡ record { u = core .u; window = core .window; taken = core .taken + 1; turn = turn; slot = (core .slot + 1) % 64; pending = core .pending + 1 - o .agreed }
+            → core′ ≡ record { accord = core .accord; window = core .window; taken = core .taken + 1; turn = turn; slot = (core .slot + 1) % 64; pending = core .pending + 1 - o .agreed }
             → TookIs (taking rx y (length out)) (record { core = core′; written = o .agreed; why = Done }) sums′ planes′ picks′ out out′
         unfolding taking grown
         done core′ sums′ planes′ picks′ out′ turn room et eo ea eb ec ed =

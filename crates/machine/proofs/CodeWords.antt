@@ -43,20 +43,20 @@ module _ (core : Core) (planes picks out₀ out : List ℕ) (s n j turn : ℕ) (
   one-more : take (j + 1) all ≡ take j all ++ (here ∷ [])
   one-more = rw (add-one j) (take-suc all j here long ∙ ap (λ (c : Symbol). take j all ++ (c ∷ [])) (way-at core planes picks s j here (omega arith)))
 
-  module _ (r : Said) (is : r ≡ saidOf (core .u) turn here) where
+  module _ (r : Said) (is : r ≡ saidOf (core .accord .u) turn here) where
     pub turn-below : r .turn < 4
-    turn-below = let v = symbol-valid (core .u) (typeAt picks (subsetIn planes s (ageOf core j)) (ageOf core j)) (numbersAt picks (slotOf core j)) (subsetIn planes s (ageOf core j)) (omega arith) in rw is (omega (arith, v .i2-below, v .i3-below))
+    turn-below = let v = symbol-valid (core .accord .u) (typeAt picks (subsetIn planes s (ageOf core j)) (ageOf core j)) (numbersAt picks (slotOf core j)) (subsetIn planes s (ageOf core j)) (omega arith) in rw is (omega (arith, v .i2-below, v .i3-below))
 
     module _ (turned : turn ≡ after turnAfter (core .turn) (take j all)) where
       pub turn-more : r .turn ≡ after turnAfter (core .turn) (take (j + 1) all)
       turn-more = ap (λ (x : Said). x .turn) is ∙ sym (ap (after turnAfter (core .turn)) one-more ∙ after-snoc (core .turn) (take j all) here)
 
-      pub words-more : n ≤ length out₀ → out ≡ wordsFrom (core .u) (core .turn) (take j all) ++ drop j out₀
-          → set out j (r .word) ≡ wordsFrom (core .u) (core .turn) (take (j + 1) all) ++ drop (j + 1) out₀
+      pub words-more : n ≤ length out₀ → out ≡ wordsFrom (core .accord .u) (core .turn) (take j all) ++ drop j out₀
+          → set out j (r .word) ≡ wordsFrom (core .accord .u) (core .turn) (take (j + 1) all) ++ drop (j + 1) out₀
       words-more room so-far =
-          let w = wordsFrom (core .u) (core .turn) (take j all) in
-          let l : length w ≡ j = speak-length turnAfter (word (core .u)) (core .turn) (take j all) ∙ length-take-le j all (omega (arith, long)) in
-          let said-is : r .word ≡ word (core .u) (after turnAfter (core .turn) (take j all)) here = ap (λ (x : Said). x .word) is ∙ ap (λ (q : ℕ). word (core .u) q here) turned in
+          let w = wordsFrom (core .accord .u) (core .turn) (take j all) in
+          let l : length w ≡ j = speak-length turnAfter (word (core .accord .u)) (core .turn) (take j all) ∙ length-take-le j all (omega (arith, long)) in
+          let said-is : r .word ≡ word (core .accord .u) (after turnAfter (core .turn) (take j all)) here = ap (λ (x : Said). x .word) is ∙ ap (λ (q : ℕ). word (core .accord .u) q here) turned in
           ap₂ (λ (m : List ℕ) (x : ℕ). set m j x) so-far said-is
-          ∙ set-next w out₀ j 0 (word (core .u) (after turnAfter (core .turn) (take j all)) here) l (omega arith)
-          ∙ ap₂ (λ (m : List ℕ) (i : ℕ). m ++ drop i out₀) (sym (ap (wordsFrom (core .u) (core .turn)) one-more ∙ words-snoc (core .u) (core .turn) (take j all) here)) (sym (add-one j))
+          ∙ set-next w out₀ j 0 (word (core .accord .u) (after turnAfter (core .turn) (take j all)) here) l (omega arith)
+          ∙ ap₂ (λ (m : List ℕ) (i : ℕ). m ++ drop i out₀) (sym (ap (wordsFrom (core .accord .u) (core .turn)) one-more ∙ words-snoc (core .accord .u) (core .turn) (take j all) here)) (sym (add-one j))

@@ -12,7 +12,7 @@ use Rattle.trellis.specs.Code.{Path, symbols}
 use Rattle.trellis.specs.Best.{Answer}
 use Rattle.trellis.specs.Common.{common}
 use Rattle.trellis.specs.Measure.{Start, GoodStart, Two}
-use Rattle.trellis.specs.Words.{word, turnAfter, wordsFrom}
+use Rattle.trellis.specs.Words.{word, turnAfter, wordsFrom, firstTurn}
 use Rattle.trellis.specs.Said.{spokenWords, answerWords}
 use Rattle.trellis.proofs.Onward.{some-answer}
 use Rattle.trellis.proofs.Invariant.{holds-finish}
@@ -23,38 +23,40 @@ use Rattle.nearest.specs.Line.{lineMeasure, lineChoice}
 use Rattle.machine.specs.declared.Receiver.{Receiver}
 use Rattle.select.specs.Select.{limit, rowOf, endOf}
 use Rattle.machine.specs.Machine.{wayFrom, lastSymbols, lastWords}
-use Rattle.machine.proofs.Trellis.{codeOf, searchOf, laws, onward, some-up}
+use Rattle.machine.proofs.Trellis.{searchOf, laws, onward, some-up}
 use Rattle.machine.proofs.Arrivals.{up-sealed, end-is}
 use Rattle.machine.proofs.Keeps.{Keeps}
 use Rattle.machine.proofs.Step.{saidOf}
 use Rattle.machine.proofs.Way.{way-length}
+use Rattle.told.specs.Told.{codeOf}
+use Rattle.points.specs.declared.Accord.{Accord}
 
-finish-is : (u : ℕ) (b : Start) → GoodStart b → (ys : List (Two Received)) (rx : Receiver) → Keeps u b ys rx → (p : Path Symbol) → Answer (codeOf u b) ys p →
-    symbols p ≡ common (searchOf u b) ys ++ lastSymbols rx
+finish-is : (ac : Accord) (b : Start) → GoodStart b → (ys : List (Two Received)) (rx : Receiver) → Keeps ac b ys rx → (p : Path Symbol) → Answer (codeOf ac b) ys p →
+    symbols p ≡ common (searchOf ac b) ys ++ lastSymbols rx
 unfolding lastSymbols
-finish-is u b g ys rx k p a =
+finish-is ac b g ys rx k p a =
     let way = wayFrom (rx .core) (rx .planes) (rx .picks) in
-    let (s, h, t) = some-up u b g ys (k .holds .less) (rowOf (rx .sums)) (k .holds .off) in
+    let (s, h, t) = some-up ac b g ys (k .holds .less) (rowOf (rx .sums)) (k .holds .off) in
     let l : getD (rx .sums) s 0 < limit = ltb→lt (getD (rx .sums) s 0) limit (subst T (up-sealed (getD (rx .sums) s 0) tt) t) in
-    holds-finish (searchOf u b) (laws u b) ys (rowOf (rx .sums)) way (rx .core .pending) (k .holds) p a
-    ∙ ap (λ (m : ℕ). common (searchOf u b) ys ++ way m) (sym (end-is u b (rx .sums) s h l))
+    holds-finish (searchOf ac b) (laws ac b) ys (rowOf (rx .sums)) way (rx .core .pending) (k .holds) p a
+    ∙ ap (λ (m : ℕ). common (searchOf ac b) ys ++ way m) (sym (end-is ac b (rx .sums) s h l))
 
-pub last-words : (u : ℕ) (b : Start) → GoodStart b → (ys : List (Two Received)) (rx : Receiver) → Keeps u b ys rx →
-    lastWords rx ≡ drop (length (saidOf u b ys)) (answerWords u lineMeasure (lineChoice u) b ys)
+pub last-words : (ac : Accord) (b : Start) → GoodStart b → (ys : List (Two Received)) (rx : Receiver) → Keeps ac b ys rx →
+    lastWords rx ≡ drop (length (saidOf ac b ys)) (answerWords (ac .u) (lineMeasure ac) (lineChoice ac) b ys)
 unfolding spokenWords answerWords
-last-words u b g ys rx k =
-    let (p, a) = some-answer (searchOf u b) (laws u b) (onward u b g) ys in
-    ap₂ (λ (v q : ℕ). wordsFrom v q (lastSymbols rx)) (k .width) (k .turn)
-    ∙ sym (spoken-rest (searchOf u b) (laws u b) (word u) turnAfter 0 ys p a (lastSymbols rx) (finish-is u b g ys rx k p a))
+last-words ac b g ys rx k =
+    let (p, a) = some-answer (searchOf ac b) (laws ac b) (onward ac b g) ys in
+    ap₂ (λ (v : Accord) (q : ℕ). wordsFrom (v .u) q (lastSymbols rx)) (k .accord) (k .turn)
+    ∙ sym (spoken-rest (searchOf ac b) (laws ac b) (word (ac .u)) turnAfter (firstTurn b) ys p a (lastSymbols rx) (finish-is ac b g ys rx k p a))
 
 pub last-many : (rx : Receiver) → length (lastWords rx) ≡ rx .core .pending
 unfolding lastSymbols
-last-many rx = speak-length turnAfter (word (rx .core .u)) (rx .core .turn) (lastSymbols rx) ∙ way-length (rx .core) (rx .planes) (rx .picks) (endOf (rx .sums))
+last-many rx = speak-length turnAfter (word (rx .core .accord .u)) (rx .core .turn) (lastSymbols rx) ∙ way-length (rx .core) (rx .planes) (rx .picks) (endOf (rx .sums))
 
 -- the words that the code writes from the end state
 pub last-from : (rx : Receiver) (s : ℕ) → s ≡ endOf (rx .sums) →
-    wordsFrom (rx .core .u) (rx .core .turn) (take (rx .core .pending) (wayFrom (rx .core) (rx .planes) (rx .picks) s)) ≡ lastWords rx
+    wordsFrom (rx .core .accord .u) (rx .core .turn) (take (rx .core .pending) (wayFrom (rx .core) (rx .planes) (rx .picks) s)) ≡ lastWords rx
 unfolding lastSymbols
 last-from rx s e =
     let way : List Symbol = wayFrom (rx .core) (rx .planes) (rx .picks) s in
-    ap (wordsFrom (rx .core .u) (rx .core .turn)) (take-all (rx .core .pending) way (omega (arith, way-length (rx .core) (rx .planes) (rx .picks) s)) ∙ ap (wayFrom (rx .core) (rx .planes) (rx .picks)) e)
+    ap (wordsFrom (rx .core .accord .u) (rx .core .turn)) (take-all (rx .core .pending) way (omega (arith, way-length (rx .core) (rx .planes) (rx .picks) s)) ∙ ap (wayFrom (rx .core) (rx .planes) (rx .picks)) e)

@@ -31,7 +31,7 @@ unfolding taking
 taking-many rx y room e = cc
 
 taking-with : (rx : Receiver) (y : Two Received) (room w k n : ℕ) (ws : List ℕ) → eqb (rx .core .taken) 4294967295 ≡ false → rx .core .window ≡ w → keptOf rx y ≡ k → agreedOf rx y ≡ n →
-    wordsFrom (rx .core .u) (rx .core .turn) (releasedOf rx y) ≡ ws →
+    wordsFrom (rx .core .accord .u) (rx .core .turn) (releasedOf rx y) ≡ ws →
     taking rx y room ≡ cond (ltb w k) (refused rx Full) (cond (ltb room n) (refused rx NoRoom) (record { receiver = grown rx y; words = ws; why = Done }))
 unfolding taking
 taking-with rx y room w k n ws e₀ e₁ e₂ e₃ e₄ = cc
@@ -72,7 +72,7 @@ module _ (t : Told) (f : Fine t) (y : Two Received) (r : BothInRange y) (room : 
 
   more : length ys < 4294967295 → Right (judgeSymbol t ys y room) (taking rx y room)
   more few =
-      let S : Stepped (t .u) (t .start) (t .heard) y (machineOf t) = owes-step t f y r few in
+      let S : Stepped (t .accord) (t .start) (t .heard) y (machineOf t) = owes-step t f y r few in
       same (in-range ∙ rw (lt-leb 4294967295 (length ys) few))
       (taking-with rx y room (t .window) (pendingAfter t (y ∷ ys)) (length (fresh (speakerOf t) ys y)) (fresh (speakerOf t) ys y) (ne-eqb (rx .core .taken) 4294967295 (λ e. omega (arith, owes t f .keeps .taken)))
       (owes t f .window) (S .kept) (S .agreed) (S .words))

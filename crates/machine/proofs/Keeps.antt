@@ -1,6 +1,6 @@
 -- What the receiver's record is after any list of symbols, field by field, in the words of the theory; and that a fresh one is so
 -- before any symbol.
---   Keeps u b ys rx   rx is the record of width u and start b after the symbols ys, newest first
+--   Keeps ac b ys rx  rx is the record of the accord ac and the start b after the symbols ys, newest first
 --   keeps-start       a fresh receiver, before any symbol
 use mathlib.Core.Path.{_≡_, refl, sym, ap, _∙_}
 use mathlib.Core.Bool.{Bool, true, false, cond}
@@ -16,7 +16,7 @@ use Rattle.trellis.specs.Cells.{Off}
 use Rattle.trellis.specs.Invariant.{Holds}
 use Rattle.trellis.specs.Measure.{Start, free, named, Two}
 use Rattle.trellis.specs.Speak.{after, carried}
-use Rattle.trellis.specs.Words.{turnAfter}
+use Rattle.trellis.specs.Words.{turnAfter, firstTurn}
 use Rattle.trellis.proofs.Common.{reach-le}
 use Rattle.trellis.proofs.Invariant.{holds-start}
 use Rattle.wei.specs.Symbol.{Symbol}
@@ -27,15 +27,16 @@ use Rattle.machine.specs.Machine.{core, freshSums, opened, wayFrom, topS
 use Rattle.select.proofs.Lists.{sixteen-at, sixteen-most}
 use Rattle.machine.proofs.Trellis.{searchOf, laws}
 use Rattle.machine.proofs.Arrivals.{sealed}
+use Rattle.points.specs.declared.Accord.{Accord}
 
-pub record Keeps (u : ℕ) (b : Start) (ys : List (Two Received)) (rx : Receiver) : Type 0 where
+pub record Keeps (ac : Accord) (b : Start) (ys : List (Two Received)) (rx : Receiver) : Type 0 where
   pub is-live : rx .live ≡ true
-  pub width : rx .core .u ≡ u
+  pub accord : rx .core .accord ≡ ac
   pub taken : rx .core .taken ≡ length ys
   -- the turn after what is released
-  pub turn : rx .core .turn ≡ carried (searchOf u b) turnAfter 0 ys
+  pub turn : rx .core .turn ≡ carried (searchOf ac b) turnAfter (firstTurn b) ys
   -- the sums and the pending symbols on the way into each state are the theory's
-  pub holds : Holds (searchOf u b) ys (rowOf (rx .sums)) (wayFrom (rx .core) (rx .planes) (rx .picks)) (rx .core .pending)
+  pub holds : Holds (searchOf ac b) ys (rowOf (rx .sums)) (wayFrom (rx .core) (rx .planes) (rx .picks)) (rx .core .pending)
   pub slot-below : rx .core .slot < 64
   pub pending-fits : rx .core .pending ≤ 64
   pub sums-long : length (rx .sums) ≡ 16
@@ -45,8 +46,8 @@ pub record Keeps (u : ℕ) (b : Start) (ys : List (Two Received)) (rx : Receiver
   pub top : (s : ℕ) → getD (rx .sums) s 0 ≤ topSum (length ys)
 
 -- ── a fresh receiver ──
-module _ (u : ℕ) where
-  off-start : (b : Start) → Off (searchOf u b) [] 0 (rowOf (freshSums b))
+module _ (ac : Accord) where
+  off-start : (b : Start) → Off (searchOf ac b) [] 0 (rowOf (freshSums b))
   unfolding surv freshSums
   off-start free s h = sym (ap (λ (v : ℕ). raise 0 (sealed v tt)) (sixteen-at (λ t. 0) s h))
   off-start (named n) s h = sym (ap (λ (v : ℕ). raise 0 (sealed v tt)) (sixteen-at (λ t. cond (eqb t n) 0 limit) s h) ∙ go (eqb s n))
@@ -55,9 +56,9 @@ module _ (u : ℕ) where
       go true = refl
       go false = refl
 
-  turn-start : (b : Start) → 0 ≡ carried (searchOf u b) turnAfter 0 []
+  turn-start : (b : Start) → firstTurn b ≡ carried (searchOf ac b) turnAfter (firstTurn b) []
   unfolding carried after reach
-  turn-start b = ap (after turnAfter 0) (sym (none (common (searchOf u b) []) (reach-le (searchOf u b) (laws u b) [])))
+  turn-start b = ap (after turnAfter (firstTurn b)) (sym (none (common (searchOf ac b) []) (reach-le (searchOf ac b) (laws ac b) [])))
     where
       none : (l : List Symbol) → length l ≤ 0 → l ≡ []
       none [] h = refl
@@ -77,15 +78,15 @@ module _ (u : ℕ) where
   sums-start free = refl
   sums-start (named n) = refl
 
-  pub keeps-start : (window : ℕ) (b : Start) → Keeps u b [] (opened u window b)
+  pub keeps-start : (window : ℕ) (b : Start) → Keeps ac b [] (opened ac window b)
   unfolding opened wayFrom range
   keeps-start window b =
       record {
         is-live = refl;
-        width = refl;
+        accord = refl;
         taken = refl;
         turn = turn-start b;
-        holds = holds-start (searchOf u b) (laws u b) 0 (rowOf (freshSums b)) (off-start b) (wayFrom (core u window) (replicate 48 0) (replicate 72 0)) (λ s. refl);
+        holds = holds-start (searchOf ac b) (laws ac b) 0 (rowOf (freshSums b)) (off-start b) (wayFrom (core ac window (firstTurn b)) (replicate 48 0) (replicate 72 0)) (λ s. refl);
         slot-below = omega arith;
         pending-fits = omega arith;
         sums-long = sums-start b;

@@ -1,7 +1,7 @@
 -- What the doors rely on. For a receiver that was told a fine history: its record, what one more symbol does to it, what finish
 -- writes and what an opening makes, each in the words of the meaning.
 --   sound-told                           the machine takes the record for sound
---   width-told .. pending-fits           the record's numbers
+--   accord-told .. pending-fits          the record's numbers
 --   kept-told, agreed-told, words-told   one more symbol: how many stay pending, how many words are released, and which
 --   Judged, taking-told                  what is said to a symbol and what becomes of it are what the meaning judges
 --   machine-same                         the receiver told other symbols: the same machine after ys
@@ -17,6 +17,7 @@ use Prim.Native.Nat.{ℕ, _+_, _≤_, _<_}
 use native.Mathlib.Omega.{arith}
 use lib.ListN.{length}
 use Rattle.calls.specs.Calls.{fresh, rest}
+use Rattle.points.specs.declared.Accord.{Accord}
 use Rattle.trellis.specs.Measure.{Start, Two}
 use Rattle.trellis.specs.Words.{wordsFrom}
 use Rattle.trellis.proofs.Spoken.{spoken-reach}
@@ -38,8 +39,8 @@ module _ (t : Told) (f : Fine t) where
   pub sound-told : sound (machineOf t) ≡ true
   sound-told = owes-sound t f
 
-  pub width-told : machineOf t .core .u ≡ t .u
-  width-told = owes t f .keeps .width
+  pub accord-told : machineOf t .core .accord ≡ t .accord
+  accord-told = owes t f .keeps .accord
 
   pub window-told : machineOf t .core .window ≡ t .window
   window-told = owes t f .window
@@ -48,7 +49,7 @@ module _ (t : Told) (f : Fine t) where
   taken-told = owes t f .keeps .taken
 
   pub pending-told : machineOf t .core .pending ≡ pendingAfter t (t .heard)
-  pending-told = omega (arith, owes t f .keeps .holds .count, spoken-reach (t .u) lineMeasure (lineChoice (t .u)) (line-chooses (t .u)) (t .start) (f .good-start) (t .heard))
+  pending-told = omega (arith, owes t f .keeps .holds .count, spoken-reach (t .accord .u) (lineMeasure (t .accord)) (lineChoice (t .accord)) (line-chooses (t .accord)) (t .start) (f .good-start) (t .heard))
 
   pub pending-fits : machineOf t .core .pending ≤ t .window
   pending-fits = owes t f .fits
@@ -61,7 +62,7 @@ module _ (t : Told) (f : Fine t) where
     pub agreed-told : agreedOf (machineOf t) y ≡ length (fresh (speakerOf t) (t .heard) y)
     agreed-told = owes-step t f y r few .agreed
 
-    pub words-told : wordsFrom (machineOf t .core .u) (machineOf t .core .turn) (releasedOf (machineOf t) y) ≡ fresh (speakerOf t) (t .heard) y
+    pub words-told : wordsFrom (machineOf t .core .accord .u) (machineOf t .core .turn) (releasedOf (machineOf t) y) ≡ fresh (speakerOf t) (t .heard) y
     words-told = owes-step t f y r few .words
 
     -- as many as were pending and the new one are released or stay pending
@@ -82,7 +83,7 @@ module _ (t : Told) (f : Fine t) where
 
   -- ── finish ──
   pub last-told : lastWords (machineOf t) ≡ rest (speakerOf t) (t .heard)
-  last-told = last-words (t .u) (t .start) (f .good-start) (t .heard) (machineOf t) (owes t f .keeps)
+  last-told = last-words (t .accord) (t .start) (f .good-start) (t .heard) (machineOf t) (owes t f .keeps)
 
   pub rest-many : length (rest (speakerOf t) (t .heard)) ≡ machineOf t .core .pending
   rest-many = ap length (sym last-told) ∙ last-many (machineOf t)
@@ -91,6 +92,6 @@ module _ (t : Told) (f : Fine t) where
   rest-most = omega (arith, rest-many, pending-fits, f .small-window)
 
 -- ── an opening ──
-pub opened-told : (u window : ℕ) (b : Start) → machineOf (unheard u window b) ≡ opened u window b
+pub opened-told : (ac : Accord) (window : ℕ) (b : Start) → machineOf (unheard ac window b) ≡ opened ac window b
 unfolding machineAfter
-opened-told u window b = refl
+opened-told ac window b = refl

@@ -4,12 +4,13 @@
 --   owes           so it is after every fine history
 --   owes-step      what one more symbol does to it
 --   owes-sound     the machine takes it for sound
-use mathlib.Core.Path.{_≡_, refl}
+use mathlib.Core.Path.{_≡_, refl, ap, _∙_}
 use mathlib.Core.Bool.{true}
 use mathlib.Core.List.{List, [], _∷_}
 use Prim.Native.Nat.{_≤_, _<_}
 use native.Mathlib.Omega.{arith}
 use lib.ListN.{length}
+use Rattle.points.specs.Agreed.{isAccord}
 use Rattle.trellis.specs.Lists.{Every}
 use Rattle.trellis.specs.Measure.{GoodStart, Two}
 use Rattle.nearest.specs.declared.Received.{Received}
@@ -23,7 +24,7 @@ use Rattle.machine.proofs.Sound.{sound-from}
 use Rattle.machine.proofs.Step.{Stepped, stepped}
 
 pub record Owes (t : Told) (ys : List (Two Received)) (rx : Receiver) : Type 0 where
-  pub keeps : Keeps (t .u) (t .start) ys rx
+  pub keeps : Keeps (t .accord) (t .start) ys rx
   pub window : rx .core .window ≡ t .window
   pub fits : rx .core .pending ≤ t .window
 
@@ -32,36 +33,36 @@ module _ (t : Told) where
   all-in-range [] f = tt
   all-in-range (y ∷ ys) f = (f .0, all-in-range ys (f .2))
 
-  module _ (width : t .u ≤ 8) (small : t .window ≤ 64) (g : GoodStart (t .start)) where
+  module _ (agreed : isAccord (t .accord) ≡ true) (small : t .window ≤ 64) (g : GoodStart (t .start)) where
     next : (ys : List (Two Received)) (y : Two Received) (rx : Receiver) → length (y ∷ ys) ≤ 4294967295 → FineList t (y ∷ ys) → Owes t ys rx → Owes t (y ∷ ys) (grown rx y)
     unfolding grown
     next ys y rx few f o =
-        let s : Stepped (t .u) (t .start) ys y rx = stepped (t .u) (t .start) ys y rx width g (all-in-range ys (f .2)) (f .0) few (o .keeps) in
+        let s : Stepped (t .accord) (t .start) ys y rx = stepped (t .accord) (t .start) ys y rx agreed g (all-in-range ys (f .2)) (f .0) few (o .keeps) in
         let h : keptOf rx y ≤ t .window = omega (arith, f .1, s .kept) in
         record { keeps = s .next (omega arith); window = o .window; fits = h }
 
     pub owes-after : (ys : List (Two Received)) → length ys ≤ 4294967295 → FineList t ys → Owes t ys (machineAfter t ys)
     unfolding machineAfter opened
-    owes-after [] few f = record { keeps = keeps-start (t .u) (t .window) (t .start); window = refl; fits = omega arith }
+    owes-after [] few f = record { keeps = keeps-start (t .accord) (t .window) (t .start); window = refl; fits = omega arith }
     owes-after (y ∷ ys) few f = next ys y (machineAfter t ys) few f (owes-after ys (omega arith) (f .2))
 
 pub owes : (t : Told) → Fine t → Owes t (t .heard) (machineOf t)
-owes t f = owes-after t (f .width) (f .small-window) (f .good-start) (t .heard) (f .few) (f .each)
+owes t f = owes-after t (f .agreed) (f .small-window) (f .good-start) (t .heard) (f .few) (f .each)
 
-pub owes-step : (t : Told) → Fine t → (y : Two Received) → BothInRange y → length (t .heard) < 4294967295 → Stepped (t .u) (t .start) (t .heard) y (machineOf t)
-owes-step t f y r few = stepped (t .u) (t .start) (t .heard) y (machineOf t) (f .width) (f .good-start) (all-in-range t (t .heard) (f .each)) r few (owes t f .keeps)
+pub owes-step : (t : Told) → Fine t → (y : Two Received) → BothInRange y → length (t .heard) < 4294967295 → Stepped (t .accord) (t .start) (t .heard) y (machineOf t)
+owes-step t f y r few = stepped (t .accord) (t .start) (t .heard) y (machineOf t) (f .agreed) (f .good-start) (all-in-range t (t .heard) (f .each)) r few (owes t f .keeps)
 
 -- so the record is one that the functions can work on
 pub owes-sound : (t : Told) (f : Fine t) → sound (machineOf t) ≡ true
 owes-sound t f =
     let o : Owes t (t .heard) (machineOf t) = owes t f in
-    let k : Keeps (t .u) (t .start) (t .heard) (machineOf t) = o .keeps in
+    let k : Keeps (t .accord) (t .start) (t .heard) (machineOf t) = o .keeps in
     sound-from (machineOf t) (k .is-live)
     (record {
-      width = omega (arith, k .width, f .width);
+      agreed = ap isAccord (k .accord) ∙ f .agreed;
       some-window = omega (arith, o .window, f .some-window);
       small-window = omega (arith, o .window, f .small-window);
-      turn-below = omega (arith, k .turn, turn-below (t .u) (t .start) (f .good-start) (t .heard));
+      turn-below = omega (arith, k .turn, turn-below (t .accord) (t .start) (f .good-start) (t .heard));
       slot-below = k .slot-below;
       held = omega (arith, o .window, o .fits);
     })

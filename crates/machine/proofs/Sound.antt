@@ -10,6 +10,7 @@ use native.Mathlib.Omega.{arith}
 use borrow.Author.Tests.{leb-true, ltb-true, lt-ltb, le-leb}
 use lib.Dec.{leb, ltb}
 use lib.ListN.{take}
+use Rattle.points.specs.Agreed.{isAccord}
 use Rattle.trellis.specs.Measure.{Two}
 use Rattle.trellis.specs.Search.{range}
 use Rattle.trellis.specs.Lists.{Every}
@@ -30,13 +31,13 @@ use Rattle.machine.proofs.Bounds.{top-next}
 core-facts : (c : Core) → soundCore c ≡ true → CoreFits c
 unfolding soundCore
 core-facts c e =
-    let (e₀, r₀) = and-both (leb (c .u) 8) _ e in
+    let (e₀, r₀) = and-both (isAccord (c .accord)) _ e in
     let (e₁, r₁) = and-both (leb 1 (c .window)) _ r₀ in
     let (e₂, r₂) = and-both (leb (c .window) 64) _ r₁ in
     let (e₃, r₃) = and-both (ltb (c .turn) 4) _ r₂ in
     let (e₄, e₅) = and-both (ltb (c .slot) 64) _ r₃ in
     record {
-      width = leb-true (c .u) 8 e₀;
+      agreed = e₀;
       some-window = leb-true 1 (c .window) e₁;
       small-window = leb-true (c .window) 64 e₂;
       turn-below = ltb-true (c .turn) 4 e₃;
@@ -87,7 +88,7 @@ unfolding sound soundCore
 sound-from rx l c s =
     rw (
       l,
-      le-leb (rx .core .u) 8 (c .width),
+      c .agreed,
       le-leb 1 (rx .core .window) (c .some-window),
       le-leb (rx .core .window) 64 (c .small-window),
       lt-ltb (rx .core .turn) 4 (c .turn-below),
@@ -102,11 +103,11 @@ grown-sound rx y e r h =
     let c = sound-core rx e in
     sound-from (grown rx y) (sound-live rx e)
     (record {
-      width = c .width;
+      agreed = c .agreed;
       some-window = c .some-window;
       small-window = c .small-window;
       turn-below = released-turned rx y (c .turn-below);
       slot-below = omega arith;
       held = h;
     })
-    (top-next (rx .core .u) (c .width) y r (rx .core .taken) (rx .sums) (sums-fact rx e))
+    (top-next (rx .core .accord) (c .agreed) y r (rx .core .taken) (rx .sums) (sums-fact rx e))

@@ -5,6 +5,7 @@
 --   Stepped u b ys y rx   what one symbol does, in the words of the theory
 --   stepped               it does so
 use mathlib.Core.Path.{_≡_, refl, sym, ap, ap₂, subst, _∙_}
+use mathlib.Core.Bool.{true}
 use mathlib.Core.List.{List, [], _∷_, _++_}
 use Prim.Native.Nat.{ℕ, suc, _+_, _-_, _%_, _≤_, _<_}
 use native.Mathlib.Omega.{arith}
@@ -23,7 +24,7 @@ use Rattle.trellis.specs.Invariant.{Holds, Agreed, before, longer}
 use Rattle.trellis.specs.Measure.{Start, GoodStart, Two}
 use Rattle.trellis.specs.Same.{sameSymbol}
 use Rattle.trellis.specs.Speak.{after}
-use Rattle.trellis.specs.Words.{word, turnAfter, wordsFrom}
+use Rattle.trellis.specs.Words.{word, turnAfter, wordsFrom, firstTurn}
 use Rattle.trellis.specs.Said.{spokenWords}
 use Rattle.trellis.proofs.Invariant.{released, newly-is, holds-next}
 use Rattle.trellis.proofs.Newest.{newest-kept}
@@ -37,9 +38,10 @@ use Rattle.nearest.specs.Line.{BothInRange, lineMeasure, lineChoice}
 use Rattle.nearest.specs.Found.{weighedOf}
 use Rattle.machine.specs.declared.Receiver.{Receiver}
 use Rattle.select.specs.Select.{limit, fromAt, firstStep, followed, rowOf}
+use Rattle.told.specs.Told.{codeOf}
 use Rattle.picks.proofs.Kept.{kept-length}
 use Rattle.machine.specs.Machine.{costsOf, nextSums, nextSteps, numbersIn, wayFrom, agreedOf, keptOf, releasedOf, grown}
-use Rattle.machine.proofs.Trellis.{codeOf, searchOf, laws, onward, some-up}
+use Rattle.machine.proofs.Trellis.{searchOf, laws, onward, some-up}
 use Rattle.machine.proofs.Arrivals.{Room, up-sealed, off-new}
 use Rattle.select.proofs.Followed.{followed-live, followed-below, followed-up}
 use Rattle.machine.proofs.Picked.{step-at, step-from, before-is, newSymbol, symbol-is}
@@ -47,26 +49,28 @@ use Rattle.machine.proofs.Way.{way-grown}
 use Rattle.machine.proofs.Agree.{agreed-most}
 use Rattle.machine.proofs.Keeps.{Keeps}
 use Rattle.machine.proofs.Bounds.{room, top-next}
+use Rattle.points.specs.declared.Accord.{Accord}
+use Rattle.points.specs.Agreed.{isAccord}
 
-abbrev pub saidOf : ℕ → Start → List (Two Received) → List ℕ
-saidOf u b ys = spokenWords u lineMeasure (lineChoice u) b ys
+abbrev pub saidOf : Accord → Start → List (Two Received) → List ℕ
+saidOf ac b ys = spokenWords (ac .u) (lineMeasure ac) (lineChoice ac) b ys
 
-abbrev pub newWords : ℕ → Start → List (Two Received) → Two Received → List ℕ
-newWords u b ys y = drop (length (saidOf u b ys)) (saidOf u b (y ∷ ys))
+abbrev pub newWords : Accord → Start → List (Two Received) → Two Received → List ℕ
+newWords ac b ys y = drop (length (saidOf ac b ys)) (saidOf ac b (y ∷ ys))
 
-pub record Stepped (u : ℕ) (b : Start) (ys : List (Two Received)) (y : Two Received) (rx : Receiver) : Type 0 where
+pub record Stepped (ac : Accord) (b : Start) (ys : List (Two Received)) (y : Two Received) (rx : Receiver) : Type 0 where
   -- what is released was pending, and the words of it are those that y makes final
   pub few : agreedOf rx y ≤ rx .core .pending
-  pub agreed : agreedOf rx y ≡ length (newWords u b ys y)
-  pub words : wordsFrom (rx .core .u) (rx .core .turn) (releasedOf rx y) ≡ newWords u b ys y
+  pub agreed : agreedOf rx y ≡ length (newWords ac b ys y)
+  pub words : wordsFrom (rx .core .accord .u) (rx .core .turn) (releasedOf rx y) ≡ newWords ac b ys y
   -- the others stay pending
-  pub kept : keptOf rx y ≡ length (y ∷ ys) - length (saidOf u b (y ∷ ys))
-  pub next : keptOf rx y ≤ 64 → Keeps u b (y ∷ ys) (grown rx y)
+  pub kept : keptOf rx y ≡ length (y ∷ ys) - length (saidOf ac b (y ∷ ys))
+  pub next : keptOf rx y ≤ 64 → Keeps ac b (y ∷ ys) (grown rx y)
 
 module _ (b : Start) (g : GoodStart b) (ys : List (Two Received)) (good : Every BothInRange ys) (y : Two Received) (fine : BothInRange y) (few : length (y ∷ ys) ≤ 4294967295)
-    (rx : Receiver) (small : rx .core .u ≤ 8) (o : Keeps (rx .core .u) b ys rx) where
-  abbrev u : ℕ
-  u = rx .core .u
+    (rx : Receiver) (small : isAccord (rx .core .accord) ≡ true) (o : Keeps (rx .core .accord) b ys rx) where
+  abbrev ac : Accord
+  ac = rx .core .accord
 
   abbrev p : ℕ
   p = rx .core .pending
@@ -80,18 +84,18 @@ module _ (b : Start) (g : GoodStart b) (ys : List (Two Received)) (good : Every 
   abbrev new : ℕ → Surv (Unit {0})
   new = rowOf (nextSums rx y)
 
-  abbrev S : Search (codeOf (rx .core .u) b)
-  S = searchOf (rx .core .u) b
+  abbrev S : Search (codeOf (rx .core .accord) b)
+  S = searchOf (rx .core .accord) b
 
-  abbrev H : Holds (searchOf (rx .core .u) b) ys (rowOf (rx .sums)) (wayFrom (rx .core) (rx .planes) (rx .picks)) (rx .core .pending)
+  abbrev H : Holds (searchOf (rx .core .accord) b) ys (rowOf (rx .sums)) (wayFrom (rx .core) (rx .planes) (rx .picks)) (rx .core .pending)
   H = o .holds
 
   -- the sums with y
-  fits : Room (rx .sums) (weighedOf u y .costs)
-  fits = room u small b ys good y fine few (rx .sums) (H .less) (H .off)
+  fits : Room (rx .sums) (weighedOf ac y .costs)
+  fits = room ac small b ys good y fine few (rx .sums) (H .less) (H .off)
 
-  off : Off (searchOf u b) (y ∷ ys) (H .less) (rowOf (nextSums rx y))
-  off = off-new u b y (rx .sums) fits ys (H .less) (H .off)
+  off : Off (searchOf ac b) (y ∷ ys) (H .less) (rowOf (nextSums rx y))
+  off = off-new ac b y (rx .sums) fits ys (H .less) (H .off)
 
   -- the live states, and the state before each
   is-sum : (s : ℕ) → T (up (new s)) → getD (nextSums rx y) s 0 < limit
@@ -101,11 +105,11 @@ module _ (b : Start) (g : GoodStart b) (ys : List (Two Received)) (good : Every 
   sum-is s h = subst T (sym (up-sealed (getD (nextSums rx y) s 0) tt ∙ lt-ltb (getD (nextSums rx y) s 0) limit h)) tt
 
   some-live : (s : ℕ) × (s < 16) × T (up (new s))
-  some-live = some-up u b g (y ∷ ys) (H .less) new off
+  some-live = some-up ac b g (y ∷ ys) (H .less) new off
 
   live-from : (s : ℕ) → s < 16 → T (up (new s)) → before S y row s ≡ cameFrom (getD (nextSteps rx y) s 0)
   live-from s h t =
-      before-is u b y (rx .sums) fits s h (is-sum s t)
+      before-is ac b y (rx .sums) fits s h (is-sum s t)
       ∙ sym (step-from (rx .sums) (costsOf rx y) s h ∙ ap (fromAt (rx .sums) (costsOf rx y)) (followed-live (nextSums rx y) s (is-sum s t)))
 
   step-of : (i : ℕ) → i < 16 → (s : ℕ) × (s < 16) × T (up (new s)) × (before S y row s ≡ cameFrom (getD (nextSteps rx y) i 0))
@@ -114,7 +118,7 @@ module _ (b : Start) (g : GoodStart b) (ys : List (Two Received)) (good : Every 
       let s = followed (nextSums rx y) i in
       let hs : s < 16 = followed-below (nextSums rx y) i h in
       let ls : getD (nextSums rx y) s 0 < limit = followed-up (nextSums rx y) t k (is-sum t l) i in
-      (s, hs, sum-is s ls, before-is u b y (rx .sums) fits s hs ls ∙ sym (step-from (rx .sums) (costsOf rx y) i h))
+      (s, hs, sum-is s ls, before-is ac b y (rx .sums) fits s hs ls ∙ sym (step-from (rx .sums) (costsOf rx y) i h))
 
   agree : Agreed 16 (λ s. up (new s)) (λ s. way (before S y row s)) p (agreedOf rx y)
   unfolding agreedOf
@@ -122,74 +126,74 @@ module _ (b : Start) (g : GoodStart b) (ys : List (Two Received)) (good : Every 
 
   -- the newest symbol is never agreed
   newest : reach S (y ∷ ys) ≤ length ys
-  newest = newest-kept u lineMeasure (lineChoice u) (line-chooses u) sameSymbol b g y ys
+  newest = newest-kept (ac .u) (lineMeasure ac) (lineChoice ac) (line-chooses ac) sameSymbol b g y ys
 
   n-few : agreedOf rx y ≤ p
   n-few = agree .few
 
   n-is : reach S ys + agreedOf rx y ≡ reach S (y ∷ ys)
-  n-is = newly-is S (laws u b) (onward u b g) y ys row new way p H (H .less) off newest (agreedOf rx y) agree
+  n-is = newly-is S (laws ac b) (onward ac b g) y ys row new way p H (H .less) off newest (agreedOf rx y) agree
 
-  final-is : common (searchOf u b) (y ∷ ys) ≡ common (searchOf u b) ys ++ releasedOf rx y
+  final-is : common (searchOf ac b) (y ∷ ys) ≡ common (searchOf ac b) ys ++ releasedOf rx y
   unfolding releasedOf
   final-is =
       let (s, h, t, e) = step-of 0 (omega arith) in
-      released S (laws u b) (onward u b g) y ys row new way p H (H .less) off newest (agreedOf rx y) agree s h t
+      released S (laws ac b) (onward ac b g) y ys row new way p H (H .less) off newest (agreedOf rx y) agree s h t
       ∙ ap (λ (r : ℕ). common S ys ++ take (agreedOf rx y) (way r)) e
 
   -- the record after y
   grown-way : keptOf rx y ≤ 64 → (s : ℕ) → s < 16 → T (up (new s)) → wayFrom (grown rx y .core) (grown rx y .planes) (grown rx y .picks) s ≡ drop (agreedOf rx y) (longer S y row way s)
   unfolding grown weighedOf
   grown-way h s l t =
-      let W : Weighed = weighedOf u y in
+      let W : Weighed = weighedOf ac y in
       let e : getD (nextSteps rx y) s 0 ≡ firstStep (rx .sums) (costsOf rx y) s = step-at (rx .sums) (costsOf rx y) s l ∙ ap (firstStep (rx .sums) (costsOf rx y)) (followed-live (nextSums rx y) s (is-sum s t)) in
       way-grown (rx .core) (rx .planes) (rx .picks) (nextSteps rx y) (W .i3) (numbersIn rx y) _ _ _ (agreedOf rx y) (o .picks-long) (o .slot-below) (o .pending-fits) n-few h s l
       ∙ ap₂ (λ (r : ℕ) (c : Symbol). drop (agreedOf rx y) (way r ++ (c ∷ []))) (sym (live-from s l t))
-      (ap (λ (x : ℕ). newSymbol u y (x % 8)) e ∙ sym (symbol-is u b y (rx .sums) fits s l (is-sum s t) small))
+      (ap (λ (x : ℕ). newSymbol ac y (x % 8)) e ∙ sym (symbol-is ac b y (rx .sums) fits s l (is-sum s t) small))
 
-  next-holds : keptOf rx y ≤ 64 → Holds (searchOf u b) (y ∷ ys) (rowOf (grown rx y .sums)) (wayFrom (grown rx y .core) (grown rx y .planes) (grown rx y .picks)) (grown rx y .core .pending)
+  next-holds : keptOf rx y ≤ 64 → Holds (searchOf ac b) (y ∷ ys) (rowOf (grown rx y .sums)) (wayFrom (grown rx y .core) (grown rx y .planes) (grown rx y .picks)) (grown rx y .core .pending)
   unfolding grown
   next-holds h =
       subst (Holds S (y ∷ ys) new (wayFrom (grown rx y .core) (grown rx y .planes) (grown rx y .picks))) (let e : suc p - agreedOf rx y ≡ keptOf rx y = omega arith in e)
-      (holds-next S (laws u b) (onward u b g) y ys row new way p H (H .less) off newest (agreedOf rx y) agree (wayFrom (grown rx y .core) (grown rx y .planes) (grown rx y .picks)) (λ s l t k. grown-way h s l t))
+      (holds-next S (laws ac b) (onward ac b g) y ys row new way p H (H .less) off newest (agreedOf rx y) agree (wayFrom (grown rx y .core) (grown rx y .planes) (grown rx y .picks)) (λ s l t k. grown-way h s l t))
 
-  grown-keeps : keptOf rx y ≤ 64 → Keeps u b (y ∷ ys) (grown rx y)
+  grown-keeps : keptOf rx y ≤ 64 → Keeps ac b (y ∷ ys) (grown rx y)
   unfolding grown weighedOf
   grown-keeps h =
-      let W : Weighed = weighedOf u y in
+      let W : Weighed = weighedOf ac y in
       record {
         is-live = o .is-live;
-        width = refl;
+        accord = refl;
         taken = omega (arith, o .taken);
-        turn = ap (λ (q : ℕ). after turnAfter q (releasedOf rx y)) (o .turn) ∙ sym (spoken-new (searchOf u b) (laws u b) (word u) turnAfter 0 y ys (releasedOf rx y) final-is .1);
+        turn = ap (λ (q : ℕ). after turnAfter q (releasedOf rx y)) (o .turn) ∙ sym (spoken-new (searchOf ac b) (laws ac b) (word (ac .u)) turnAfter (firstTurn b) y ys (releasedOf rx y) final-is .1);
         holds = next-holds h;
         sums-long = refl;
         slot-below = omega arith;
         pending-fits = h;
         planes-long = moved-length (rx .core .pending + 1) (rx .planes) (nextSteps rx y);
         picks-long = kept-length (rx .picks) (rx .core .slot) (W .i3) (numbersIn rx y) (o .picks-long) (o .slot-below);
-        top = λ s. omega (arith, top-next u small y fine (length ys) (rx .sums) (o .top) s);
+        top = λ s. omega (arith, top-next ac small y fine (length ys) (rx .sums) (o .top) s);
       }
 
-  said-many : (zs : List (Two Received)) → length (saidOf u b zs) ≡ reach (searchOf u b) zs
-  said-many zs = spoken-reach u lineMeasure (lineChoice u) (line-chooses u) b g zs
+  said-many : (zs : List (Two Received)) → length (saidOf ac b zs) ≡ reach (searchOf ac b) zs
+  said-many zs = spoken-reach (ac .u) (lineMeasure ac) (lineChoice ac) (line-chooses ac) b g zs
 
-  words-are : wordsFrom u (rx .core .turn) (releasedOf rx y) ≡ newWords u b ys y
+  words-are : wordsFrom (ac .u) (rx .core .turn) (releasedOf rx y) ≡ newWords ac b ys y
   unfolding spokenWords
-  words-are = ap (λ (q : ℕ). wordsFrom u q (releasedOf rx y)) (o .turn) ∙ sym (spoken-new (searchOf u b) (laws u b) (word u) turnAfter 0 y ys (releasedOf rx y) final-is .0)
+  words-are = ap (λ (q : ℕ). wordsFrom (ac .u) q (releasedOf rx y)) (o .turn) ∙ sym (spoken-new (searchOf ac b) (laws ac b) (word (ac .u)) turnAfter (firstTurn b) y ys (releasedOf rx y) final-is .0)
 
-  here : Stepped u b ys y rx
+  here : Stepped ac b ys y rx
   here =
       record {
         few = n-few;
-        agreed = omega (arith, n-is, said-many ys, said-many (y ∷ ys), length-drop (length (saidOf u b ys)) (saidOf u b (y ∷ ys)));
+        agreed = omega (arith, n-is, said-many ys, said-many (y ∷ ys), length-drop (length (saidOf ac b ys)) (saidOf ac b (y ∷ ys)));
         words = words-are;
         kept = omega (arith, n-few, n-is, H .count, said-many (y ∷ ys));
         next = grown-keeps;
       }
 
--- the record's width is u
-pub stepped : (u : ℕ) (b : Start) (ys : List (Two Received)) (y : Two Received) (rx : Receiver) → u ≤ 8 → GoodStart b → Every BothInRange ys → BothInRange y →
-    length (y ∷ ys) ≤ 4294967295 → Keeps u b ys rx → Stepped u b ys y rx
-stepped u b ys y rx small g good fine few o =
-    subst (λ (v : ℕ). v ≤ 8 → Keeps v b ys rx → Stepped v b ys y rx) (o .width) (λ s e. here b g ys good y fine few rx s e) small o
+-- the record's accord is ac
+pub stepped : (ac : Accord) (b : Start) (ys : List (Two Received)) (y : Two Received) (rx : Receiver) → isAccord ac ≡ true → GoodStart b → Every BothInRange ys → BothInRange y →
+    length (y ∷ ys) ≤ 4294967295 → Keeps ac b ys rx → Stepped ac b ys y rx
+stepped ac b ys y rx small g good fine few o =
+    subst (λ (v : Accord). isAccord v ≡ true → Keeps v b ys rx → Stepped v b ys y rx) (o .accord) (λ s e. here b g ys good y fine few rx s e) small o

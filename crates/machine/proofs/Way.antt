@@ -83,7 +83,7 @@ another a p m h g l k e = go (decLt (a + m) p)
 module _ (c : Core) (planes picks steps i3 : List ℕ) (n window taken turn k : ℕ) (long : length picks ≡ 72) (slot-below : c .slot < 64)
     (held : c .pending ≤ 64) (few : k ≤ c .pending) (kept : c .pending + 1 - k ≤ 64) (s : ℕ) (h : s < 16) where
   abbrev c′ : Core
-  c′ = record { u = c .u; window = window; taken = taken; turn = turn; slot = (c .slot + 1) % 64; pending = c .pending + 1 - k }
+  c′ = record { accord = c .accord; window = window; taken = taken; turn = turn; slot = (c .slot + 1) % 64; pending = c .pending + 1 - k }
 
   abbrev step : ℕ
   step = getD steps s 0
@@ -92,7 +92,7 @@ module _ (c : Core) (planes picks steps i3 : List ℕ) (n window taken turn k : 
   was = wayFrom c planes picks (cameFrom (getD steps s 0))
 
   abbrev now : Symbol
-  now = symbolBy (c .u) (getD i3 (getD steps s 0 % 8) 0 % 2) n (getD steps s 0 % 8)
+  now = symbolBy (c .accord .u) (getD i3 (getD steps s 0 % 8) 0 % 2) n (getD steps s 0 % 8)
 
   abbrev moved : List ℕ
   moved = movedOf (c .pending + 1) planes steps
@@ -111,18 +111,18 @@ module _ (c : Core) (planes picks steps i3 : List ℕ) (n window taken turn k : 
       let z₁ : numbersAt stored a ≡ numbersAt picks a = other-slot picks (c .slot) i3 n long slot-below a (another (c .slot) (c .pending) (k + i) slot-below held l (inside (c .pending) k i kept)) in
       let z₂ : subsetIn moved s (suc q) ≡ x = older-subset (c .pending + 1) planes steps s h q young (among (c .pending) (k + i) l) in
       let z₃ : typeAt stored x (suc q) ≡ typeAt picks x q = older-type picks (c .slot) i3 n long slot-below x q (omega arith) young in
-      ap₂ (λ (i j : ℕ). symbolIn (c .u) stored i j (subsetIn moved s j)) e₁ e₂
-      ∙ ap (symbolIn (c .u) stored a (suc q)) z₂
-      ∙ ap₂ (λ (t m : ℕ). symbolBy (c .u) t m x) z₃ z₁
+      ap₂ (λ (i j : ℕ). symbolIn (c .accord .u) stored i j (subsetIn moved s j)) e₁ e₂
+      ∙ ap (symbolIn (c .accord .u) stored a (suc q)) z₂
+      ∙ ap₂ (λ (t m : ℕ). symbolBy (c .accord .u) t m x) z₃ z₁
       ∙ sym (List·getD-append was (now ∷ []) now (k + i) (omega (arith, way-length c planes picks (cameFrom step))) ∙ way-at c planes picks (cameFrom step) (k + i) now l)
 
   newest : (i : ℕ) → k + i ≡ c .pending → pendingAt c′ moved stored s i ≡ getD (was ++ (now ∷ [])) (k + i) now
   newest i l =
       let e₁ : slotOf c′ i ≡ c .slot = omega arith in
       let e₂ : ageOf c′ i ≡ 0 = omega arith in
-      ap₂ (λ (i j : ℕ). symbolIn (c .u) stored i j (subsetIn moved s j)) e₁ e₂
-      ∙ ap (symbolIn (c .u) stored (c .slot) 0) (newest-subset (c .pending + 1) planes steps s h)
-      ∙ ap₂ (λ (t m : ℕ). symbolBy (c .u) t m (step % 8)) (newest-type picks (c .slot) i3 n long slot-below (step % 8) (omega arith)) (kept-slot picks (c .slot) i3 n long slot-below)
+      ap₂ (λ (i j : ℕ). symbolIn (c .accord .u) stored i j (subsetIn moved s j)) e₁ e₂
+      ∙ ap (symbolIn (c .accord .u) stored (c .slot) 0) (newest-subset (c .pending + 1) planes steps s h)
+      ∙ ap₂ (λ (t m : ℕ). symbolBy (c .accord .u) t m (step % 8)) (newest-type picks (c .slot) i3 n long slot-below (step % 8) (omega arith)) (kept-slot picks (c .slot) i3 n long slot-below)
       ∙ sym (getD-at was now [] now (k + i) (way-length c planes picks (cameFrom step) ∙ sym l))
 
   each : (i : ℕ) → i < c .pending + 1 - k → pendingAt c′ moved stored s i ≡ getD (was ++ (now ∷ [])) (k + i) now
@@ -132,8 +132,8 @@ module _ (c : Core) (planes picks steps i3 : List ℕ) (n window taken turn k : 
       go (yes g) = older i g
       go (no g) = newest i (omega arith)
 
-  pub way-grown : wayFrom (record { u = c .u; window = window; taken = taken; turn = turn; slot = (c .slot + 1) % 64; pending = c .pending + 1 - k }) (movedOf (c .pending + 1) planes steps) (keptIn picks (c .slot) i3 n) s
-      ≡ drop k (wayFrom c planes picks (cameFrom (getD steps s 0)) ++ (symbolBy (c .u) (getD i3 (getD steps s 0 % 8) 0 % 2) n (getD steps s 0 % 8) ∷ []))
+  pub way-grown : wayFrom (record { accord = c .accord; window = window; taken = taken; turn = turn; slot = (c .slot + 1) % 64; pending = c .pending + 1 - k }) (movedOf (c .pending + 1) planes steps) (keptIn picks (c .slot) i3 n) s
+      ≡ drop k (wayFrom c planes picks (cameFrom (getD steps s 0)) ++ (symbolBy (c .accord .u) (getD i3 (getD steps s 0 % 8) 0 % 2) n (getD steps s 0 % 8) ∷ []))
   way-grown =
       let l = wayFrom c′ moved stored s in
       let m = drop k (was ++ (now ∷ [])) in

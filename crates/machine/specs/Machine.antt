@@ -1,7 +1,7 @@
 -- The receiver as pure functions on its own record: what a fresh one is, what one symbol does to it, and what finish writes. The code
 -- equals these functions whatever the record holds; what they mean is proved in proofs/Owes.
 --   freshSums b                the sums before any symbol
---   opened u window b          a fresh receiver
+--   opened k window b          a fresh receiver
 --   shut                       a closed one
 --   costsOf, nextSums, nextSteps   what the symbol y makes of the sums
 --   numbersIn rx y             the numbers of the points nearest to y
@@ -23,8 +23,10 @@ use lib.ListN.{take, replicate}
 use Rattle.trellis.specs.Search.{range}
 use Rattle.trellis.specs.Speak.{after}
 use Rattle.trellis.specs.Measure.{Start, free, named, Two}
-use Rattle.trellis.specs.Words.{wordsFrom, turnAfter}
+use Rattle.trellis.specs.Words.{wordsFrom, turnAfter, firstTurn}
 use Rattle.wei.specs.Symbol.{Symbol}
+use Rattle.points.specs.declared.Accord.{Accord}
+use Rattle.points.specs.Agreed.{isAccord}
 use Rattle.nearest.specs.declared.Received.{Received}
 use Rattle.nearest.specs.Found.{weighedOf}
 use Rattle.planes.specs.Planes.{subsetIn, movedOf, sameAt, oldest}
@@ -42,19 +44,19 @@ unfoldable pub freshSums : Start → List ℕ
 freshSums free = sixteen (λ s. 0)
 freshSums (named n) = sixteen (λ s. cond (eqb s n) 0 limit)
 
-abbrev pub core : ℕ → ℕ → Core
-core u window = record { u = u; window = window; taken = 0; turn = 0; slot = 0; pending = 0 }
+abbrev pub core : Accord → ℕ → ℕ → Core
+core k window turn = record { accord = k; window = window; taken = 0; turn = turn; slot = 0; pending = 0 }
 
-unfoldable pub opened : ℕ → ℕ → Start → Receiver
-opened u window b = record { live = true; core = core u window; sums = freshSums b; planes = replicate 48 0; picks = replicate 72 0 }
+unfoldable pub opened : Accord → ℕ → Start → Receiver
+opened k window b = record { live = true; core = core k window (firstTurn b); sums = freshSums b; planes = replicate 48 0; picks = replicate 72 0 }
 
 unfoldable pub shut : Receiver
-shut = record { live = false; core = core 0 0; sums = replicate 16 0; planes = replicate 48 0; picks = replicate 72 0 }
+shut = record { live = false; core = core (record { u = 0 }) 0 0; sums = replicate 16 0; planes = replicate 48 0; picks = replicate 72 0 }
 
 -- ---- one symbol
 
 abbrev pub costsOf : Receiver → Two Received → List ℕ
-costsOf rx y = weighedOf (rx .core .u) y .costs
+costsOf rx y = weighedOf (rx .core .accord) y .costs
 
 abbrev pub nextSums : Receiver → Two Received → List ℕ
 nextSums rx y = sixteen (sumAt (rx .sums) (costsOf rx y))
@@ -64,7 +66,7 @@ nextSteps rx y = sixteen (stepAt (rx .sums) (costsOf rx y))
 
 -- the numbers of the points nearest to y, as one word
 abbrev pub numbersIn : Receiver → Two Received → ℕ
-numbersIn rx y = let w = weighedOf (rx .core .u) y in numbersOf (w .w1) (w .w2)
+numbersIn rx y = let w = weighedOf (rx .core .accord) y in numbersOf (w .w1) (w .w2)
 
 -- the slot of the j-th oldest pending symbol, and how many symbols came after it
 abbrev pub slotOf : Core → ℕ → ℕ
@@ -75,7 +77,7 @@ ageOf c j = c .pending - 1 - j
 
 -- the j-th oldest pending symbol on the way into the state s: its subset from the state's registers, the rest from the picks
 abbrev pub pendingAt : Core → List ℕ → List ℕ → ℕ → ℕ → Symbol
-pendingAt c planes picks s j = symbolIn (c .u) picks (slotOf c j) (ageOf c j) (subsetIn planes s (ageOf c j))
+pendingAt c planes picks s j = symbolIn (c .accord .u) picks (slotOf c j) (ageOf c j) (subsetIn planes s (ageOf c j))
 
 -- the pending symbols on the way into s, the oldest first
 unfoldable pub wayFrom : Core → List ℕ → List ℕ → ℕ → List Symbol
@@ -98,7 +100,7 @@ grown rx y =
       live = rx .live;
       core =
           record {
-            u = rx .core .u;
+            accord = rx .core .accord;
             window = rx .core .window;
             taken = rx .core .taken + 1;
             turn = after turnAfter (rx .core .turn) (releasedOf rx y);
@@ -107,7 +109,7 @@ grown rx y =
           };
       sums = nextSums rx y;
       planes = movedOf (rx .core .pending + 1) (rx .planes) (nextSteps rx y);
-      picks = keptIn (rx .picks) (rx .core .slot) (weighedOf (rx .core .u) y .i3) (numbersIn rx y);
+      picks = keptIn (rx .picks) (rx .core .slot) (weighedOf (rx .core .accord) y .i3) (numbersIn rx y);
     }
 
 pub record Outcome : Type 0 where
@@ -123,7 +125,7 @@ taking rx y room =
     cond (eqb (rx .core .taken) 4294967295) (refused rx TooMany)
     (cond (ltb (rx .core .window) (keptOf rx y)) (refused rx Full)
     (cond (ltb room (agreedOf rx y)) (refused rx NoRoom)
-    (record { receiver = grown rx y; words = wordsFrom (rx .core .u) (rx .core .turn) (releasedOf rx y); why = Done })))
+    (record { receiver = grown rx y; words = wordsFrom (rx .core .accord .u) (rx .core .turn) (releasedOf rx y); why = Done })))
 
 -- ---- finish
 
@@ -131,7 +133,7 @@ unfoldable pub lastSymbols : Receiver → List Symbol
 lastSymbols rx = wayFrom (rx .core) (rx .planes) (rx .picks) (endOf (rx .sums))
 
 abbrev pub lastWords : Receiver → List ℕ
-lastWords rx = wordsFrom (rx .core .u) (rx .core .turn) (lastSymbols rx)
+lastWords rx = wordsFrom (rx .core .accord .u) (rx .core .turn) (lastSymbols rx)
 
 -- ---- what the functions can work on
 
@@ -140,7 +142,7 @@ abbrev pub topSum : ℕ → ℕ
 topSum n = limit + n * 2 ^ 30
 
 unfoldable pub soundCore : Core → Bool
-soundCore c = leb (c .u) 8 && (leb 1 (c .window) && (leb (c .window) 64 && (ltb (c .turn) 4 && (ltb (c .slot) 64 && leb (c .pending) (c .window)))))
+soundCore c = isAccord (c .accord) && (leb 1 (c .window) && (leb (c .window) 64 && (ltb (c .turn) 4 && (ltb (c .slot) 64 && leb (c .pending) (c .window)))))
 
 unfoldable pub sound : Receiver → Bool
 sound rx = rx .live && (soundCore (rx .core) && allUpTo (topSum (rx .core .taken)) (rx .sums))
@@ -148,7 +150,7 @@ sound rx = rx .live && (soundCore (rx .core) && allUpTo (topSum (rx .core .taken
 -- ---- after a history
 
 unfoldable pub machineAfter : Told → List (Two Received) → Receiver
-machineAfter t [] = opened (t .u) (t .window) (t .start)
+machineAfter t [] = opened (t .accord) (t .window) (t .start)
 machineAfter t (y ∷ ys) = grown (machineAfter t ys) y
 
 abbrev pub machineOf : Told → Receiver

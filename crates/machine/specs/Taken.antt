@@ -11,6 +11,7 @@ use mathlib.Core.Bool.{true}
 use mathlib.Core.List.{List, _++_}
 use lib.ListN.{getD, length, drop}
 use Rattle.trellis.specs.Measure.{Two}
+use Rattle.points.specs.Agreed.{isAccord}
 use Rattle.nearest.specs.declared.Received.{Received}
 use Rattle.nearest.specs.Found.{weighedOf}
 use Rattle.machine.specs.declared.Core.{Core}
@@ -22,7 +23,7 @@ use Rattle.select.specs.Select.{prevIn}
 use Rattle.machine.specs.Machine.{nextSums, nextSteps, numbersIn, agreedOf, Outcome, topSum}
 
 pub record CoreFits (c : Core) : Type 0 where
-  pub width : c .u ≤ 8
+  pub agreed : isAccord (c .accord) ≡ true
   pub some-window : 1 ≤ c .window
   pub small-window : c .window ≤ 64
   pub turn-below : c .turn < 4
@@ -45,7 +46,7 @@ outlookOf rx y =
       sums = nextSums rx y;
       steps = nextSteps rx y;
       ways = wordsBefore (rx .planes) (nextSteps rx y) 0;
-      i3 = weighedOf (rx .core .u) y .i3;
+      i3 = weighedOf (rx .core .accord) y .i3;
       numbers = numbersIn rx y;
       state = prevIn (nextSteps rx y) 0;
       agreed = agreedOf rx y;

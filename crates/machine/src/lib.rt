@@ -6,7 +6,9 @@
 //
 // The arrays are lent and copied nowhere: a caller that holds a receiver takes it apart once for a whole piece. Every function
 // equals a definition of specs/ on the same numbers, whatever the lists hold.
+use nearest::Chart;
 use nearest::Received;
+use points::Accord;
 use reasons::Why;
 ghost use mathlib.Core.Path.{_≡_};
 ghost use mathlib.Core.List.{[], _++_};
@@ -14,15 +16,14 @@ ghost use Prim.Native.Nat.{_+_, _%_, _≤_, _<_};
 ghost use lib.ListN.{length, take, drop};
 ghost use Rattle.trellis.specs.Speak.{after};
 ghost use Rattle.trellis.specs.Words.{wordsFrom, turnAfter};
-ghost use Rattle.points.specs.Points.{coordinates};
 ghost use Rattle.nearest.specs.Line.{InRange};
-ghost use Rattle.nearest.specs.Found.{heardAs};
+ghost use Rattle.nearest.specs.Found.{chartOf, heardAs};
 ghost use Rattle.machine.specs.Machine.{wayFrom, taking};
 ghost use Rattle.machine.specs.Taken.{CoreFits, Ready, whole, outlookOf, TookIs};
 
 // The part of the receiver that is a handful of numbers.
 pub struct Core {
-    pub u: u32,
+    pub accord: Accord,
     pub window: usize,
     pub taken: u32,
     pub turn: u32,
@@ -69,7 +70,7 @@ pub fn write_words(
 ) -> u32
     requires { ⌜ CoreFits core × (s < 16) × (n ≤ core .pending) × (n ≤ length (now out)) ⌝ }
     ensures { λ r. ⌜ r ≡ after turnAfter (core .turn) (take n (wayFrom core (now (planes .entry)) (now (picks .entry)) s)) ⌝ }
-    ensures { λ _. ⌜ now (out .exit) ≡ wordsFrom (core .u) (core .turn) (take n (wayFrom core (now (planes .entry)) (now (picks .entry)) s)) ++ drop n (now (out .entry)) ⌝ }
+    ensures { λ _. ⌜ now (out .exit) ≡ wordsFrom (core .accord .u) (core .turn) (take n (wayFrom core (now (planes .entry)) (now (picks .entry)) s)) ++ drop n (now (out .entry)) ⌝ }
 {
     let oldest = core.slot + 64 - core.pending;
     let mut turn = core.turn;
@@ -77,7 +78,7 @@ pub fn write_words(
     while j < n {
         let age = core.pending - 1 - j;
         let k = planes::subset_at(planes, s, age);
-        let said = picks::word_in(core.u, turn, picks, (oldest + j) % 64, age, k);
+        let said = picks::word_in(core.accord.u, turn, picks, (oldest + j) % 64, age, k);
         out[j] = said.word;
         turn = said.turn;
         j += 1;
@@ -87,18 +88,18 @@ pub fn write_words(
 
 // What a symbol would make of the receiver. Nothing is stored: the receiver is only read.
 fn look_ahead(
-    t: &[i8; 512],
+    t: &Chart,
     core: Core,
     sums: &[u64; 16],
     planes: &[u64; 48],
     first: Received,
     second: Received,
 ) -> Outlook
-    requires { ⌜ (now t ≡ coordinates) × InRange first × InRange second ⌝ }
+    requires { ⌜ (now t ≡ chartOf (core .accord)) × InRange first × InRange second ⌝ }
     requires { ⌜ Ready core (now sums) × (core .taken < 4294967295) ⌝ }
     ensures { λ r. ⌜ r ≡ outlookOf (whole core (now (sums .entry)) (now (planes .entry)) []) (heardAs first second) ⌝ }
 {
-    let w = nearest::weigh(t, core.u, first, second);
+    let w = nearest::weigh(t, core.accord, first, second);
     let costs = w.costs;
     let i3 = w.i3;
     let w1 = w.w1;
@@ -133,10 +134,11 @@ fn refused(core: Core, why: Why) -> Took
 // The numbers after a symbol is taken, with the turn after its words and with so many pending.
 fn moved_on(core: Core, turn: u32, pending: usize) -> Core
     requires { ⌜ (core .taken < 4294967295) × (core .slot < 64) ⌝ }
-    ensures { λ r. ⌜ r ≡ record { u = core .u; window = core .window; taken = core .taken + 1; turn = turn; slot = (core .slot + 1) % 64; pending = pending } ⌝ }
+    ensures { λ r. ⌜ r ≡ record { accord = core .accord; window = core .window; taken = core .taken + 1; turn = turn; slot = (core .slot + 1) % 64; pending = pending } ⌝ }
 {
+    let accord = core.accord;
     Core {
-        u: core.u,
+        accord: accord,
         window: core.window,
         taken: core.taken + 1,
         turn: turn,
@@ -148,7 +150,7 @@ fn moved_on(core: Core, turn: u32, pending: usize) -> Core
 // One symbol. It is refused with number 7, 6 or 8, in this order, and then nothing has been stored; or it is taken, and the words
 // that all live states now agree on stand at the front of `out`.
 pub fn take_symbol(
-    t: &[i8; 512],
+    t: &Chart,
     core: Core,
     sums: &mut [u64; 16],
     planes: &mut [u64; 48],
@@ -157,7 +159,7 @@ pub fn take_symbol(
     second: Received,
     out: &mut [u32],
 ) -> Took
-    requires { ⌜ (now t ≡ coordinates) × InRange first × InRange second ⌝ }
+    requires { ⌜ (now t ≡ chartOf (core .accord)) × InRange first × InRange second ⌝ }
     requires { ⌜ Ready core (now sums) ⌝ }
     ensures { λ r. ⌜ TookIs (taking (whole core (now (sums .entry)) (now (planes .entry)) (now (picks .entry))) (heardAs first second) (length (now (out .entry)))) r (now (sums .exit)) (now (planes .exit)) (now (picks .exit)) (now (out .entry)) (now (out .exit)) ⌝ }
 {

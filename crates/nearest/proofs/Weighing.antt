@@ -3,11 +3,13 @@
 --   weighed      the rows of the two searches and of the choices are what `weigh` has to answer
 use mathlib.Core.Path.{_≡_, refl, ap, ap₂}
 use mathlib.Core.Bool.{Bool, true, false}
-use Prim.Native.Nat.{ℕ, _+_, _≤_, _<_}
+use Prim.Native.Nat.{ℕ, _+_, _<_}
 use native.Mathlib.Omega.{arith}
 use lib.Dec.{ltb}
 use Rattle.wei.specs.Label.{turnOf, secondLabel}
 use Rattle.wei.proofs.Labels.{second-below}
+use Rattle.points.specs.declared.Accord.{Accord}
+use Rattle.points.specs.Agreed.{isAccord}
 use Rattle.trellis.specs.Measure.{Two}
 use Rattle.trellis.specs.Pick.{keepN, least, near, gapOf, typeSum, bestI3}
 use Rattle.nearest.specs.declared.Received.{Received}
@@ -20,14 +22,14 @@ use Rattle.nearest.specs.Types.{Summable, sumOf, nearerOf, choicesOf}
 use Rattle.nearest.proofs.Rows.{four-at}
 use Rattle.nearest.proofs.Laws.{d-below}
 
-pub summable : (u : ℕ) (g h : Received) → u ≤ 8 → InRange g → InRange h → Summable (nearestOf u g .d) (nearestOf u h .d)
-summable u g h e a b = record { first-below = d-below u g e a; second-below = d-below u h e b }
+pub summable : (k : Accord) (g h : Received) → isAccord k ≡ true → InRange g → InRange h → Summable (nearestOf k g .d) (nearestOf k h .d)
+summable k g h e a b = record { first-below = d-below k g e a; second-below = d-below k h e b }
 
-sum-is : (u : ℕ) (y : Two Received) (y0 i1 i2 i3 : ℕ) → i2 < 2 → i3 < 2 → sumOf (nearestOf u (y .first) .d) (nearestOf u (y .second) .d) y0 i1 i2 i3 ≡ typeSum u lineDistance y y0 i1 i2 i3
+sum-is : (k : Accord) (y : Two Received) (y0 i1 i2 i3 : ℕ) → i2 < 2 → i3 < 2 → sumOf (nearestOf k (y .first) .d) (nearestOf k (y .second) .d) y0 i1 i2 i3 ≡ typeSum (k .u) lineDistance y y0 i1 i2 i3
 unfolding sumOf nearestOf typeSum
-sum-is u y y0 i1 i2 i3 a b =
+sum-is k y y0 i1 i2 i3 a b =
     let q = turnOf i2 i3 in
-    ap₂ (λ (m n : ℕ). m + n) (four-at (gapOf u lineDistance (y .first)) q (omega arith)) (four-at (gapOf u lineDistance (y .second)) (secondLabel q y0 i1) (second-below q y0 i1))
+    ap₂ (λ (m n : ℕ). m + n) (four-at (gapOf (k .u) lineDistance (y .first)) q (omega arith)) (four-at (gapOf (k .u) lineDistance (y .second)) (secondLabel q y0 i1) (second-below q y0 i1))
 
 -- the choice looks at both types and at nothing else
 both : (f g : ℕ → ℕ) → f 0 ≡ g 0 → f 1 ≡ g 1 → nearerOf f ≡ nearerOf g
@@ -38,20 +40,20 @@ both f g p q = rw (p, q) (go (ltb (g 1) (g 0)))
     go true = ap (λ (n : ℕ). record { cost = n; i3 = 1 }) q
     go false = ap (λ (n : ℕ). record { cost = n; i3 = 0 }) p
 
-chosen : (u : ℕ) (y : Two Received) (y0 i1 i2 : ℕ) → i2 < 2 → nearerOf (sumOf (nearestOf u (y .first) .d) (nearestOf u (y .second) .d) y0 i1 i2) ≡ record { cost = costOf u y y0 i1 i2; i3 = bestI3 u lineDistance y y0 i1 i2 }
+chosen : (k : Accord) (y : Two Received) (y0 i1 i2 : ℕ) → i2 < 2 → nearerOf (sumOf (nearestOf k (y .first) .d) (nearestOf k (y .second) .d) y0 i1 i2) ≡ record { cost = costOf k y y0 i1 i2; i3 = bestI3 (k .u) lineDistance y y0 i1 i2 }
 unfolding costOf bestI3 nearerOf
-chosen u y y0 i1 i2 h =
-    both (sumOf (nearestOf u (y .first) .d) (nearestOf u (y .second) .d) y0 i1 i2) (typeSum u lineDistance y y0 i1 i2) (sum-is u y y0 i1 i2 0 h (omega arith)) (sum-is u y y0 i1 i2 1 h (omega arith))
+chosen k y y0 i1 i2 h =
+    both (sumOf (nearestOf k (y .first) .d) (nearestOf k (y .second) .d) y0 i1 i2) (typeSum (k .u) lineDistance y y0 i1 i2) (sum-is k y y0 i1 i2 0 h (omega arith)) (sum-is k y y0 i1 i2 1 h (omega arith))
 
-numbers : (u : ℕ) (h : Received) → nearestOf u h .w ≡ four (near u lineDistance h)
+numbers : (k : Accord) (h : Received) → nearestOf k h .w ≡ four (near (k .u) lineDistance h)
 unfolding nearestOf
-numbers u h = refl
+numbers k h = refl
 
 -- what `weigh` puts together
-pub weighed : (u : ℕ) (g h : Received) (a b : Nearest) (c : Choices) → a ≡ nearestOf u g → b ≡ nearestOf u h → c ≡ choicesOf (λ y0 i1 i2. nearerOf (sumOf (a .d) (b .d) y0 i1 i2)) → record { costs = c .costs; i3 = c .i3; w1 = a .w; w2 = b .w } ≡ weighedOf u (heardAs g h)
+pub weighed : (k : Accord) (g h : Received) (a b : Nearest) (c : Choices) → a ≡ nearestOf k g → b ≡ nearestOf k h → c ≡ choicesOf (λ y0 i1 i2. nearerOf (sumOf (a .d) (b .d) y0 i1 i2)) → record { costs = c .costs; i3 = c .i3; w1 = a .w; w2 = b .w } ≡ weighedOf k (heardAs g h)
 unfolding weighedOf
-weighed u g h a b c p q r =
+weighed k g h a b c p q r =
     let y = heardAs g h in
     let z : 0 < 2 = omega arith in
     let o : 1 < 2 = omega arith in
-    rw (r, p, q, numbers u g, numbers u h, chosen u y 0 0 0 z, chosen u y 0 0 1 o, chosen u y 0 1 0 z, chosen u y 0 1 1 o, chosen u y 1 0 0 z, chosen u y 1 0 1 o, chosen u y 1 1 0 z, chosen u y 1 1 1 o)
+    rw (r, p, q, numbers k g, numbers k h, chosen k y 0 0 0 z, chosen k y 0 0 1 o, chosen k y 0 1 0 z, chosen k y 0 1 1 o, chosen k y 1 0 0 z, chosen k y 1 0 1 o, chosen k y 1 1 0 z, chosen k y 1 1 1 o)

@@ -3,13 +3,17 @@
 --   four f            f at the labels 0 to 3
 --   eight f           f at Y0, I1 and I2', in the order of the subset's number 4·Y0 + 2·I1 + I2'
 --   heardAs g h       the received symbol of two received points
---   nearestOf u h     for each label the nearest number below 2^u, and its distance
---   costOf u y        the distance of the best symbol of a subset
---   weighedOf u y     for each subset that distance and the chosen I3'; for each label the nearest numbers
+--   chartOf k         what a search on a line of the accord k needs
+--   nearestOf k h     for each label the nearest number below 2^u, and its distance
+--   costOf k y        the distance of the best symbol of a subset
+--   weighedOf k y     for each subset that distance and the chosen I3'; for each label the nearest numbers
 --   symbolFrom        the symbol of a subset, read off the rows of I3' and of the numbers
 use Prim.Native.Nat.{ℕ}
 use mathlib.Core.List.{List, [], _∷_}
+use lib.IntN.{ℤ}
 use lib.ListN.{getD}
+use Rattle.points.specs.declared.Accord.{Accord}
+use Rattle.points.specs.Points.{coordinates}
 use Rattle.wei.specs.Label.{turnOf, secondLabel}
 use Rattle.wei.specs.State.{subsetOf}
 use Rattle.wei.specs.Symbol.{Symbol}
@@ -29,19 +33,23 @@ eight f = f 0 0 0 ∷ f 0 0 1 ∷ f 0 1 0 ∷ f 0 1 1 ∷ f 1 0 0 ∷ f 1 0 1 �
 abbrev pub heardAs : Received → Received → Two Received
 heardAs g h = record { first = g; second = h }
 
-unfoldable pub nearestOf : ℕ → Received → Nearest
-nearestOf u h = record { w = four (near u lineDistance h); d = four (gapOf u lineDistance h) }
+-- what a search needs, made once and lent to every search: the A points
+unfoldable pub chartOf : Accord → List ℤ
+chartOf k = coordinates
 
-unfoldable pub costOf : ℕ → Two Received → ℕ → ℕ → ℕ → ℕ
-costOf u y y0 i1 i2 = typeSum u lineDistance y y0 i1 i2 (bestI3 u lineDistance y y0 i1 i2)
+unfoldable pub nearestOf : Accord → Received → Nearest
+nearestOf k h = record { w = four (near (k .u) lineDistance h); d = four (gapOf (k .u) lineDistance h) }
 
-unfoldable pub weighedOf : ℕ → Two Received → Weighed
-weighedOf u y =
+unfoldable pub costOf : Accord → Two Received → ℕ → ℕ → ℕ → ℕ
+costOf k y y0 i1 i2 = typeSum (k .u) lineDistance y y0 i1 i2 (bestI3 (k .u) lineDistance y y0 i1 i2)
+
+unfoldable pub weighedOf : Accord → Two Received → Weighed
+weighedOf k y =
     record {
-      costs = eight (costOf u y);
-      i3 = eight (bestI3 u lineDistance y);
-      w1 = four (near u lineDistance (y .first));
-      w2 = four (near u lineDistance (y .second));
+      costs = eight (costOf k y);
+      i3 = eight (bestI3 (k .u) lineDistance y);
+      w1 = four (near (k .u) lineDistance (y .first));
+      w2 = four (near (k .u) lineDistance (y .second));
     }
 
 -- of i3, w1 and w2 of `Weighed`, and of Y0, I1 and I2'

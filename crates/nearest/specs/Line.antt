@@ -6,12 +6,13 @@
 --   square z             the square of a signed number
 --   distance h p         the squared distance of h from the point p
 --   lineDistance h l w   its squared distance from the point with label l and number w
---   lineMeasure          01's measure: what is heard is two received points
---   lineChoice u         the symbol of each subset that it puts first
+--   lineMeasure k        01's measure on a line of the accord k: what is heard is two received points
+--   lineChoice k         the symbol of each subset that it puts first
 use Prim.Native.Nat.{ℕ, _+_, _*_, _≤_}
 use mathlib.Core.Bool.{Bool}
 use lib.Dec.{leb}
 use lib.IntN.{ℤ, pos, natAbs, _-ℤ_, _*ℤ_}
+use Rattle.points.specs.declared.Accord.{Accord}
 use Rattle.points.specs.declared.Point.{Point}
 use Rattle.points.specs.Turn.{pointOf}
 use Rattle.wei.specs.Symbol.{Symbol}
@@ -45,9 +46,9 @@ unfoldable pub lineDistance : Received → ℕ → ℕ → ℕ
 lineDistance h l w = distance h (pointOf l w)
 
 -- "A received symbol is four coordinates: x, y of the first point, x, y of the second"
-abbrev pub lineMeasure : Measure
-lineMeasure = pairs Received lineDistance
+abbrev pub lineMeasure : Accord → Measure
+lineMeasure k = pairs Received lineDistance
 
 -- the symbol of each subset that 01's order puts first, found
-abbrev pub lineChoice : ℕ → Two Received → ℕ → ℕ → ℕ → Symbol
-lineChoice u = bestOf u lineDistance
+abbrev pub lineChoice : Accord → Two Received → ℕ → ℕ → ℕ → Symbol
+lineChoice k = bestOf (k .u) lineDistance

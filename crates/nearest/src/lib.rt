@@ -3,18 +3,19 @@
 // A received point is two coordinates in line units, and the point coordinate c stands at 128·c. `search` gives, for each of
 // the four labels, the number of the nearest point and its squared distance; of equals the smaller number. `weigh` gives, for
 // a received symbol and each of the eight subsets, the best symbol: its distance and its I3', with the numbers of its points
-// in the rows of `search`. Both types of a subset are weighed, always. A caller makes the table of points once and lends it.
+// in the rows of `search`. Both types of a subset are weighed, always. A caller makes the chart once and lends it.
 //
 // Each contract here is an equation of the result with one definition, so any two results that it allows are equal.
 mod key;
 mod line;
 mod types;
 
+use points::Accord;
 ghost use mathlib.Core.Path.{_≡_};
-ghost use Prim.Native.Nat.{_≤_};
-ghost use Rattle.points.specs.Points.{coordinates};
+ghost use mathlib.Core.Bool.{true};
+ghost use Rattle.points.specs.Agreed.{isAccord};
 ghost use Rattle.nearest.specs.Line.{isCoordinate, InRange};
-ghost use Rattle.nearest.specs.Found.{nearestOf, heardAs, weighedOf};
+ghost use Rattle.nearest.specs.Found.{chartOf, nearestOf, heardAs, weighedOf};
 
 // A received point.
 pub struct Received {
@@ -37,6 +38,15 @@ pub struct Weighed {
     pub w2: [u8; 4],
 }
 
+// What a search needs, made once by `chart` and lent to every search: nobody else looks into it.
+pub type Chart = [i8; 512];
+
+pub fn chart(k: Accord) -> Chart
+    ensures { λ r. ⌜ r ≡ chartOf k ⌝ }
+{
+    points::table::a_points()
+}
+
 // Whether x is a received coordinate: from -8192 to 8192, both included.
 pub fn is_coordinate(x: i32) -> bool
     ensures { λ r. ⌜ r ≡ isCoordinate x ⌝ }
@@ -46,16 +56,16 @@ pub fn is_coordinate(x: i32) -> bool
 
 // The nearest number below 2^u of each label, and its distance. Keys carry both (see `key`): `rest` is the remainder that
 // all distances from h leave modulo 256, as that of number 0 shows.
-pub fn search(t: &[i8; 512], u: u32, h: Received) -> Nearest
-    requires { ⌜ (now t ≡ coordinates) × (u ≤ 8) × InRange h ⌝ }
-    ensures { λ r. ⌜ r ≡ nearestOf u h ⌝ }
+pub fn search(t: &Chart, k: Accord, h: Received) -> Nearest
+    requires { ⌜ (now t ≡ chartOf k) × (isAccord k ≡ true) × InRange h ⌝ }
+    ensures { λ r. ⌜ r ≡ nearestOf k h ⌝ }
 {
     let rest = line::distance_from(h, points::a_point(t, 0)) % 256;
-    let k = key::least_keys(t, h, 1usize << u);
-    let a = key::read_off(k.a, rest);
-    let c = key::read_off(k.c, rest);
-    let b = key::read_off(k.b, rest);
-    let d = key::read_off(k.d, rest);
+    let keys = key::least_keys(t, h, 1usize << k.u);
+    let a = key::read_off(keys.a, rest);
+    let c = key::read_off(keys.c, rest);
+    let b = key::read_off(keys.b, rest);
+    let d = key::read_off(keys.d, rest);
     Nearest {
         w: [a.w, c.w, b.w, d.w],
         d: [a.d, c.d, b.d, d.d],
@@ -63,12 +73,12 @@ pub fn search(t: &[i8; 512], u: u32, h: Received) -> Nearest
 }
 
 // The best symbol of each subset for a received symbol: the smaller distance, then the smaller I3', then w1, then w2.
-pub fn weigh(t: &[i8; 512], u: u32, first: Received, second: Received) -> Weighed
-    requires { ⌜ (now t ≡ coordinates) × (u ≤ 8) × InRange first × InRange second ⌝ }
-    ensures { λ r. ⌜ r ≡ weighedOf u (heardAs first second) ⌝ }
+pub fn weigh(t: &Chart, k: Accord, first: Received, second: Received) -> Weighed
+    requires { ⌜ (now t ≡ chartOf k) × (isAccord k ≡ true) × InRange first × InRange second ⌝ }
+    ensures { λ r. ⌜ r ≡ weighedOf k (heardAs first second) ⌝ }
 {
-    let a = search(t, u, first);
-    let b = search(t, u, second);
+    let a = search(t, k, first);
+    let b = search(t, k, second);
     let d1 = a.d;
     let d2 = b.d;
     let c = types::nearer_types(d1, d2);

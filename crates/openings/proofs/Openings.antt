@@ -11,11 +11,13 @@ use mathlib.Core.List.{[]}
 use mathlib.Core.Logic.{_⊎_, inl, inr}
 use Prim.Native.Nat.{ℕ, _≤_, _<_}
 use native.Mathlib.Omega.{arith}
-use borrow.Author.Tests.{le-leb, lt-leb, lt-ltb, le-ltb, leb-true}
+use borrow.Author.Tests.{le-leb, leb-true}
 use lib.Dec.{leb}
 use lib.ListN.{getD, set, length-set}
 use lib.Seq.{ext-getD}
 use Rattle.wei.proofs.Finite.{equal2}
+use Rattle.points.specs.declared.Accord.{Accord}
+use Rattle.points.specs.Agreed.{isAccord}
 use Rattle.trellis.specs.Measure.{GoodStart, named}
 use Rattle.reasons.specs.declared.Why.{Why}
 use Rattle.reasons.specs.declared.Why.the-variants.{Done, BadWidth, BadWindow, BadStart}
@@ -46,13 +48,13 @@ named-sums n h =
 
 -- ---- the outcomes
 
-module _ (u w : ℕ) (b : Start) where
-  opens : (r : Opened) (g : Opening) → opening u w b ≡ g → r ≡ record { receiver = g .receiver; why = g .why } → givenOf (g .why) .number ≡ openingOwed u w b →
-      (givenOf (g .why) .number ≡ 0 → let t : Told = record { u = u; window = w; start = startOf b; heard = [] } in Fine t × (g .receiver ≡ machineAfter t [])) → Opens u w b r
+module _ (ac : Accord) (w : ℕ) (b : Start) where
+  opens : (r : Opened) (g : Opening) → opening ac w b ≡ g → r ≡ record { receiver = g .receiver; why = g .why } → givenOf (g .why) .number ≡ openingOwed ac w b →
+      (givenOf (g .why) .number ≡ 0 → let t : Told = record { accord = ac; window = w; start = startOf b; heard = [] } in Fine t × (g .receiver ≡ machineAfter t [])) → Opens ac w b r
   opens r g e i n f =
       let v : r .why ≡ g .why = ap (λ (x : Opened). x .why) i in
       let x : r .receiver ≡ g .receiver = ap (λ (x : Opened). x .receiver) i in
-      let y : r .receiver ≡ opening u w b .receiver = x ∙ ap (λ (o : Opening). o .receiver) (sym e) in
+      let y : r .receiver ≡ opening ac w b .receiver = x ∙ ap (λ (o : Opening). o .receiver) (sym e) in
       record {
         always-given = ap givenOf v ∙ ap (λ (o : Opening). givenOf (o .why)) (sym e);
         always-receiver = y;
@@ -60,60 +62,60 @@ module _ (u w : ℕ) (b : Start) where
         fresh = λ z. let k = f (sym (ap (λ (z : Why). givenOf z .number) v) ∙ z) in (k .0, x ∙ k .1);
       }
 
-  refused : (r : Opened) (v : Why) → opening u w b ≡ notOpened v → r ≡ record { receiver = shut; why = v } → givenOf v .number ≡ openingOwed u w b → (givenOf v .number ≡ 0 → ⊥) → Opens u w b r
+  refused : (r : Opened) (v : Why) → opening ac w b ≡ notOpened v → r ≡ record { receiver = shut; why = v } → givenOf v .number ≡ openingOwed ac w b → (givenOf v .number ≡ 0 → ⊥) → Opens ac w b r
   refused r v e i n z = opens r (notOpened v) e i n (λ k. absurd (z k))
 
-  pub opens-wide : (r : Opened) → 8 < u → r ≡ record { receiver = shut; why = BadWidth } → Opens u w b r
+  pub opens-wide : (r : Opened) → isAccord ac ≡ false → r ≡ record { receiver = shut; why = BadWidth } → Opens ac w b r
   unfolding opening openingOwed
-  opens-wide r h i = refused r BadWidth (rw (lt-leb u 8 h)) i (rw (lt-ltb 8 u h)) (λ z. omega arith)
+  opens-wide r h i = refused r BadWidth (rw h) i (rw h) (λ z. omega arith)
 
-  pub opens-window : (r : Opened) → u ≤ 8 → (leb 1 w && leb w 64) ≡ false → r ≡ record { receiver = shut; why = BadWindow } → Opens u w b r
+  pub opens-window : (r : Opened) → isAccord ac ≡ true → (leb 1 w && leb w 64) ≡ false → r ≡ record { receiver = shut; why = BadWindow } → Opens ac w b r
   unfolding opening openingOwed
-  opens-window r h k i = refused r BadWindow (rw (le-leb u 8 h, k)) i (rw (le-ltb 8 u h, k)) (λ z. omega arith)
+  opens-window r h k i = refused r BadWindow (rw (h, k)) i (rw (h, k)) (λ z. omega arith)
 
-  pub opens-start : (r : Opened) → u ≤ 8 → (leb 1 w && leb w 64) ≡ true → startFits b ≡ false → r ≡ record { receiver = shut; why = BadStart } → Opens u w b r
+  pub opens-start : (r : Opened) → isAccord ac ≡ true → (leb 1 w && leb w 64) ≡ true → startFits b ≡ false → r ≡ record { receiver = shut; why = BadStart } → Opens ac w b r
   unfolding opening openingOwed
-  opens-start r h k s i = refused r BadStart (rw (le-leb u 8 h, k, s)) i (rw (le-ltb 8 u h, k, s)) (λ z. omega arith)
+  opens-start r h k s i = refused r BadStart (rw (h, k, s)) i (rw (h, k, s)) (λ z. omega arith)
 
   start-good : (b : Start) → startFits b ≡ true → GoodStart (startOf b)
   start-good Free e = tt
   start-good (At n) e = omega (arith, leb-true n 15 e)
 
-  pub opens-done : (r : Opened) → u ≤ 8 → 1 ≤ w → w ≤ 64 → startFits b ≡ true → r ≡ record { receiver = opened u w (startOf b); why = Done } → Opens u w b r
+  pub opens-done : (r : Opened) → isAccord ac ≡ true → 1 ≤ w → w ≤ 64 → startFits b ≡ true → r ≡ record { receiver = opened ac w (startOf b); why = Done } → Opens ac w b r
   unfolding opening openingOwed machineAfter
   opens-done r h k l s i =
-      opens r (record { receiver = opened u w (startOf b); why = Done }) (rw (le-leb u 8 h, le-leb 1 w k, le-leb w 64 l, s)) i
-      (rw (le-ltb 8 u h, le-leb 1 w k, le-leb w 64 l, s))
-      (λ z. (record { width = h; some-window = k; small-window = l; good-start = start-good b s; few = omega arith; each = tt }, refl))
+      opens r (record { receiver = opened ac w (startOf b); why = Done }) (rw (h, le-leb 1 w k, le-leb w 64 l, s)) i
+      (rw (h, le-leb 1 w k, le-leb w 64 l, s))
+      (λ z. (record { agreed = h; some-window = k; small-window = l; good-start = start-good b s; few = omega arith; each = tt }, refl))
 
   -- every opening gives a closed receiver, or one that has been told nothing yet
-  pub opened-end : (opening u w b .receiver ≡ shut) ⊎ (t : Told) × Fine t × (opening u w b .receiver ≡ machineOf t)
+  pub opened-end : (opening ac w b .receiver ≡ shut) ⊎ (t : Told) × Fine t × (opening ac w b .receiver ≡ machineOf t)
   unfolding opening machineAfter
-  opened-end = go (leb u 8) (leb 1 w) (leb w 64) (startFits b) refl refl refl refl
+  opened-end = go (isAccord ac) (leb 1 w) (leb w 64) (startFits b) refl refl refl refl
     where
-      go : (i j k l : Bool) → leb u 8 ≡ i → leb 1 w ≡ j → leb w 64 ≡ k → startFits b ≡ l →
-          let o = cond i (cond (j && k) (cond l (record { receiver = opened u w (startOf b); why = Done }) (notOpened BadStart)) (notOpened BadWindow)) (notOpened BadWidth) in
+      go : (i j k l : Bool) → isAccord ac ≡ i → leb 1 w ≡ j → leb w 64 ≡ k → startFits b ≡ l →
+          let o = cond i (cond (j && k) (cond l (record { receiver = opened ac w (startOf b); why = Done }) (notOpened BadStart)) (notOpened BadWindow)) (notOpened BadWidth) in
           (o .receiver ≡ shut) ⊎ (t : Told) × Fine t × (o .receiver ≡ machineOf t)
       go false j k l e f g h = inl refl
       go true false k l e f g h = inl refl
       go true true false l e f g h = inl refl
       go true true true false e f g h = inl refl
-      go true true true true e f g h = inr (unheard u w (startOf b), fine-opened u w (startOf b) (leb-true u 8 e) (leb-true 1 w f) (leb-true w 64 g) (start-good b h), sym (opened-told u w (startOf b)))
+      go true true true true e f g h = inr (unheard ac w (startOf b), fine-opened ac w (startOf b) e (leb-true 1 w f) (leb-true w 64 g) (start-good b h), sym (opened-told ac w (startOf b)))
 
-  pub opening-told : Fine (unheard u w (startOf b)) → opening u w b .receiver ≡ machineOf (unheard u w (startOf b))
+  pub opening-told : Fine (unheard ac w (startOf b)) → opening ac w b .receiver ≡ machineOf (unheard ac w (startOf b))
   unfolding opening machineAfter
-  opening-told f = rw (le-leb u 8 (f .width), le-leb 1 w (f .some-window), le-leb w 64 (f .small-window), start-fits b (f .good-start))
+  opening-told f = rw (f .agreed, le-leb 1 w (f .some-window), le-leb w 64 (f .small-window), start-fits b (f .good-start))
     where
       start-fits : (b : Start) → GoodStart (startOf b) → startFits b ≡ true
       start-fits Free g = refl
       start-fits (At n) g = le-leb n 15 (omega arith)
 
-  pub opens-left : (r : Opened) → Opens u w b r → (givenOf (r .why) .number ≡ 0 → ⊥) → r .receiver ≡ shut
+  pub opens-left : (r : Opened) → Opens ac w b r → (givenOf (r .why) .number ≡ 0 → ⊥) → r .receiver ≡ shut
   unfolding opening
-  opens-left r p z = p .always-receiver ∙ go (leb u 8) (leb 1 w && leb w 64) (startFits b) (λ e. z (ap (λ (g : Reason). g .number) (p .always-given) ∙ e))
+  opens-left r p z = p .always-receiver ∙ go (isAccord ac) (leb 1 w && leb w 64) (startFits b) (λ e. z (ap (λ (g : Reason). g .number) (p .always-given) ∙ e))
     where
       go : (i j k : Bool) →
-          let g : Opening = cond i (cond j (cond k (record { receiver = opened u w (startOf b); why = Done }) (notOpened BadStart)) (notOpened BadWindow)) (notOpened BadWidth) in
+          let g : Opening = cond i (cond j (cond k (record { receiver = opened ac w (startOf b); why = Done }) (notOpened BadStart)) (notOpened BadWindow)) (notOpened BadWidth) in
           (givenOf (g .why) .number ≡ 0 → ⊥) → g .receiver ≡ shut
       go false j k n = refl
       go true false k n = refl

@@ -1,12 +1,14 @@
 // How a receiver begins and whether it stands open.
 //
-// `open_receiver` names the width, the window and the start; `open_plain` only the width. A refused opening gives a closed receiver. The
+// `open_receiver` names what both ends agree on, the window and the start; `open_plain` only the first. A refused opening gives a closed receiver. The
 // tests say whether a record is one that the machine can work on: whatever is not is answered like a closed receiver.
 use machine::Core;
 use machine::Receiver;
+use points::Accord;
 use reasons::Why;
 ghost use mathlib.Core.Path.{_≡_};
 ghost use mathlib.Core.Bool.{true, cond, _&&_};
+ghost use Rattle.trellis.specs.Words.{firstTurn};
 ghost use Rattle.machine.specs.Machine.{core, freshSums, shut, topSum, soundCore, sound};
 ghost use Rattle.select.specs.Select.{allUpTo};
 ghost use Rattle.openings.specs.Given.{plainWindow, startOf, startFits};
@@ -29,21 +31,21 @@ pub fn closed_receiver() -> Receiver
 {
     Receiver {
         live: false,
-        core: fresh_core(0, 0),
+        core: fresh_core(Accord { u: 0 }, 0, 0),
         sums: [0u64; 16],
         planes: [0u64; 48],
         picks: [0u64; 72],
     }
 }
 
-fn fresh_core(u: u32, window: usize) -> Core
-    ensures { λ r. ⌜ r ≡ core u window ⌝ }
+fn fresh_core(accord: Accord, window: usize, turn: u32) -> Core
+    ensures { λ r. ⌜ r ≡ core accord window turn ⌝ }
 {
     Core {
-        u: u,
+        accord: accord,
         window: window,
         taken: 0,
-        turn: 0,
+        turn: turn,
         slot: 0,
         pending: 0,
     }
@@ -61,6 +63,16 @@ fn fresh_sums(start: Start) -> [u64; 16]
             sums[s as usize] = 0;
             sums
         }
+    }
+}
+
+// The turn against which the first symbol is measured.
+fn first_turn(start: Start) -> u32
+    ensures { λ r. ⌜ r ≡ firstTurn (startOf start) ⌝ }
+{
+    match start {
+        Start::Free => 0,
+        Start::At(_) => 0,
     }
 }
 
@@ -84,10 +96,10 @@ fn not_opened(why: Why) -> Opened
 }
 
 // Refused, in this order: a width above 8, a window not 1 to 64, a named start above 15.
-pub fn open_receiver(u: u32, window: u32, start: Start) -> Opened
-    ensures { λ r. ⌜ Opens u window start r ⌝ }
+pub fn open_receiver(accord: Accord, window: u32, start: Start) -> Opened
+    ensures { λ r. ⌜ Opens accord window start r ⌝ }
 {
-    if u > 8 {
+    if !points::is_accord(accord) {
         return not_opened(Why::BadWidth);
     }
     if window < 1 {
@@ -102,7 +114,7 @@ pub fn open_receiver(u: u32, window: u32, start: Start) -> Opened
     Opened {
         receiver: Receiver {
             live: true,
-            core: fresh_core(u, window as usize),
+            core: fresh_core(accord, window as usize, first_turn(start)),
             sums: fresh_sums(start),
             planes: [0u64; 48],
             picks: [0u64; 72],
@@ -114,18 +126,19 @@ pub fn open_receiver(u: u32, window: u32, start: Start) -> Opened
 // The window of the plain opening.
 pub const PLAIN_WINDOW: u32 = 64;
 
-// The plain opening names only the width: its start is free.
-pub fn open_plain(u: u32) -> Opened
-    ensures { λ r. ⌜ Opens u plainWindow Start.Free r ⌝ }
+// The plain opening names only what both ends agree on: its start is free.
+pub fn open_plain(accord: Accord) -> Opened
+    ensures { λ r. ⌜ Opens accord plainWindow Start.Free r ⌝ }
 {
-    open_receiver(u, PLAIN_WINDOW, Start::Free)
+    open_receiver(accord, PLAIN_WINDOW, Start::Free)
 }
 
 // Whether the numbers beside the sums are in range.
 fn core_fits(c: Core) -> bool
     ensures { λ r. ⌜ r ≡ soundCore c ⌝ }
 {
-    if c.u > 8 {
+    let accord = c.accord;
+    if !points::is_accord(accord) {
         return false;
     }
     if c.window < 1 {

@@ -1,3 +1,4 @@
+pub mod Agreed
 pub mod Signed
 pub mod Keys
 pub mod Rule

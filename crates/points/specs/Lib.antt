@@ -1,3 +1,4 @@
+pub mod Agreed
 pub mod Points
 pub mod Turn
 pub mod Pair

@@ -1,4 +1,4 @@
-// The points of the line: the first 256 A points, the quarter turn, and the point with a label and a number.
+// The points of the line: what both ends agree on, the first 256 A points, the quarter turn, and the point with a label and a number.
 //
 // All coordinates are odd, and twice those of the paper. Label l has the A points turned clockwise l times: A 0, C 1, B 2,
 // D 3. A caller makes the table once by `table::a_points` and lends it to `point_of`, the only way to a point.
@@ -6,8 +6,21 @@ pub mod table;
 
 ghost use mathlib.Core.Path.{_≡_};
 ghost use Prim.Native.Nat.{_<_};
+ghost use Rattle.points.specs.Agreed.{isAccord};
 ghost use Rattle.points.specs.Points.{coordinates, aPoint};
 ghost use Rattle.points.specs.Turn.{turned, pointOf, Small};
+
+// What both ends of a line must agree on before the first word: the width u, the number of bits in w1 and in w2.
+pub struct Accord {
+    pub u: u32,
+}
+
+// Whether there is such a line.
+pub fn is_accord(a: Accord) -> bool
+    ensures { λ r. ⌜ r ≡ isAccord a ⌝ }
+{
+    a.u <= 8
+}
 
 pub struct Point {
     pub x: i32,

@@ -7,14 +7,16 @@
 --   width-sent   a sender that was opened has a width up to 8
 --   accepted     the words that a sender accepted are words of its width
 use mathlib.Core.Path.{_≡_, refl, sym, ap, ap₂, subst, _∙_}
-use mathlib.Core.Bool.{true}
+use mathlib.Core.Bool.{Bool, true, false}
 use mathlib.Core.List.{List, [], _∷_, _++_, map}
-use Prim.Native.Nat.{ℕ, zero, suc, _+_, _*_, _/_, _^_, _≤_, _<_}
+use Prim.Native.Nat.{ℕ, zero, suc, _+_, _*_, _/_, _^_, _≤_}
 use native.Mathlib.Omega.{arith}
 use lib.IntN.{ℤ, pos, negsuc, negℤ, natAbs, _+ℤ_, +ℤ-idl, +ℤ-invr, -ℤ-+ℤ-cancel, pos-*ℤ-pos, pos-*ℤ-negsuc}
 use lib.ListN.{take}
 use lib.Pow.{pow-mono}
-use native.Mathlib.Decide.{decLt}
+use Rattle.points.specs.declared.Accord.{Accord}
+use Rattle.points.specs.Agreed.{isAccord}
+use Rattle.points.proofs.Agreed.{accord-width}
 use Rattle.samples.specs.Given.{GivenSample}
 use Rattle.samples.proofs.Laws.{sample-point-heard}
 use Rattle.wei.specs.Word.{isWord}
@@ -73,15 +75,15 @@ one-point h p q e f =
     let y : p .y ≡ q .y = one-coordinate (h .y) (p .y) (q .y) (omega arith) (omega arith) in
     λ i. record { x = x i; y = y i }
 
-far-points : (y : Two Received) (c : Symbol) → lineMeasure .far y c ≡ distance (y .first) (firstPoint c) + distance (y .second) (secondPoint c)
+far-points : (ac : Accord) (y : Two Received) (c : Symbol) → lineMeasure ac .far y c ≡ distance (y .first) (firstPoint c) + distance (y .second) (secondPoint c)
 unfolding farOf lineDistance firstPoint secondPoint
-far-points y c = refl
+far-points ac y c = refl
 
-pub exact : (u : ℕ) → u ≤ 8 → Exact u lineMeasure
-exact u h y c d v w e f =
-    symbols-apart u c d h v w
-    (one-point (y .first) (firstPoint c) (firstPoint d) (omega (arith, far-points y c)) (omega (arith, far-points y d)))
-    (one-point (y .second) (secondPoint c) (secondPoint d) (omega (arith, far-points y c)) (omega (arith, far-points y d)))
+pub exact : (ac : Accord) → isAccord ac ≡ true → Exact (ac .u) (lineMeasure ac)
+exact ac h y c d v w e f =
+    symbols-apart (ac .u) c d (accord-width ac h) v w
+    (one-point (y .first) (firstPoint c) (firstPoint d) (omega (arith, far-points ac y c)) (omega (arith, far-points ac y d)))
+    (one-point (y .second) (secondPoint c) (secondPoint d) (omega (arith, far-points ac y c)) (omega (arith, far-points ac y d)))
 
 -- ---- symbols heard exactly
 
@@ -89,9 +91,9 @@ at-itself : (p : Point) → distance (heardAt p) p ≡ 0
 unfolding distance
 at-itself p = ap₂ (λ (a b : ℤ). square a + square b) (+ℤ-invr (onLine (p .x))) (+ℤ-invr (onLine (p .y)))
 
-pub hits : (cs : List Symbol) → Hits lineMeasure (map heardExactly cs) cs
-hits [] = tt
-hits (c ∷ cs) = (far-points (heardExactly c) c ∙ ap₂ (λ (a b : ℕ). a + b) (at-itself (firstPoint c)) (at-itself (secondPoint c)), hits cs)
+pub hits : (ac : Accord) (cs : List Symbol) → Hits (lineMeasure ac) (map heardExactly cs) cs
+hits ac [] = tt
+hits ac (c ∷ cs) = (far-points ac (heardExactly c) c ∙ ap₂ (λ (a b : ℕ). a + b) (at-itself (firstPoint c)) (at-itself (secondPoint c)), hits ac cs)
 
 take-symbols : (u s q m : ℕ) (ns : List ℕ) → take m (map heardExactly (symbolsFrom u s q ns)) ≡ map heardExactly (symbolsFrom u s q (take m ns))
 unfolding symbolsFrom
@@ -101,8 +103,8 @@ take-symbols u s q (suc m) (n ∷ ns) =
     let c = symbolOf u s q n in
     ap (λ (l : List (Two Received)). heardExactly c ∷ l) (take-symbols u (nextState s (c .i1) (c .i2)) (firstLabel c) m ns)
 
-pub first-sent : (u m : ℕ) (sent : List ℕ) → take m (cleanly u sent) ≡ cleanly u (take m sent)
-first-sent u m sent = take-symbols u 0 0 m sent
+pub first-sent : (ac : Accord) (m : ℕ) (sent : List ℕ) → take m (cleanly ac sent) ≡ cleanly ac (take m sent)
+first-sent ac m sent = take-symbols (ac .u) 0 0 m sent
 
 pub read-back : (cs : List Symbol) → symbolsOf (allOnLine (sender.coordinatesOf cs)) ≡ map heardExactly cs
 unfolding four
@@ -129,14 +131,14 @@ floats u s (c ∷ cs) h a =
     let rest = sender.coordinatesOf cs in
     point-floats (firstPoint c) p (secondPoint c .x ∷ secondPoint c .y ∷ rest) (point-floats (secondPoint c) q rest (floats u (nextState s (c .i1) (c .i2)) cs h (a .1)))
 
-pub width-sent : (u : ℕ) (ws : List ℕ) (ps : List ℤ) (s : Sender) → sender.Talk u ws ps s → u ≤ 8
-width-sent u ws ps s (sender.opens r p z) = go (decLt 8 u)
+pub agreed-sent : (ac : Accord) (ws : List ℕ) (ps : List ℤ) (s : Sender) → sender.Talk ac ws ps s → isAccord ac ≡ true
+agreed-sent ac ws ps s (sender.opens r p z) = go (isAccord ac) refl
   where
-    go : Dec (8 < u) → u ≤ 8
-    go (yes h) = absurd (omega (arith, one u .1 h, p .number, z))
-    go (no n) = omega arith
-width-sent u ws ps s (sender.takes {ws = vs} {ps = qs} {s = t} k n out o r p z) = width-sent u vs qs t k
-width-sent u ws ps s (sender.refuses {ws = vs} {ps = qs} {s = t} k n out o r p z) = width-sent u vs qs t k
+    go : (b : Bool) → isAccord ac ≡ b → b ≡ true
+    go true e = refl
+    go false e = absurd (omega (arith, one ac .1 e, p .number, z))
+agreed-sent ac ws ps s (sender.takes {ws = vs} {ps = qs} {s = t} k n out o r p z) = agreed-sent ac vs qs t k
+agreed-sent ac ws ps s (sender.refuses {ws = vs} {ps = qs} {s = t} k n out o r p z) = agreed-sent ac vs qs t k
 
 -- ---- the words of a run
 
@@ -149,16 +151,16 @@ every-take P zero l e = tt
 every-take P (suc m) [] e = tt
 every-take P (suc m) (x ∷ l) e = (e .0, every-take P m l (e .1))
 
-run-words : (u : ℕ) (ws : List ℕ) (ps : List ℤ) (s : Sender) → sender.Talk u ws ps s → (s .u ≡ u) × Every (λ n. isWord u n ≡ true) ws
+run-words : (ac : Accord) (ws : List ℕ) (ps : List ℤ) (s : Sender) → sender.Talk ac ws ps s → (s .accord ≡ ac) × Every (λ n. isWord (ac .u) n ≡ true) ws
 unfolding after
-run-words u ws ps s (sender.opens r p z) = (ap (λ (x : Sender). x .u) (p .sender ∙ opened-with u (sym (p .number) ∙ z)), tt)
-run-words u ws ps s (sender.takes {ws = vs} {ps = qs} {s = t} k n out o r p z) =
-    let (w, e) = run-words u vs qs t k in
+run-words ac ws ps s (sender.opens r p z) = (ap (λ (x : Sender). x .accord) (p .sender ∙ opened-with ac (sym (p .number) ∙ z)), tt)
+run-words ac ws ps s (sender.takes {ws = vs} {ps = qs} {s = t} k n out o r p z) =
+    let (w, e) = run-words ac vs qs t k in
     let d = done t n out (sym (p .number) ∙ z) in
-    (ap (λ (x : Sender). x .u) (p .sender ∙ d .sender) ∙ w, every-snoc u vs n e (subst (λ (v : ℕ). isWord v n ≡ true) w (d .word)))
-run-words u ws ps s (sender.refuses {ws = vs} {ps = qs} {s = t} k n out o r p z) =
-    let (w, e) = run-words u vs qs t k in
-    (ap (λ (x : Sender). x .u) (p .sender ∙ refused-keeps t n out (λ y. z (p .number ∙ y)) .0) ∙ w, e)
+    (ap (λ (x : Sender). x .accord) (p .sender ∙ d .sender) ∙ w, every-snoc (ac .u) vs n e (subst (λ (v : Accord). isWord (v .u) n ≡ true) w (d .word)))
+run-words ac ws ps s (sender.refuses {ws = vs} {ps = qs} {s = t} k n out o r p z) =
+    let (w, e) = run-words ac vs qs t k in
+    (ap (λ (x : Sender). x .accord) (p .sender ∙ refused-keeps t n out (λ y. z (p .number ∙ y)) .0) ∙ w, e)
 
-pub accepted : (u : ℕ) (ws : List ℕ) (ps : List ℤ) (s : Sender) → sender.Talk u ws ps s → Every (λ n. isWord u n ≡ true) ws
-accepted u ws ps s k = run-words u ws ps s k .1
+pub accepted : (ac : Accord) (ws : List ℕ) (ps : List ℤ) (s : Sender) → sender.Talk ac ws ps s → Every (λ n. isWord (ac .u) n ≡ true) ws
+accepted ac ws ps s k = run-words ac ws ps s k .1

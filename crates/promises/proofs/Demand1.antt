@@ -20,6 +20,7 @@ use Prim.Native.Nat.{ℕ, _-_, _<_}
 use native.Mathlib.Omega.{arith}
 use lib.IntN.{ℤ}
 use lib.ListN.{length, take}
+use Rattle.points.specs.declared.Accord.{Accord}
 use Rattle.trellis.specs.Measure.{Two}
 use Rattle.nearest.specs.declared.Received.{Received}
 use Rattle.nearest.specs.Line.{BothInRange}
@@ -49,8 +50,8 @@ use Rattle.promises.proofs.Numbers.{sender-opening-case, sender-opening
 
 -- ---- the sender
 
-pub sender-opens : (u : ℕ) (r : Sent) → sender-promise.Opens u r → (k : ℕ) → (sender.numberOf (r .why) ≡ k) ↔ table.SenderOpens u k
-sender-opens u r p k = (λ e. subst (table.SenderOpens u) (sym (p .number) ∙ e) (sender-opening-case u), λ h. p .number ∙ sender-opening-is u k h)
+pub sender-opens : (ac : Accord) (r : Sent) → sender-promise.Opens ac r → (k : ℕ) → (sender.numberOf (r .why) ≡ k) ↔ table.SenderOpens ac k
+sender-opens ac r p k = (λ e. subst (table.SenderOpens ac) (sym (p .number) ∙ e) (sender-opening-case ac), λ h. p .number ∙ sender-opening-is ac k h)
 
 module _ (s : Sender) (n : ℕ) (out : List ℤ) (r : Sent) (o : List ℤ) (p : sender-promise.Sends s n out r o) where
   pub sends : sender.End s → (k : ℕ) → (sender.numberOf (r .why) ≡ k) ↔ table.Sends s n out k
@@ -61,9 +62,9 @@ module _ (s : Sender) (n : ℕ) (out : List ℤ) (r : Sent) (o : List ℤ) (p : 
 
 -- ---- the receiver's opening
 
-module _ (u w : ℕ) (b : Start) (r : Opened) (p : Opens u w b r) where
-  pub receiver-opens : (k : ℕ) → (givenOf (r .why) .number ≡ k) ↔ table.ReceiverOpens u w b k
-  receiver-opens k = (λ e. subst (table.ReceiverOpens u w b) (sym (p .owed) ∙ e) (opening-case u w b), λ h. p .owed ∙ opening-is u w b k h)
+module _ (ac : Accord) (w : ℕ) (b : Start) (r : Opened) (p : Opens ac w b r) where
+  pub receiver-opens : (k : ℕ) → (givenOf (r .why) .number ≡ k) ↔ table.ReceiverOpens ac w b k
+  receiver-opens k = (λ e. subst (table.ReceiverOpens ac w b) (sym (p .owed) ∙ e) (opening-case ac w b), λ h. p .owed ∙ opening-is ac w b k h)
 
 -- ---- a piece and a finish
 

@@ -21,16 +21,17 @@ use Prim.Native.Nat.{ℕ}
 use native.Mathlib.Omega.{arith}
 use lib.IntN.{ℤ}
 use lib.ListN.{take, drop, take-append-drop}
+use Rattle.points.proofs.Agreed.{accord-width}
+use Rattle.points.specs.declared.Accord.{Accord}
 use Rattle.wei.specs.Word.{isWord}
 use Rattle.wei.specs.Symbol.{Symbol, symbolsFrom}
 use Rattle.calls.proofs.Prefixes.{prefix-trans}
 use Rattle.trellis.specs.Lists.{Every}
 use Rattle.trellis.specs.Code.{Path, symbols}
 use Rattle.trellis.specs.Best.{Answer}
-use Rattle.trellis.specs.Measure.{Two, weiCode}
+use Rattle.trellis.specs.Measure.{Two}
 use Rattle.trellis.specs.Same.{sameSymbol}
 use Rattle.trellis.specs.Pick.{weiSearch}
-use Rattle.trellis.specs.Words.{words}
 use Rattle.trellis.proofs.Answer.{answer-only}
 use Rattle.trellis.proofs.Onward.{some-answer}
 use Rattle.trellis.proofs.WeiLaws.{wei-laws, wei-onward}
@@ -51,76 +52,77 @@ use Rattle.promises.specs.Clean.{allOnLine, cleanly, floatsHeard, sample
 use Rattle.promises.proofs.Follows.{toldOf, follows, answers}
 use Rattle.told.proofs.Speaks.{speaks}
 use Rattle.promises.proofs.Demand3.{whole}
-use Rattle.promises.proofs.Clean.{exact, hits, first-sent, read-back, floats, width-sent, every-take, accepted}
+use Rattle.promises.proofs.Clean.{exact, hits, first-sent, read-back, floats, agreed-sent, every-take, accepted}
+use Rattle.told.specs.Told.{codeOf, wordsOf}
 
 -- ---- the least sum
 
 -- the words ws are those of the answer for the symbols `took`, and there is no other answer
-pub record LeastWords (u : ℕ) (b : Start) (took : List (Two Received)) (ws : List ℕ) : Type 0 where
+pub record LeastWords (ac : Accord) (b : Start) (took : List (Two Received)) (ws : List ℕ) : Type 0 where
   pub path : Path Symbol
-  pub is-answer : Answer (weiCode u lineMeasure (startOf b)) (reverse took) path
-  pub only : (q : Path Symbol) → Answer (weiCode u lineMeasure (startOf b)) (reverse took) q → q ≡ path
-  pub words-are : ws ≡ words u (symbols path)
+  pub is-answer : Answer (codeOf ac (startOf b)) (reverse took) path
+  pub only : (q : Path Symbol) → Answer (codeOf ac (startOf b)) (reverse took) q → q ≡ path
+  pub words-are : ws ≡ wordsOf ac (startOf b) (symbols path)
 
-ended-fine : (u w : ℕ) (b : Start) (took : List (Two Received)) (ws : List ℕ) → Ended u w b took ws → Fine (toldOf u w b took)
-ended-fine u w b took ws (ends {ws = vs} {rx = q} k out o r h z) = follows u w b took vs q k .fine
+ended-fine : (ac : Accord) (w : ℕ) (b : Start) (took : List (Two Received)) (ws : List ℕ) → Ended ac w b took ws → Fine (toldOf ac w b took)
+ended-fine ac w b took ws (ends {ws = vs} {rx = q} k out o r h z) = follows ac w b took vs q k .fine
 
-pub least : (u w : ℕ) (b : Start) (took : List (Two Received)) (ws : List ℕ) → Ended u w b took ws → LeastWords u b took ws
-least u w b took ws k =
-    let L = wei-laws u lineMeasure (lineChoice u) (line-chooses u) sameSymbol (startOf b) in
-    let (p, a) = some-answer (weiSearch u lineMeasure (lineChoice u) sameSymbol (startOf b)) L (wei-onward u lineMeasure (startOf b) (ended-fine u w b took ws k .good-start)) (reverse took) in
+pub least : (ac : Accord) (w : ℕ) (b : Start) (took : List (Two Received)) (ws : List ℕ) → Ended ac w b took ws → LeastWords ac b took ws
+least ac w b took ws k =
+    let L = wei-laws (ac .u) (lineMeasure ac) (lineChoice ac) (line-chooses ac) sameSymbol (startOf b) in
+    let (p, a) = some-answer (weiSearch (ac .u) (lineMeasure ac) (lineChoice ac) sameSymbol (startOf b)) L (wei-onward (ac .u) (lineMeasure ac) (startOf b) (ended-fine ac w b took ws k .good-start)) (reverse took) in
     record {
       path = p;
       is-answer = a;
-      only = λ q c. answer-only (weiCode u lineMeasure (startOf b)) (L .antisym) (reverse took) q p c a;
-      words-are = whole u w b took ws k p a;
+      only = λ q c. answer-only (codeOf ac (startOf b)) (L .antisym) (reverse took) q p c a;
+      words-are = whole ac w b took ws k p a;
     }
 
-pub any-cut : (u v w : ℕ) (b : Start) (took : List (Two Received)) (ws vs : List ℕ) → Ended u v b took ws → Ended u w b took vs → ws ≡ vs
-any-cut u v w b took ws vs k l = answers u v b took ws k ∙ sym (answers u w b took vs l)
+pub any-cut : (ac : Accord) (v w : ℕ) (b : Start) (took : List (Two Received)) (ws vs : List ℕ) → Ended ac v b took ws → Ended ac w b took vs → ws ≡ vs
+any-cut ac v w b took ws vs k l = answers ac v b took ws k ∙ sym (answers ac w b took vs l)
 
 -- ---- a clean line
 
-module _ (u w : ℕ) (b : Start) (z : StartsAtZero b) (sent : List ℕ) (e : Every (λ n. isWord u n ≡ true) sent) where
-  clean-answer : Fine (toldOf u w b (cleanly u sent)) → speakerOf (toldOf u w b (cleanly u sent)) .answered (reverse (cleanly u sent)) ≡ sent
+module _ (ac : Accord) (w : ℕ) (b : Start) (z : StartsAtZero b) (sent : List ℕ) (e : Every (λ n. isWord (ac .u) n ≡ true) sent) where
+  clean-answer : Fine (toldOf ac w b (cleanly ac sent)) → speakerOf (toldOf ac w b (cleanly ac sent)) .answered (reverse (cleanly ac sent)) ≡ sent
   clean-answer f =
-      trellis.round-trip u lineMeasure (lineChoice u) (line-chooses u) (exact u (f .width)) (startOf b) (f .good-start) 0 (omega arith) z (cleanly u sent) sent e
-      (hits (symbolsFrom u 0 0 sent))
+      trellis.round-trip (ac .u) (lineMeasure ac) (lineChoice ac) (line-chooses ac) (exact ac (f .agreed)) (startOf b) (f .good-start) 0 (omega arith) z (cleanly ac sent) sent e
+      (hits ac (symbolsFrom (ac .u) 0 0 sent))
 
-  clean-ended : (ws : List ℕ) → Ended u w b (cleanly u sent) ws → ws ≡ sent
-  clean-ended ws k = answers u w b (cleanly u sent) ws k ∙ clean-answer (ended-fine u w b (cleanly u sent) ws k)
+  clean-ended : (ws : List ℕ) → Ended ac w b (cleanly ac sent) ws → ws ≡ sent
+  clean-ended ws k = answers ac w b (cleanly ac sent) ws k ∙ clean-answer (ended-fine ac w b (cleanly ac sent) ws k)
 
-  clean-talk : (ws : List ℕ) (rx : Receiver) → Talk u w b (cleanly u sent) ws rx → IsPrefix ws sent
+  clean-talk : (ws : List ℕ) (rx : Receiver) → Talk ac w b (cleanly ac sent) ws rx → IsPrefix ws sent
   clean-talk ws rx k =
-      let f = follows u w b (cleanly u sent) ws rx k in
-      rw (f .said) (subst (IsPrefix (speakerOf (toldOf u w b (cleanly u sent)) .spoken (reverse (cleanly u sent)))) (clean-answer (f .fine)) (speaks (toldOf u w b (cleanly u sent)) (f .fine) .within (reverse (cleanly u sent))))
+      let f = follows ac w b (cleanly ac sent) ws rx k in
+      rw (f .said) (subst (IsPrefix (speakerOf (toldOf ac w b (cleanly ac sent)) .spoken (reverse (cleanly ac sent)))) (clean-answer (f .fine)) (speaks (toldOf ac w b (cleanly ac sent)) (f .fine) .within (reverse (cleanly ac sent))))
 
 -- a sender's run, heard 128 times
-sent-cleanly : (u : ℕ) (sent : List ℕ) (ps : List ℤ) (s : Sender) → sender.Talk u sent ps s → symbolsOf (allOnLine ps) ≡ cleanly u sent
-sent-cleanly u sent ps s k =
-    let r = ran u sent ps s k in
-    ap (λ (l : List ℤ). symbolsOf (allOnLine l)) (r .written ∙ ap sender.coordinatesOf (r .are)) ∙ read-back (symbolsFrom u 0 0 sent)
+sent-cleanly : (ac : Accord) (sent : List ℕ) (ps : List ℤ) (s : Sender) → sender.Talk ac sent ps s → symbolsOf (allOnLine ps) ≡ cleanly ac sent
+sent-cleanly ac sent ps s k =
+    let r = ran ac sent ps s k in
+    ap (λ (l : List ℤ). symbolsOf (allOnLine l)) (r .written ∙ ap sender.coordinatesOf (r .are)) ∙ read-back (symbolsFrom (ac .u) 0 0 sent)
 
-module _ (u w : ℕ) (b : Start) (z : StartsAtZero b) (sent : List ℕ) (ps : List ℤ) (s : Sender) (k : sender.Talk u sent ps s) where
-  words-sent : Every (λ n. isWord u n ≡ true) sent
-  words-sent = accepted u sent ps s k
+module _ (ac : Accord) (w : ℕ) (b : Start) (z : StartsAtZero b) (sent : List ℕ) (ps : List ℤ) (s : Sender) (k : sender.Talk ac sent ps s) where
+  words-sent : Every (λ n. isWord (ac .u) n ≡ true) sent
+  words-sent = accepted ac sent ps s k
 
-  pub round-trip : (ws : List ℕ) → Ended u w b (symbolsOf (allOnLine ps)) ws → ws ≡ sent
-  round-trip ws h = clean-ended u w b z sent words-sent ws (subst (λ (l : List (Two Received)). Ended u w b l ws) (sent-cleanly u sent ps s k) h)
+  pub round-trip : (ws : List ℕ) → Ended ac w b (symbolsOf (allOnLine ps)) ws → ws ≡ sent
+  round-trip ws h = clean-ended ac w b z sent words-sent ws (subst (λ (l : List (Two Received)). Ended ac w b l ws) (sent-cleanly ac sent ps s k) h)
 
-  some-taken : (m : ℕ) → take m (symbolsOf (allOnLine ps)) ≡ cleanly u (take m sent)
-  some-taken m = ap (take m) (sent-cleanly u sent ps s k) ∙ first-sent u m sent
+  some-taken : (m : ℕ) → take m (symbolsOf (allOnLine ps)) ≡ cleanly ac (take m sent)
+  some-taken m = ap (take m) (sent-cleanly ac sent ps s k) ∙ first-sent ac m sent
 
-  pub begins : (m : ℕ) (ws : List ℕ) (rx : Receiver) → Talk u w b (take m (symbolsOf (allOnLine ps))) ws rx → IsPrefix ws sent
+  pub begins : (m : ℕ) (ws : List ℕ) (rx : Receiver) → Talk ac w b (take m (symbolsOf (allOnLine ps))) ws rx → IsPrefix ws sent
   begins m ws rx h =
       prefix-trans ws (take m sent) sent
-      (clean-talk u w b z (take m sent) (every-take (λ n. isWord u n ≡ true) m sent words-sent) ws rx (subst (λ (l : List (Two Received)). Talk u w b l ws rx) (some-taken m) h))
+      (clean-talk ac w b z (take m sent) (every-take (λ n. isWord (ac .u) n ≡ true) m sent words-sent) ws rx (subst (λ (l : List (Two Received)). Talk ac w b l ws rx) (some-taken m) h))
       (drop m sent, take-append-drop m sent)
 
-  pub first-back : (m : ℕ) (ws : List ℕ) → Ended u w b (take m (symbolsOf (allOnLine ps))) ws → ws ≡ take m sent
-  first-back m ws h = clean-ended u w b z (take m sent) (every-take (λ n. isWord u n ≡ true) m sent words-sent) ws (subst (λ (l : List (Two Received)). Ended u w b l ws) (some-taken m) h)
+  pub first-back : (m : ℕ) (ws : List ℕ) → Ended ac w b (take m (symbolsOf (allOnLine ps))) ws → ws ≡ take m sent
+  first-back m ws h = clean-ended ac w b z (take m sent) (every-take (λ n. isWord (ac .u) n ≡ true) m sent words-sent) ws (subst (λ (l : List (Two Received)). Ended ac w b l ws) (some-taken m) h)
 
-pub as-floats : (u : ℕ) (sent : List ℕ) (ps : List ℤ) (s : Sender) → sender.Talk u sent ps s → floatsHeard ps ≡ samplesAt (allOnLine ps)
-as-floats u sent ps s k =
-    let r = ran u sent ps s k in
-    subst (λ (l : List ℤ). floatsHeard l ≡ samplesAt (allOnLine l)) (sym (r .written)) (floats u 0 (r .symbols) (width-sent u sent ps s k) (r .allowed))
+pub as-floats : (ac : Accord) (sent : List ℕ) (ps : List ℤ) (s : Sender) → sender.Talk ac sent ps s → floatsHeard ps ≡ samplesAt (allOnLine ps)
+as-floats ac sent ps s k =
+    let r = ran ac sent ps s k in
+    subst (λ (l : List ℤ). floatsHeard l ≡ samplesAt (allOnLine l)) (sym (r .written)) (floats (ac .u) 0 (r .symbols) (accord-width ac (agreed-sent ac sent ps s k)) (r .allowed))

@@ -11,10 +11,10 @@
 use mathlib.Core.Path.{_≡_, subst, _∙_}
 use mathlib.Core.List.{List, _++_, reverse, IsPrefix}
 use Prim.Native.Nat.{ℕ}
+use Rattle.points.specs.declared.Accord.{Accord}
 use Rattle.trellis.specs.Code.{Path, symbols}
 use Rattle.trellis.specs.Best.{Answer, Longest}
-use Rattle.trellis.specs.Measure.{Two, weiCode}
-use Rattle.trellis.specs.Words.{words}
+use Rattle.trellis.specs.Measure.{Two}
 use Rattle.trellis.specs.Said.{spokenWords}
 use Rattle.trellis.proofs.Spoken as spoken
 use Rattle.wei.specs.Symbol.{Symbol}
@@ -26,22 +26,23 @@ use Rattle.openings.specs.declared.Start.{Start}
 use Rattle.openings.specs.Given.{startOf}
 use Rattle.promises.specs.Talk.{Talk, Ended}
 use Rattle.promises.proofs.Follows.{follows, answers, start-of}
+use Rattle.told.specs.Told.{codeOf, wordsOf}
 
-module _ (u w : ℕ) (b : Start) (took : List (Two Received)) (ws : List ℕ) where
-  pub exact : (rx : Receiver) → Talk u w b took ws rx → (l : List Symbol) → Longest (weiCode u lineMeasure (startOf b)) (reverse took) l → ws ≡ words u l
+module _ (ac : Accord) (w : ℕ) (b : Start) (took : List (Two Received)) (ws : List ℕ) where
+  pub exact : (rx : Receiver) → Talk ac w b took ws rx → (l : List Symbol) → Longest (codeOf ac (startOf b)) (reverse took) l → ws ≡ wordsOf ac (startOf b) l
   exact rx k l h =
-      let f = follows u w b took ws rx k in
-      f .said ∙ spoken.spoken-longest u lineMeasure (lineChoice u) (line-chooses u) (startOf b) (f .fine .good-start) took l h
+      let f = follows ac w b took ws rx k in
+      f .said ∙ spoken.spoken-longest (ac .u) (lineMeasure ac) (lineChoice ac) (line-chooses ac) (startOf b) (f .fine .good-start) took l h
 
-  pub final : (rx : Receiver) → Talk u w b took ws rx → (zs : List (Two Received)) (p : Path Symbol) → Answer (weiCode u lineMeasure (startOf b)) (reverse (took ++ zs)) p → IsPrefix ws (words u (symbols p))
+  pub final : (rx : Receiver) → Talk ac w b took ws rx → (zs : List (Two Received)) (p : Path Symbol) → Answer (codeOf ac (startOf b)) (reverse (took ++ zs)) p → IsPrefix ws (wordsOf ac (startOf b) (symbols p))
   final rx k zs p a =
-      let f = follows u w b took ws rx k in
+      let f = follows ac w b took ws rx k in
       let g = f .fine .good-start in
       rw (f .said)
-      (subst (IsPrefix (spokenWords u lineMeasure (lineChoice u) (startOf b) (reverse took))) (spoken.answer-words u lineMeasure (lineChoice u) (line-chooses u) (startOf b) g (took ++ zs) p a)
-      (spoken.spoken-answer u lineMeasure (lineChoice u) (line-chooses u) (startOf b) g took zs))
+      (subst (IsPrefix (spokenWords (ac .u) (lineMeasure ac) (lineChoice ac) (startOf b) (reverse took))) (spoken.answer-words (ac .u) (lineMeasure ac) (lineChoice ac) (line-chooses ac) (startOf b) g (took ++ zs) p a)
+      (spoken.spoken-answer (ac .u) (lineMeasure ac) (lineChoice ac) (line-chooses ac) (startOf b) g took zs))
 
-  pub whole : Ended u w b took ws → (p : Path Symbol) → Answer (weiCode u lineMeasure (startOf b)) (reverse took) p → ws ≡ words u (symbols p)
+  pub whole : Ended ac w b took ws → (p : Path Symbol) → Answer (codeOf ac (startOf b)) (reverse took) p → ws ≡ wordsOf ac (startOf b) (symbols p)
   whole k p a =
-      answers u w b took ws k
-      ∙ spoken.answer-words u lineMeasure (lineChoice u) (line-chooses u) (startOf b) (start-of u w b took ws k) took p a
+      answers ac w b took ws k
+      ∙ spoken.answer-words (ac .u) (lineMeasure ac) (lineChoice ac) (line-chooses ac) (startOf b) (start-of ac w b took ws k) took p a

@@ -23,7 +23,7 @@ abbrev known : (t : Told) → Fine t → (rx : Receiver) → rx ≡ machineOf t 
 known t f rx e = record { told = t; fine = f; machine = e }
 
 pub end-known : (rx : Receiver) → End rx → (rx ≡ shut) ⊎ Known rx
-end-known rx (fresh u w b) = ⊎-elim (λ z. inl z) (λ z. let (t, f, e) = z in inr (known t f rx e)) (opened-end u w b)
+end-known rx (fresh ac w b) = ⊎-elim (λ z. inl z) (λ z. let (t, f, e) = z in inr (known t f rx e)) (opened-end ac w b)
 end-known rx (heard {rx = q} e p room) =
     ⊎-elim
     (λ (z : q ≡ shut). inl (ap (λ (k : Receiver). hearing k p room .receiver) z ∙ ap (λ (r : Ran). r .receiver) (shut-hears p room)))

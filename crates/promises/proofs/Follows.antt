@@ -11,6 +11,7 @@ use native.Mathlib.Omega.{arith}
 use lib.Dec.{ltb}
 use lib.ListN.{length, take, drop}
 use lib.Seq.{take-at}
+use Rattle.points.specs.declared.Accord.{Accord}
 use Rattle.calls.specs.Calls.{Ended as WalkEnded, walk, rest}
 use Rattle.calls.proofs.Steps.{walk-heard, walk-said}
 use Rattle.calls.proofs.Prefixes.{joined}
@@ -29,33 +30,33 @@ use Rattle.receiver.specs.Promise.{Owes, Hears, EndOwes, Finishes}
 use Rattle.promises.specs.Talk.{Talk, opens, hears, refuses, Ended, ends}
 
 -- what the receiver has been told after the symbols `took`
-abbrev pub toldOf : ℕ → ℕ → Start → List (Two Received) → Told
-toldOf u w b took = record { u = u; window = w; start = startOf b; heard = reverse took }
+abbrev pub toldOf : Accord → ℕ → Start → List (Two Received) → Told
+toldOf ac w b took = record { accord = ac; window = w; start = startOf b; heard = reverse took }
 
 -- the words of a call are those at the front of the output
 front : (ws out o : List ℕ) (n : ℕ) → n ≡ length ws → o ≡ ws ++ drop (length ws) out → take n o ≡ ws
 front ws out o n e f = ap (take n) f ∙ take-at ws (drop (length ws) out) n (sym e)
 
-pub record Follows (u w : ℕ) (b : Start) (took : List (Two Received)) (ws : List ℕ) (rx : Receiver) : Type 0 where
-  pub fine : Fine (toldOf u w b took)
-  pub machine : rx ≡ machineOf (toldOf u w b took)
-  pub said : ws ≡ speakerOf (toldOf u w b took) .spoken (reverse took)
+pub record Follows (ac : Accord) (w : ℕ) (b : Start) (took : List (Two Received)) (ws : List ℕ) (rx : Receiver) : Type 0 where
+  pub fine : Fine (toldOf ac w b took)
+  pub machine : rx ≡ machineOf (toldOf ac w b took)
+  pub said : ws ≡ speakerOf (toldOf ac w b took) .spoken (reverse took)
 
 -- nothing taken and nothing written
-idle : (u w : ℕ) (b : Start) (took : List (Two Received)) (ws : List ℕ) (rx s : Receiver) (zs : List (Two Received)) (o : List ℕ) (m n : ℕ) → Follows u w b took ws rx → m ≡ 0 → n ≡ 0 → s ≡ rx →
-    Follows u w b (took ++ take m zs) (ws ++ take n o) s
-idle u w b took ws rx s zs o m n f p q e =
+idle : (ac : Accord) (w : ℕ) (b : Start) (took : List (Two Received)) (ws : List ℕ) (rx s : Receiver) (zs : List (Two Received)) (o : List ℕ) (m n : ℕ) → Follows ac w b took ws rx → m ≡ 0 → n ≡ 0 → s ≡ rx →
+    Follows ac w b (took ++ take m zs) (ws ++ take n o) s
+idle ac w b took ws rx s zs o m n f p q e =
     let a : took ++ take m zs ≡ took = ap (λ (k : ℕ). took ++ take k zs) p ∙ append-nil took in
     let d : ws ++ take n o ≡ ws = ap (λ (k : ℕ). ws ++ take k o) q ∙ append-nil ws in
     rw (a, d, e) f
 
-module _ (u w : ℕ) (b : Start) (took : List (Two Received)) (ws : List ℕ) (rx : Receiver) (f : Follows u w b took ws rx) (out o : List ℕ) (r : Answer) where
+module _ (ac : Accord) (w : ℕ) (b : Start) (took : List (Two Received)) (ws : List ℕ) (rx : Receiver) (f : Follows ac w b took ws rx) (out o : List ℕ) (r : Answer) where
   abbrev t : Told
-  t = toldOf u w b took
+  t = toldOf ac w b took
 
   -- a piece that goes symbol by symbol
   walks : (zs : List (Two Received)) (e : WalkEnded (speakerOf t) (judgeOf t)) → walk (speakerOf t) (judgeOf t) (reverse took) zs (length out) ≡ e →
-      Owes (record { reason = e .why; taken = e .taken; words = e .said; told = withHeard t (e .heard) }) out r o → Follows u w b (took ++ take (r .taken) zs) (ws ++ take (r .written) o) (r .receiver)
+      Owes (record { reason = e .why; taken = e .taken; words = e .said; told = withHeard t (e .heard) }) out r o → Follows ac w b (took ++ take (r .taken) zs) (ws ++ take (r .written) o) (r .receiver)
   walks zs e z k =
       let h : reverse (e .heard) ≡ took ++ take (e .taken) zs =
       ap (λ (x : WalkEnded (speakerOf t) (judgeOf t)). reverse (x .heard)) (sym z) ∙ walk-heard (speakerOf t) (judgeOf t) (reverse took) zs (length out)
@@ -71,26 +72,26 @@ module _ (u w : ℕ) (b : Start) (took : List (Two Received)) (ws : List ℕ) (r
         said = ap₂ (λ (x y : List ℕ). x ++ y) (f .said) (front (e .said) out o (r .written) (k .written) (k .output)) ∙ s ∙ ap (λ (l : List (Two Received)). speakerOf t .spoken l) g;
       }
 
-  pub piece-follows : (p : Piece) → Hears rx p out r o → Follows u w b (took ++ take (r .taken) (p .symbols)) (ws ++ take (r .written) o) (r .receiver)
+  pub piece-follows : (p : Piece) → Hears rx p out r o → Follows ac w b (took ++ take (r .taken) (p .symbols)) (ws ++ take (r .written) o) (r .receiver)
   unfolding pieceOwed
   piece-follows p h = go (p .fits) (h .owed t (f .fine) (f .machine))
     where
       go : (c : Bool) → Owes (let e = endedOf t p (length out) in cond c (record { reason = e .why; taken = e .taken; words = e .said; told = withHeard t (e .heard) }) (record { reason = record { number = 10; place = 0 }; taken = 0; words = []; told = t })) out r o →
-          Follows u w b (took ++ take (r .taken) (p .symbols)) (ws ++ take (r .written) o) (r .receiver)
+          Follows ac w b (took ++ take (r .taken) (p .symbols)) (ws ++ take (r .written) o) (r .receiver)
       go true k = walks (p .symbols) (endedOf t p (length out)) refl k
-      go false k = idle u w b took ws rx (r .receiver) (p .symbols) o (r .taken) (r .written) f (k .taken) (k .written) (k .receiver ∙ sym (f .machine))
+      go false k = idle ac w b took ws rx (r .receiver) (p .symbols) o (r .taken) (r .written) f (k .taken) (k .written) (k .receiver ∙ sym (f .machine))
 
   -- a finish: refused, all as before; done, the answer whole
   abbrev left : List ℕ
   left = rest (speakerOf t) (reverse took)
 
-  pub finish-refused : Finishes rx out r o → (givenOf (r .why) .number ≡ 0 → ⊥) → Follows u w b took (ws ++ take (r .written) o) (r .receiver)
+  pub finish-refused : Finishes rx out r o → (givenOf (r .why) .number ≡ 0 → ⊥) → Follows ac w b took (ws ++ take (r .written) o) (r .receiver)
   unfolding finishOwed
   finish-refused h z = go (ltb (length out) (length left)) (h .owed t (f .fine) (f .machine))
     where
       go : (c : Bool) → EndOwes (cond c (record { reason = record { number = 8; place = 0 }; words = []; closes = false }) (record { reason = record { number = 0; place = 0 }; words = left; closes = true })) rx out r o →
-          Follows u w b took (ws ++ take (r .written) o) (r .receiver)
-      go true k = subst (λ (l : List (Two Received)). Follows u w b l (ws ++ take (r .written) o) (r .receiver)) (append-nil took) (idle u w b took ws rx (r .receiver) [] o 0 (r .written) f refl (k .written) (k .receiver))
+          Follows ac w b took (ws ++ take (r .written) o) (r .receiver)
+      go true k = subst (λ (l : List (Two Received)). Follows ac w b l (ws ++ take (r .written) o) (r .receiver)) (append-nil took) (idle ac w b took ws rx (r .receiver) [] o 0 (r .written) f refl (k .written) (k .receiver))
       go false k = absurd (z (ap (λ (x : Reason). x .number) (k .given)))
 
   pub finish-answers : Finishes rx out r o → givenOf (r .why) .number ≡ 0 → ws ++ take (r .written) o ≡ speakerOf t .answered (reverse took)
@@ -106,15 +107,15 @@ module _ (u w : ℕ) (b : Start) (took : List (Two Received)) (ws : List ℕ) (r
 
 -- ---- whole runs
 
-pub follows : (u w : ℕ) (b : Start) (took : List (Two Received)) (ws : List ℕ) (rx : Receiver) → Talk u w b took ws rx → Follows u w b took ws rx
-follows u w b took ws rx (opens r p z) =
+pub follows : (ac : Accord) (w : ℕ) (b : Start) (took : List (Two Received)) (ws : List ℕ) (rx : Receiver) → Talk ac w b took ws rx → Follows ac w b took ws rx
+follows ac w b took ws rx (opens r p z) =
     let k = p .fresh z in
-    record { fine = k .0; machine = k .1; said = sym (speaks (toldOf u w b []) (k .0) .starts) }
-follows u w b took ws rx (hears {took = l} {ws = vs} {rx = q} k p out o r h) = piece-follows u w b l vs q (follows u w b l vs q k) out o r p h
-follows u w b took ws rx (refuses {took = l} {ws = vs} {rx = q} k out o r h z) = finish-refused u w b l vs q (follows u w b l vs q k) out o r h z
+    record { fine = k .0; machine = k .1; said = sym (speaks (toldOf ac w b []) (k .0) .starts) }
+follows ac w b took ws rx (hears {took = l} {ws = vs} {rx = q} k p out o r h) = piece-follows ac w b l vs q (follows ac w b l vs q k) out o r p h
+follows ac w b took ws rx (refuses {took = l} {ws = vs} {rx = q} k out o r h z) = finish-refused ac w b l vs q (follows ac w b l vs q k) out o r h z
 
-pub answers : (u w : ℕ) (b : Start) (took : List (Two Received)) (ws : List ℕ) → Ended u w b took ws → ws ≡ speakerOf (toldOf u w b took) .answered (reverse took)
-answers u w b took ws (ends {ws = vs} {rx = q} k out o r h z) = finish-answers u w b took vs q (follows u w b took vs q k) out o r h z
+pub answers : (ac : Accord) (w : ℕ) (b : Start) (took : List (Two Received)) (ws : List ℕ) → Ended ac w b took ws → ws ≡ speakerOf (toldOf ac w b took) .answered (reverse took)
+answers ac w b took ws (ends {ws = vs} {rx = q} k out o r h z) = finish-answers ac w b took vs q (follows ac w b took vs q k) out o r h z
 
-pub start-of : (u w : ℕ) (b : Start) (took : List (Two Received)) (ws : List ℕ) → Ended u w b took ws → GoodStart (startOf b)
-start-of u w b took ws (ends {ws = vs} {rx = q} k out o r h z) = follows u w b took vs q k .fine .good-start
+pub start-of : (ac : Accord) (w : ℕ) (b : Start) (took : List (Two Received)) (ws : List ℕ) → Ended ac w b took ws → GoodStart (startOf b)
+start-of ac w b took ws (ends {ws = vs} {rx = q} k out o r h z) = follows ac w b took vs q k .fine .good-start

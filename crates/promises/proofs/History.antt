@@ -8,11 +8,13 @@ use Prim.Native.Nat.{ℕ, _≤_, _<_}
 use native.Mathlib.Omega.{arith}
 use lib.IntN.{ℤ}
 use lib.ListN.{length, replicate, length-replicate}
+use Rattle.points.specs.declared.Accord.{Accord}
 use Rattle.calls.specs.Calls.{walk}
 use Rattle.trellis.specs.Measure.{Two}
 use Rattle.nearest.specs.declared.Received.{Received}
 use Rattle.nearest.specs.Line.{BothInRange}
 use Rattle.reasons.specs.Reason.{reason, givenOf}
+use Rattle.points.specs.Agreed.{ofWidth}
 use Rattle.told.specs.Told.{Told, pendingAfter, Fine, FineList, withHeard}
 use Rattle.told.specs.Piece.{pieceOf}
 use Rattle.told.specs.Owed.{pieceOwed}
@@ -49,16 +51,16 @@ heard-one : (t : Told) (f : Fine t) (y : Two Received) → BothInRange y → len
 unfolding pieceOwed walk
 heard-one t f y r few h = rw (said-is t (t .heard) y 64 (reason 0) (table.Said.taken r few h (fresh-most t f y r few)))
 
-module _ (u w : ℕ) (b : Start) where
+module _ (ac : Accord) (w : ℕ) (b : Start) where
   abbrev after : List (Two Received) → Told
-  after ys = record { u = u; window = w; start = startOf b; heard = ys }
+  after ys = record { accord = ac; window = w; start = startOf b; heard = ys }
 
   pub fine-end : (ys : List (Two Received)) → Fine (after ys) → End (machineOf (after ys))
-  fine-end [] f = subst End (opening-told u w b f) (fresh u w b)
+  fine-end [] f = subst End (opening-told ac w b f) (fresh ac w b)
   fine-end (y ∷ ys) f =
       let few : length ys < 4294967295 = omega (arith, f .few) in
       let g : Fine (after ys) =
-      record { width = f .width; some-window = f .some-window; small-window = f .small-window; good-start = f .good-start; few = omega arith; each = fine-same (after ys) (y ∷ ys) ys (f .each .2) } in
+      record { agreed = f .agreed; some-window = f .some-window; small-window = f .small-window; good-start = f .good-start; few = omega arith; each = fine-same (after ys) (y ∷ ys) ys (f .each .2) } in
       subst End (hearing-owes (after ys) g (pieceOf (fourOf y)) 64 .receiver ∙ ap machineOf (heard-one (after ys) g y (f .each .0) few (f .each .1))) (heard (fine-end ys g) (pieceOf (fourOf y)) 64)
 
 -- so for each number there is an end that has been told so many; and one that has been told 4,294,967,295 answers 7
@@ -70,7 +72,7 @@ histories-end n h =
       told n,
       f,
       l,
-      fine-end 0 64 Free (replicate n zeros) f,
+      fine-end (ofWidth 0) 64 Free (replicate n zeros) f,
       λ e y g out r o p. p .owed (told n) f refl .given ∙ rw (seven (told n) (replicate n zeros) y (length out) (l ∙ e) g),
     )
 

@@ -11,6 +11,8 @@ use borrow.Author.Tests.{ltb-true, ltb-false, leb-true, leb-false, eqb-false, lt
 use lib.Dec.{eqb, leb, ltb}
 use lib.IntN.{ℤ}
 use lib.ListN.{length, take, drop, length-append, drop-of-length-le}
+use Rattle.points.specs.declared.Accord.{Accord}
+use Rattle.points.specs.Agreed.{isAccord}
 use Rattle.calls.specs.Calls.{Ended, fresh, rest, after, walk}
 use Rattle.calls.proofs.Steps.{walk-heard}
 use Rattle.trellis.specs.Measure.{Two}
@@ -37,18 +39,18 @@ use Rattle.promises.specs.Table as table
 sender-shut : (s : Sender) → s .live ≡ false → sender.sound s ≡ false
 sender-shut s e = rw e
 
-pub sender-opening-case : (u : ℕ) → table.SenderOpens u (sender.opening u .number)
+pub sender-opening-case : (ac : Accord) → table.SenderOpens ac (sender.opening ac .number)
 unfolding sender.opening
-sender-opening-case u = go (leb u 8) refl
+sender-opening-case ac = go (isAccord ac) refl
   where
-    go : (b : Bool) → leb u 8 ≡ b → table.SenderOpens u (cond {A = sender.Given} b (record { number = 0; sender = sender.fresh u; output = [] }) (record { number = 1; sender = sender.shut; output = [] }) .number)
-    go true e = table.SenderOpens.done (leb-true u 8 e)
-    go false e = table.SenderOpens.one (leb-false u 8 e)
+    go : (b : Bool) → isAccord ac ≡ b → table.SenderOpens ac (cond {A = sender.Given} b (record { number = 0; sender = sender.fresh ac; output = [] }) (record { number = 1; sender = sender.shut; output = [] }) .number)
+    go true e = table.SenderOpens.done e
+    go false e = table.SenderOpens.one e
 
-pub sender-opening-is : (u k : ℕ) → table.SenderOpens u k → sender.opening u .number ≡ k
+pub sender-opening-is : (ac : Accord) (k : ℕ) → table.SenderOpens ac k → sender.opening ac .number ≡ k
 unfolding sender.opening
-sender-opening-is u k (table.SenderOpens.one h) = rw (lt-leb u 8 h)
-sender-opening-is u k (table.SenderOpens.done h) = rw (le-leb u 8 h)
+sender-opening-is ac k (table.SenderOpens.one h) = rw h
+sender-opening-is ac k (table.SenderOpens.done h) = rw h
 
 module _ (s : Sender) (e : sender.End s) (n : ℕ) (out : List ℤ) where
   live-sound : (b : Bool) → s .live ≡ b → sender.sound s ≡ b
@@ -85,25 +87,25 @@ no-start : (b : Start) → startFits b ≡ false → (n : ℕ) × (b ≡ At n) �
 no-start Free e = absurd (let y : _≡_ {A = ℕ} 0 1 = cc in omega arith)
 no-start (At n) e = (n, refl, leb-false n 15 e)
 
-module _ (u w : ℕ) (b : Start) where
-  pub opening-case : table.ReceiverOpens u w b (openingOwed u w b)
+module _ (ac : Accord) (w : ℕ) (b : Start) where
+  pub opening-case : table.ReceiverOpens ac w b (openingOwed ac w b)
   unfolding openingOwed
-  opening-case = go (ltb 8 u) (leb 1 w) (leb w 64) (startFits b) refl refl refl refl
+  opening-case = go (isAccord ac) (leb 1 w) (leb w 64) (startFits b) refl refl refl refl
     where
-      go : (p q r s : Bool) → ltb 8 u ≡ p → leb 1 w ≡ q → leb w 64 ≡ r → startFits b ≡ s → table.ReceiverOpens u w b (cond p 1 (cond (q && r) (cond s 0 3) 2))
-      go true q r s e f g h = table.ReceiverOpens.one (ltb-true 8 u e)
-      go false false r s e f g h = table.ReceiverOpens.two (ltb-false 8 u e) (inl (omega (arith, leb-false 1 w f)))
-      go false true false s e f g h = table.ReceiverOpens.two (ltb-false 8 u e) (inr (leb-false w 64 g))
-      go false true true false e f g h = let (n, i, l) = no-start b h in table.ReceiverOpens.three (ltb-false 8 u e) (leb-true 1 w f) (leb-true w 64 g) n i l
-      go false true true true e f g h = table.ReceiverOpens.done (ltb-false 8 u e) (leb-true 1 w f) (leb-true w 64 g) h
+      go : (p q r s : Bool) → isAccord ac ≡ p → leb 1 w ≡ q → leb w 64 ≡ r → startFits b ≡ s → table.ReceiverOpens ac w b (cond p (cond (q && r) (cond s 0 3) 2) 1)
+      go false q r s e f g h = table.ReceiverOpens.one e
+      go true false r s e f g h = table.ReceiverOpens.two e (inl (omega (arith, leb-false 1 w f)))
+      go true true false s e f g h = table.ReceiverOpens.two e (inr (leb-false w 64 g))
+      go true true true false e f g h = let (n, i, l) = no-start b h in table.ReceiverOpens.three e (leb-true 1 w f) (leb-true w 64 g) n i l
+      go true true true true e f g h = table.ReceiverOpens.done e (leb-true 1 w f) (leb-true w 64 g) h
 
-  pub opening-is : (k : ℕ) → table.ReceiverOpens u w b k → openingOwed u w b ≡ k
+  pub opening-is : (k : ℕ) → table.ReceiverOpens ac w b k → openingOwed ac w b ≡ k
   unfolding openingOwed
-  opening-is k (table.ReceiverOpens.one h) = rw (lt-ltb 8 u h)
-  opening-is k (table.ReceiverOpens.two h (inl z)) = rw (le-ltb 8 u h, z)
-  opening-is k (table.ReceiverOpens.two h (inr z)) = rw (le-ltb 8 u h, le-leb 1 w (omega arith), lt-leb w 64 z)
-  opening-is k (table.ReceiverOpens.three h i j n e l) = rw (le-ltb 8 u h, le-leb 1 w i, le-leb w 64 j, e, lt-leb n 15 l)
-  opening-is k (table.ReceiverOpens.done h i j s) = rw (le-ltb 8 u h, le-leb 1 w i, le-leb w 64 j, s)
+  opening-is k (table.ReceiverOpens.one h) = rw h
+  opening-is k (table.ReceiverOpens.two h (inl z)) = rw (h, z)
+  opening-is k (table.ReceiverOpens.two h (inr z)) = rw (h, le-leb 1 w (omega arith), lt-leb w 64 z)
+  opening-is k (table.ReceiverOpens.three h i j n e l) = rw (h, le-leb 1 w i, le-leb w 64 j, e, lt-leb n 15 l)
+  opening-is k (table.ReceiverOpens.done h i j s) = rw (h, le-leb 1 w i, le-leb w 64 j, s)
 
 -- ---- a symbol
 

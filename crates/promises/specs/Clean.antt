@@ -3,7 +3,7 @@
 --   onLine c              a point's coordinate as a received one
 --   allOnLine ps          the same of all coordinates that a sender wrote
 --   heardExactly c        the received symbol at the two points of the symbol c
---   cleanly u sent        what is heard, on a clean line, of a fresh sender of width u that accepted the words `sent`
+--   cleanly k sent        what is heard, on a clean line of the accord k, of a fresh sender that accepted the words `sent`
 --   floatsHeard ps        what the front end gives for the coordinates ps, two to a sample, each as an f32
 --   samplesAt ps          samples, none refused, at the coordinates ps
 --   StartsAtZero b        the state 0, in which a sender starts, may stand first: the start is free or names 0
@@ -12,6 +12,7 @@ use mathlib.Core.List.{List, [], _∷_, map}
 use lib.Dec.{T}
 use lib.IntN.{ℤ, pos, _*ℤ_}
 use lib.Ieee.{binary32, ofInt}
+use Rattle.points.specs.declared.Accord.{Accord}
 use Rattle.samples.specs.Given.{GivenSample, bothDone}
 use Rattle.samples.specs.Heard.{heardSample}
 use Rattle.wei.specs.Symbol.{Symbol, symbolsFrom}
@@ -35,8 +36,8 @@ abbrev pub heardExactly : Symbol → Two Received
 heardExactly c = record { first = heardAt (firstPoint c); second = heardAt (secondPoint c) }
 
 -- "The sender starts in state 0"; "q starts at 0"
-abbrev pub cleanly : ℕ → List ℕ → List (Two Received)
-cleanly u sent = map heardExactly (symbolsFrom u 0 0 sent)
+abbrev pub cleanly : Accord → List ℕ → List (Two Received)
+cleanly k sent = map heardExactly (symbolsFrom (k .u) 0 0 sent)
 
 abbrev pub StartsAtZero : Start → Type 0
 StartsAtZero b = T (mayStart (startOf b) 0)

@@ -13,6 +13,7 @@ use lib.Ieee.{Float, fin}
 use Rattle.wei.specs.Label.{turnOf, secondLabel}
 use Rattle.wei.specs.State.{nextState}
 use Rattle.samples.specs.Heard.{heardCoordinate}
+use Rattle.points.specs.Agreed.{ofWidth}
 use Rattle.sender.specs.declared.Sender.{Sender}
 use Rattle.sender.specs.Send.{fresh, sending}
 
@@ -51,14 +52,14 @@ markedRows =
     ∷ row (pos (nextState 0b1011 0 1) ∷ []) (pos 0b1110 ∷ [])
     ∷ row (pos (nextState 0b1110 1 0) ∷ []) (pos 0b1011 ∷ [])
     -- "u 0, word 1 from fresh: (1,1)(-1,-1), state 0001; then word 0: (1,1)(1,-1), state 0100"
-    ∷ row (sent (fresh 0) (1 ∷ [])) (places 0 (pos 1) (pos 1) (m 1) (m 1) 0b0001)
-    ∷ row (sent (fresh 0) (1 ∷ 0 ∷ [])) (places 0 (pos 1) (pos 1) (pos 1) (m 1) 0b0100)
+    ∷ row (sent (fresh (ofWidth 0)) (1 ∷ [])) (places 0 (pos 1) (pos 1) (m 1) (m 1) 0b0001)
+    ∷ row (sent (fresh (ofWidth 0)) (1 ∷ 0 ∷ [])) (places 0 (pos 1) (pos 1) (pos 1) (m 1) 0b0100)
     -- "u 0, word 2 from fresh: (1,-1)(1,-1), state 0010"
-    ∷ row (sent (fresh 0) (2 ∷ [])) (places 0 (pos 1) (m 1) (pos 1) (m 1) 0b0010)
+    ∷ row (sent (fresh (ofWidth 0)) (2 ∷ [])) (places 0 (pos 1) (m 1) (pos 1) (m 1) 0b0010)
     -- "u 0, word 4: (-1,-1) twice. u 0, word 8: refused 4. u 1, word 8: (-3,1)(1,1)"
-    ∷ row (sent (fresh 0) (4 ∷ [])) (places 0 (m 1) (m 1) (m 1) (m 1) 0)
-    ∷ row (sent (fresh 0) (8 ∷ [])) (places 4 (pos 0) (pos 0) (pos 0) (pos 0) 0)
-    ∷ row (sent (fresh 1) (8 ∷ [])) (places 0 (m 3) (pos 1) (pos 1) (pos 1) 0)
+    ∷ row (sent (fresh (ofWidth 0)) (4 ∷ [])) (places 0 (m 1) (m 1) (m 1) (m 1) 0)
+    ∷ row (sent (fresh (ofWidth 0)) (8 ∷ [])) (places 4 (pos 0) (pos 0) (pos 0) (pos 0) 0)
+    ∷ row (sent (fresh (ofWidth 1)) (8 ∷ [])) (places 0 (m 3) (pos 1) (pos 1) (pos 1) 0)
     -- "Samples: 1/256 gives 0; 3/256 gives 2"
     ∷ row (heard (fin false 1 (negsuc 7))) (pos 0 ∷ pos 0 ∷ [])
     ∷ row (heard (fin false 3 (negsuc 7))) (pos 0 ∷ pos 2 ∷ [])

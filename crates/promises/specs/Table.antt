@@ -1,8 +1,8 @@
 -- 01's table "Numbers given back", door by door: each number with all that is so when it is given, the tests before it in their order
 -- among them. Demand 1 says that a number is given exactly then (proofs/Demand1).
---   SenderOpens u k         the sender's opening gives k
+--   SenderOpens k n         the sender's opening gives n
 --   Sends s n out k         sending the word n into `out` gives k
---   ReceiverOpens u w b k   the receiver's opening gives k
+--   ReceiverOpens k w b n   the receiver's opening gives n
 --   Said t ys y room g      the symbol y, heard after ys with room for so many words, is answered with g
 --   Hears t q room m n g    a piece q gives g, after m symbols taken and n words written
 --   Finishes t room k       a finish gives k
@@ -14,6 +14,8 @@ use mathlib.Core.Logic.{_⊎_}
 use mathlib.Core.List.{List, _∷_, _++_, reverse}
 use lib.IntN.{ℤ}
 use lib.ListN.{length, take, drop}
+use Rattle.points.specs.declared.Accord.{Accord}
+use Rattle.points.specs.Agreed.{isAccord}
 use Rattle.wei.specs.Word.{isWord}
 use Rattle.calls.specs.Calls.{fresh, rest}
 use Rattle.trellis.specs.Measure.{Two}
@@ -28,23 +30,23 @@ use Rattle.openings.specs.Given.{startFits}
 use Rattle.told.specs.Piece.{Piece}
 
 -- "u above 8 at an opening"; "a sender has only 1"
-pub data SenderOpens (u : ℕ) : ℕ → Type 0 where
-  one : 8 < u → SenderOpens u 1
-  done : u ≤ 8 → SenderOpens u 0
+pub data SenderOpens (k : Accord) : ℕ → Type 0 where
+  one : isAccord k ≡ false → SenderOpens k 1
+  done : isAccord k ≡ true → SenderOpens k 0
 
 -- "Sending one word: 9, 4, 8"
 pub data Sends (s : Sender) (n : ℕ) (out : List ℤ) : ℕ → Type 0 where
   nine : s .live ≡ false → Sends s n out 9
-  four : s .live ≡ true → isWord (s .u) n ≡ false → Sends s n out 4
-  eight : s .live ≡ true → isWord (s .u) n ≡ true → length out < 4 → Sends s n out 8
-  done : s .live ≡ true → isWord (s .u) n ≡ true → 4 ≤ length out → Sends s n out 0
+  four : s .live ≡ true → isWord (s .accord .u) n ≡ false → Sends s n out 4
+  eight : s .live ≡ true → isWord (s .accord .u) n ≡ true → length out < 4 → Sends s n out 8
+  done : s .live ≡ true → isWord (s .accord .u) n ≡ true → 4 ≤ length out → Sends s n out 0
 
 -- "Opening order: 1, 2, 3": "u above 8", "window not 1 to 64", "named start above 15"
-pub data ReceiverOpens (u w : ℕ) (b : Start) : ℕ → Type 0 where
-  one : 8 < u → ReceiverOpens u w b 1
-  two : u ≤ 8 → (w ≡ 0) ⊎ (64 < w) → ReceiverOpens u w b 2
-  three : u ≤ 8 → 1 ≤ w → w ≤ 64 → (n : ℕ) → b ≡ At n → 15 < n → ReceiverOpens u w b 3
-  done : u ≤ 8 → 1 ≤ w → w ≤ 64 → startFits b ≡ true → ReceiverOpens u w b 0
+pub data ReceiverOpens (k : Accord) (w : ℕ) (b : Start) : ℕ → Type 0 where
+  one : isAccord k ≡ false → ReceiverOpens k w b 1
+  two : isAccord k ≡ true → (w ≡ 0) ⊎ (64 < w) → ReceiverOpens k w b 2
+  three : isAccord k ≡ true → 1 ≤ w → w ≤ 64 → (n : ℕ) → b ≡ At n → 15 < n → ReceiverOpens k w b 3
+  done : isAccord k ≡ true → 1 ≤ w → w ≤ 64 → startFits b ≡ true → ReceiverOpens k w b 0
 
 -- "symbol by symbol 5, 7, 6, 8"
 pub data Said (t : Told) (ys : List (Two Received)) (y : Two Received) (room : ℕ) : Reason → Type 0 where

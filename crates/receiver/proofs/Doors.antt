@@ -123,7 +123,7 @@ module _ (rx : Receiver) (out : List ℕ) where
   finish-full e h = rw (e, lt-ltb (length out) (rx .core .pending) h) (record { receiver = refl; taken = refl; written = refl; given = refl; output = refl })
 
   pub finish-done : sound rx ≡ true → rx .core .pending ≤ length out → (s : ℕ) → s ≡ endOf (rx .sums) → (o : List ℕ) →
-      o ≡ wordsFrom (rx .core .u) (rx .core .turn) (take (rx .core .pending) (wayFrom (rx .core) (rx .planes) (rx .picks) s)) ++ drop (rx .core .pending) out →
+      o ≡ wordsFrom (rx .core .accord .u) (rx .core .turn) (take (rx .core .pending) (wayFrom (rx .core) (rx .planes) (rx .picks) s)) ++ drop (rx .core .pending) out →
       Is (finishing rx (length out)) out (record { receiver = shut; taken = 0; written = rx .core .pending; why = Done }) o
   unfolding finishing
   finish-done e h s k o w =

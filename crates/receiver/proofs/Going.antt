@@ -23,7 +23,7 @@ use Rattle.told.specs.Piece.{symbolFrom, symbolsOf}
 use Rattle.receiver.specs.Doors.{symbolAt, Ran, running}
 use Rattle.receiver.specs.Promise.{Is}
 use Rattle.machine.specs.Taken.{whole, TookIs}
-use Rattle.receiver.proofs.Kept.{symbol-refused, symbol-sound}
+use Rattle.receiver.proofs.Kept.{symbol-refused, symbol-sound, symbol-accord}
 use Rattle.reasons.proofs.Apart.{done-given}
 use Rattle.receiver.proofs.Lent.{part, back-is, lent-fits, back-take, back-drop, back-length}
 
@@ -35,6 +35,7 @@ pub record Going (xs : List ℤ) (out₀ : List ℕ) (rx₀ : Receiver) (out : L
   pub room : written ≤ length out₀
   pub long : length out ≡ length out₀
   pub fit : sound rx ≡ true
+  pub accord : rx .core .accord ≡ rx₀ .core .accord
   pub going : givenOf why ≡ reason 0
   pub rest : drop written out ≡ drop written out₀
   pub same : running (symbolsOf xs) rx₀ 0 [] (length out₀) ≡ running (symbolsOf (drop i xs)) rx taken (take written out) (length out₀)
@@ -103,6 +104,7 @@ module _ (xs : List ℤ) (out₀ : List ℕ) (rx₀ : Receiver) (out : List ℕ)
         long = more-length;
         going = done-given (r .why) done;
         fit = ap sound (is .receiver) ∙ symbol-sound rx (g .fit) y left;
+        accord = ap (λ (x : Receiver). x .core .accord) (is .receiver) ∙ symbol-accord rx y left ∙ g .accord;
         rest = rw (is .written) (back-drop out out₀ (o .words) ys w (g .long) (g .room) (g .rest) (is .out) kept);
         same =
             g .same ∙ ap (λ (zs : List (Two Received)). running zs rx taken (take w out) (length out₀)) symbols-are
@@ -133,7 +135,7 @@ module _ (xs : List ℤ) (out₀ : List ℕ) (rx₀ : Receiver) (out : List ℕ)
 
 module _ (xs : List ℤ) (out : List ℕ) (rx : Receiver) where
   pub start : length xs % 4 ≡ 0 → sound rx ≡ true → Going xs out rx out rx 0 0 Done 0
-  start even fit = record { even = even; aligned = refl; within = omega arith; count = omega arith; room = omega arith; long = refl; fit = fit; going = refl; rest = refl; same = refl }
+  start even fit = record { even = even; aligned = refl; within = omega arith; count = omega arith; room = omega arith; long = refl; fit = fit; accord = refl; going = refl; rest = refl; same = refl }
 
   pub end : (out′ : List ℕ) (rx′ : Receiver) (taken w : ℕ) (why : Why) (i : ℕ) → Going xs out rx out′ rx′ taken w why i → length xs ≤ i →
       Is (running (symbolsOf xs) rx 0 [] (length out)) out (record { receiver = rx′; taken = taken; written = w; why = why }) out′

@@ -1,6 +1,7 @@
 -- What one symbol leaves: refused, nothing written and the receiver as it was; taken, a receiver that is sound again.
 --   symbol-refused   a refused symbol leaves all as it was
 --   symbol-sound     a receiver stays sound
+--   symbol-accord    and keeps its accord
 use mathlib.Core.Path.{_≡_, refl, sym, ap, subst, _∙_}
 use mathlib.Core.Bool.{Bool, true, false, cond}
 use mathlib.Core.List.{List, []}
@@ -16,7 +17,7 @@ use Rattle.machine.specs.declared.Core.{Core}
 use Rattle.machine.specs.declared.Receiver.{Receiver}
 use Rattle.machine.specs.declared.Took.{Took}
 use Rattle.reasons.specs.declared.Why.the-variants.{BadSample}
-use Rattle.machine.specs.Machine.{Outcome, taking, agreedOf, keptOf, sound}
+use Rattle.machine.specs.Machine.{Outcome, taking, agreedOf, keptOf, grown, sound}
 use Rattle.machine.specs.Taken.{whole, TookIs}
 use Rattle.reasons.specs.Reason.{isDone}
 use Rattle.told.specs.Told.{faultOf}
@@ -52,6 +53,19 @@ module _ (rx : Receiver) (f : sound rx ≡ true) (y : Two Received) (room : ℕ)
       (λ a. either Fit (eqb (rx .core .taken) 4294967295) _ _ (λ _. f)
       (λ _. either Fit (ltb (rx .core .window) (keptOf rx y)) _ _ (λ _. f)
       (λ c. either Fit (ltb room (agreedOf rx y)) _ _ (λ _. f) (λ _. grown-sound rx y f (in-range y a) (ltb-false (rx .core .window) (keptOf rx y) c)))))
+
+-- what both ends agreed on stays
+module _ (rx : Receiver) (y : Two Received) (room : ℕ) where
+  abbrev Agreed : Outcome → Type 0
+  Agreed o = o .receiver .core .accord ≡ rx .core .accord
+
+  pub symbol-accord : Agreed (symbolAt rx y room)
+  unfolding symbolAt taking grown
+  symbol-accord =
+      either Agreed (ltb (faultOf y) 4) _ _ (λ _. refl)
+      (λ _. either Agreed (eqb (rx .core .taken) 4294967295) _ _ (λ _. refl)
+      (λ _. either Agreed (ltb (rx .core .window) (keptOf rx y)) _ _ (λ _. refl)
+      (λ _. either Agreed (ltb room (agreedOf rx y)) _ _ (λ _. refl) (λ _. refl))))
 
 -- ---- one symbol, as the code has it
 

@@ -43,11 +43,11 @@ module _ (rx : Receiver) (y : Two Received) (room : ℕ) where
   either true p q f g = f
   either false p q f g = g refl
 
-  released-few : length (wordsFrom (rx .core .u) (rx .core .turn) (releasedOf rx y)) ≤ agreedOf rx y
+  released-few : length (wordsFrom (rx .core .accord .u) (rx .core .turn) (releasedOf rx y)) ≤ agreedOf rx y
   unfolding releasedOf
   released-few =
       let way = wayFrom (rx .core) (rx .planes) (rx .picks) (prevIn (nextSteps rx y) 0) in
-      omega (arith, speak-length turnAfter (word (rx .core .u)) (rx .core .turn) (take (agreedOf rx y) way), length-take (agreedOf rx y) way)
+      omega (arith, speak-length turnAfter (word (rx .core .accord .u)) (rx .core .turn) (take (agreedOf rx y) way), length-take (agreedOf rx y) way)
 
   symbol-few : Few (symbolAt rx y room)
   unfolding symbolAt taking

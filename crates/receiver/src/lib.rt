@@ -7,6 +7,7 @@
 use machine::Core;
 use machine::Receiver;
 use machine::Took;
+use nearest::Chart;
 use nearest::Received;
 use reasons::Why;
 ghost use mathlib.Core.Path.{_≡_};
@@ -14,8 +15,7 @@ ghost use mathlib.Core.Bool.{true};
 ghost use mathlib.Core.List.{[]};
 ghost use Prim.Native.Nat.{_%_};
 ghost use lib.ListN.{length};
-ghost use Rattle.points.specs.Points.{coordinates};
-ghost use Rattle.nearest.specs.Found.{heardAs};
+ghost use Rattle.nearest.specs.Found.{chartOf, heardAs};
 ghost use Rattle.machine.specs.Machine.{core, sound};
 ghost use Rattle.machine.specs.Taken.{whole, TookIs};
 ghost use Rattle.told.specs.Told.{faultOf};
@@ -51,7 +51,7 @@ fn fault(x0: i32, x1: i32, x2: i32, x3: i32) -> u32
 
 // One symbol of a piece. A coordinate out of range is refused before anything is searched.
 fn symbol(
-    t: &[i8; 512],
+    t: &Chart,
     core: Core,
     x0: i32,
     x1: i32,
@@ -62,7 +62,7 @@ fn symbol(
     picks: &mut [u64; 72],
     out: &mut [u32],
 ) -> Took
-    requires { ⌜ (now t ≡ coordinates) × (sound (whole core (now sums) (now planes) (now picks)) ≡ true) ⌝ }
+    requires { ⌜ (now t ≡ chartOf (core .accord)) × (sound (whole core (now sums) (now planes) (now picks)) ≡ true) ⌝ }
     ensures { λ r. ⌜ TookIs (symbolAt (whole core (now (sums .entry)) (now (planes .entry)) (now (picks .entry))) (symbolFrom x0 x1 x2 x3) (length (now (out .entry)))) r (now (sums .exit)) (now (planes .exit)) (now (picks .exit)) (now (out .entry)) (now (out .exit)) ⌝ }
 {
     let place = fault(x0, x1, x2, x3);
@@ -109,7 +109,8 @@ fn hear_symbols(
     requires { ⌜ (sound (whole start (now sums) (now planes) (now picks)) ≡ true) × (length (now samples) % 4 ≡ 0) ⌝ }
     ensures { λ r. ⌜ Is (running (symbolsOf (now (samples .entry))) (whole start (now (sums .entry)) (now (planes .entry)) (now (picks .entry))) 0 [] (length (now (out .entry)))) (now (out .entry)) (answerOf true r (now (sums .exit)) (now (planes .exit)) (now (picks .exit))) (now (out .exit)) ⌝ }
 {
-    let table = points::table::a_points();
+    let accord = start.accord;
+    let chart = nearest::chart(accord);
     let mut core = start;
     let mut taken: usize = 0;
     let mut written: usize = 0;
@@ -117,7 +118,7 @@ fn hear_symbols(
     let mut i: usize = 0;
     while i < samples.len() {
         let t = symbol(
-            &table,
+            &chart,
             core,
             samples[i],
             samples[i + 1],

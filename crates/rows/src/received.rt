@@ -2,6 +2,7 @@
 use crate::say;
 use machine::Receiver;
 use openings::Start;
+use points::Accord;
 use reasons::Why;
 
 // Symbols taken, words written, the number, and the output.
@@ -80,7 +81,7 @@ fn finished(rx: Receiver, should: Shown) {
 }
 
 fn fresh(window: u32) -> Receiver {
-    let r = openings::open_receiver(0, window, Start::Free);
+    let r = openings::open_receiver(Accord { u: 0 }, window, Start::Free);
     r.receiver
 }
 

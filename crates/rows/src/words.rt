@@ -54,7 +54,7 @@ fn row(s: Sender, word: u32, should: Shown) -> Sender {
         d: out[3],
     };
     say::text(b"u ");
-    say::unsigned(s.u);
+    say::unsigned(s.accord.u);
     say::text(b" word ");
     say::unsigned(word);
     say::text(b"  should be ");
@@ -77,7 +77,7 @@ fn points(number: u32, state: u32, a: i32, b: i32, c: i32, d: i32) -> Shown {
 }
 
 fn fresh(u: u32) -> Sender {
-    let r = sender::open_sender(u);
+    let r = sender::open_sender(points::Accord { u: u });
     r.sender
 }
 

@@ -1,11 +1,10 @@
 -- The outcomes of the two doors, one law each over plain values, in the order of the tests.
 use mathlib.Core.Path.{_≡_, refl, sym, ap, ap₂, subst, _∙_}
-use mathlib.Core.Bool.{Bool, true, false, cond}
+use mathlib.Core.Bool.{true, false}
 use mathlib.Core.List.{List, [], _∷_, _++_}
-use Prim.Native.Nat.{ℕ, _+_, _*_, _/_, _%_, _≤_, _<_}
+use Prim.Native.Nat.{ℕ, _+_, _≤_, _<_}
 use native.Mathlib.Omega.{arith}
 use borrow.Author.Tests.{le-leb, lt-leb}
-use lib.Dec.{leb}
 use lib.IntN.{ℤ}
 use lib.ListN.{length, drop, set}
 use Rattle.points.specs.declared.Point.{Point}
@@ -13,6 +12,8 @@ use Rattle.points.specs.Pair.{firstPoint, secondPoint}
 use Rattle.wei.specs.Word.{isWord, unpacked}
 use Rattle.wei.specs.Label.{turnOn}
 use Rattle.wei.specs.Symbol.{firstLabel, symbolOf}
+use Rattle.points.specs.declared.Accord.{Accord}
+use Rattle.points.specs.Agreed.{isAccord}
 use Rattle.sender.specs.declared.Sender.{Sender}
 use Rattle.sender.specs.declared.Sent.{Sent}
 use Rattle.sender.specs.declared.Why.{Why}
@@ -21,7 +22,7 @@ use Rattle.sender.specs.Send.{numberOf, sound, symbolFor, after, four, G
 use Rattle.sender.specs.Promise.{Opens, Sends}
 
 -- the turn is the first label
-pub turn-is : (s : Sender) (n : ℕ) → turnOn (s .turn) (unpacked (s .u) n .i2) (unpacked (s .u) n .i3) ≡ firstLabel (symbolFor s n)
+pub turn-is : (s : Sender) (n : ℕ) → turnOn (s .turn) (unpacked (s .accord .u) n .i2) (unpacked (s .accord .u) n .i3) ≡ firstLabel (symbolFor s n)
 unfolding symbolOf
 turn-is s n = omega arith
 
@@ -35,18 +36,18 @@ stored (w ∷ x ∷ y ∷ z ∷ l) a b c d h = refl
 
 -- ---- the opening
 
-opens : (u : ℕ) (r : Sent) (g : Given) → opening u ≡ g → numberOf (r .why) ≡ g .number → r .sender ≡ g .sender → Opens u r
-opens u r g e n s =
-    let t : r .sender ≡ opening u .sender = s ∙ ap (λ (x : Given). x .sender) (sym e) in
-    record { number = n ∙ ap (λ (x : Given). x .number) (sym e); sender = t; end = subst End (sym t) (opened u) }
+opens : (k : Accord) (r : Sent) (g : Given) → opening k ≡ g → numberOf (r .why) ≡ g .number → r .sender ≡ g .sender → Opens k r
+opens k r g e n s =
+    let t : r .sender ≡ opening k .sender = s ∙ ap (λ (x : Given). x .sender) (sym e) in
+    record { number = n ∙ ap (λ (x : Given). x .number) (sym e); sender = t; end = subst End (sym t) (opened k) }
 
-pub opens-done : (u : ℕ) → u ≤ 8 → Opens u (record { sender = fresh u; why = Done })
+pub opens-done : (k : Accord) → isAccord k ≡ true → Opens k (record { sender = fresh k; why = Done })
 unfolding opening
-opens-done u h = opens u _ (record { number = 0; sender = fresh u; output = [] }) (rw (le-leb u 8 h)) refl refl
+opens-done k h = opens k _ (record { number = 0; sender = fresh k; output = [] }) (rw h) refl refl
 
-pub opens-wide : (u : ℕ) (s : Sender) → 8 < u → s ≡ shut → Opens u (record { sender = s; why = BadWidth })
+pub opens-wide : (k : Accord) (s : Sender) → isAccord k ≡ false → s ≡ shut → Opens k (record { sender = s; why = BadWidth })
 unfolding opening
-opens-wide u s h e = opens u _ (record { number = 1; sender = shut; output = [] }) (rw (lt-leb u 8 h)) refl e
+opens-wide k s h e = opens k _ (record { number = 1; sender = shut; output = [] }) (rw h) refl e
 
 -- ---- sending a word
 
@@ -69,15 +70,15 @@ module _ (s : Sender) (n : ℕ) (out : List ℤ) where
   unfolding sending
   sends-closed r e t = refused Closed 9 r refl (rw e) t
 
-  pub sends-bad : (r : Sent) → sound s ≡ true → isWord (s .u) n ≡ false → r ≡ record { sender = s; why = BadWord } → Sends s n out r out
+  pub sends-bad : (r : Sent) → sound s ≡ true → isWord (s .accord .u) n ≡ false → r ≡ record { sender = s; why = BadWord } → Sends s n out r out
   unfolding sending
   sends-bad r e f t = refused BadWord 4 r refl (rw (e, f)) t
 
-  pub sends-short : (r : Sent) → sound s ≡ true → isWord (s .u) n ≡ true → length out < 4 → r ≡ record { sender = s; why = NoRoom } → Sends s n out r out
+  pub sends-short : (r : Sent) → sound s ≡ true → isWord (s .accord .u) n ≡ true → length out < 4 → r ≡ record { sender = s; why = NoRoom } → Sends s n out r out
   unfolding sending
   sends-short r e f h t = refused NoRoom 8 r refl (rw (e, f, lt-leb 4 (length out) h)) t
 
-  pub sends-done : (p q : Point) (t : Sender) (o : List ℤ) → sound s ≡ true → isWord (s .u) n ≡ true → 4 ≤ length out → t ≡ after s n → p ≡ firstPoint (symbolFor s n) → q ≡ secondPoint (symbolFor s n) →
+  pub sends-done : (p q : Point) (t : Sender) (o : List ℤ) → sound s ≡ true → isWord (s .accord .u) n ≡ true → 4 ≤ length out → t ≡ after s n → p ≡ firstPoint (symbolFor s n) → q ≡ secondPoint (symbolFor s n) →
       o ≡ set (set (set (set out 0 (p .x)) 1 (p .y)) 2 (q .x)) 3 (q .y) → Sends s n out (record { sender = t; why = Done }) o
   unfolding sending four
   sends-done p q t o e f h a b c d =

@@ -5,6 +5,7 @@ use mathlib.Core.Path.{_≡_, refl}
 use mathlib.Core.List.{List, [], _∷_}
 use Prim.Native.Nat.{ℕ}
 use lib.IntN.{ℤ, pos, negℤ}
+use Rattle.points.specs.Agreed.{ofWidth}
 use Rattle.points.specs.Points.{aPoint, coordinates}
 use Rattle.points.specs.Turn.{pointOf}
 use Rattle.points.specs.Pair.{firstPoint, secondPoint}
@@ -13,7 +14,7 @@ use Rattle.wei.specs.State.{nextState}
 use Rattle.wei.specs.Label.{secondLabel}
 use Rattle.wei.specs.Symbol.{lastLabel, symbolOf}
 use Rattle.sender.specs.declared.Sender.{Sender}
-use Rattle.sender.specs.Send.{symbolFor, after, four, fresh, sending}
+use Rattle.sender.specs.Send.{after, four, fresh, sending}
 
 pub record Row : Type 0 where
   pub output : List ℤ
@@ -37,7 +38,7 @@ m n = negℤ (pos n)
 -- "u 1, word 8 ..; word 32: refused"
 unfoldable pub given : List (List Row)
 unfolding run
-given = run (fresh 0) (1 ∷ 0 ∷ []) ∷ run (fresh 0) (2 ∷ 0 ∷ 0 ∷ []) ∷ run (fresh 0) (4 ∷ 8 ∷ []) ∷ run (fresh 1) (8 ∷ 32 ∷ []) ∷ []
+given = run (fresh (ofWidth 0)) (1 ∷ 0 ∷ []) ∷ run (fresh (ofWidth 0)) (2 ∷ 0 ∷ 0 ∷ []) ∷ run (fresh (ofWidth 0)) (4 ∷ 8 ∷ []) ∷ run (fresh (ofWidth 1)) (8 ∷ 32 ∷ []) ∷ []
 
 unfoldable pub wanted : List (List Row)
 wanted =

@@ -7,6 +7,7 @@ use mathlib.Core.List.{List}
 use Prim.Native.Nat.{ℕ}
 use lib.Dec.{eqb}
 use lib.IntN.{ℤ}
+use Rattle.points.specs.declared.Accord.{Accord}
 use Rattle.sender.specs.declared.Sender.{Sender}
 use Rattle.sender.specs.declared.Sent.{Sent}
 use Rattle.sender.specs.declared.Why.{Why}
@@ -31,8 +32,8 @@ number-tells v w e = sym (why-back v) ∙ ap whyOf e ∙ why-back w
 same-sent : (q r : Sent) → q .sender ≡ r .sender → numberOf (q .why) ≡ numberOf (r .why) → q ≡ r
 same-sent q r e f = let w = number-tells (q .why) (r .why) f in λ i. record { sender = e i; why = w i }
 
-pub opening-settled : (u : ℕ) (q r : Sent) → Opens u q → Opens u r → q ≡ r
-opening-settled u q r a b = same-sent q r (a .sender ∙ sym (b .sender)) (a .number ∙ sym (b .number))
+pub opening-settled : (k : Accord) (q r : Sent) → Opens k q → Opens k r → q ≡ r
+opening-settled k q r a b = same-sent q r (a .sender ∙ sym (b .sender)) (a .number ∙ sym (b .number))
 
 pub sending-settled : (s : Sender) (n : ℕ) (out : List ℤ) (q r : Sent) (o p : List ℤ) → Sends s n out q o → Sends s n out r p → (q ≡ r) × (o ≡ p)
 sending-settled s n out q r o p a b =

@@ -1,18 +1,19 @@
 -- The promises of the sender's two doors. Each settles the result and all lent memory: that any two results it allows are equal is
 -- proved in proofs/Settled.
---   Opens u r           the promise of `open_sender`
+--   Opens k r           the promise of `open_sender`
 --   Sends s n out r o   the promise of `send`, where the output holds `out` before the call and `o` after it
 use Prim.Native.Nat.{ℕ}
 use mathlib.Core.Path.{_≡_}
 use mathlib.Core.List.{List}
 use lib.IntN.{ℤ}
+use Rattle.points.specs.declared.Accord.{Accord}
 use Rattle.sender.specs.declared.Sender.{Sender}
 use Rattle.sender.specs.declared.Sent.{Sent}
 use Rattle.sender.specs.Send.{numberOf, opening, sending, End}
 
-pub record Opens (u : ℕ) (r : Sent) : Type 0 where
-  pub number : numberOf (r .why) ≡ opening u .number
-  pub sender : r .sender ≡ opening u .sender
+pub record Opens (k : Accord) (r : Sent) : Type 0 where
+  pub number : numberOf (r .why) ≡ opening k .number
+  pub sender : r .sender ≡ opening k .sender
   pub end : End (r .sender)
 
 pub record Sends (s : Sender) (n : ℕ) (out : List ℤ) (r : Sent) (o : List ℤ) : Type 0 where

@@ -3,8 +3,8 @@
 --   Made u q n c     the symbol c has the parts of the word n, where the turn before it is q
 --   AllMade u q      the same for words and symbols in the order of time
 --   coordinatesOf    the coordinates of symbols, four for each
---   Talk u ws ps s   a sender of width u accepted the words ws and wrote the coordinates ps for them, and is now s
---   Ran u ws ps      there are such symbols: an allowed sequence from state 0
+--   Talk k ws ps s   a sender of the accord k accepted the words ws and wrote the coordinates ps for them, and is now s
+--   Ran k ws ps      there are such symbols: an allowed sequence from state 0
 use Prim.Native.Nat.{ℕ}
 use mathlib.Core.Path.{_≡_}
 use mathlib.Core.List.{List, [], _∷_, _++_}
@@ -13,6 +13,7 @@ use lib.ListN.{take}
 use Rattle.wei.specs.Word.{unpacked}
 use Rattle.wei.specs.Label.{turnOn}
 use Rattle.wei.specs.Symbol.{Symbol, firstLabel, AllowedFrom, symbolsFrom}
+use Rattle.points.specs.declared.Accord.{Accord}
 use Rattle.sender.specs.declared.Sender.{Sender}
 use Rattle.sender.specs.declared.Sent.{Sent}
 use Rattle.sender.specs.Send.{numberOf, four}
@@ -34,16 +35,16 @@ abbrev pub coordinatesOf : List Symbol → List ℤ
 coordinatesOf [] = []
 coordinatesOf (c ∷ cs) = four c ++ coordinatesOf cs
 
-pub data Talk (u : ℕ) : List ℕ → List ℤ → Sender → Type 0 where
-  opens : (r : Sent) → Opens u r → numberOf (r .why) ≡ 0 → Talk u [] [] (r .sender)
-  takes : {ws : List ℕ} {ps : List ℤ} {s : Sender} → Talk u ws ps s → (n : ℕ) (out o : List ℤ) (r : Sent) → Sends s n out r o → numberOf (r .why) ≡ 0 →
-      Talk u (ws ++ (n ∷ [])) (ps ++ take 4 o) (r .sender)
-  refuses : {ws : List ℕ} {ps : List ℤ} {s : Sender} → Talk u ws ps s → (n : ℕ) (out o : List ℤ) (r : Sent) → Sends s n out r o → (numberOf (r .why) ≡ 0 → ⊥) →
-      Talk u ws ps (r .sender)
+pub data Talk (k : Accord) : List ℕ → List ℤ → Sender → Type 0 where
+  opens : (r : Sent) → Opens k r → numberOf (r .why) ≡ 0 → Talk k [] [] (r .sender)
+  takes : {ws : List ℕ} {ps : List ℤ} {s : Sender} → Talk k ws ps s → (n : ℕ) (out o : List ℤ) (r : Sent) → Sends s n out r o → numberOf (r .why) ≡ 0 →
+      Talk k (ws ++ (n ∷ [])) (ps ++ take 4 o) (r .sender)
+  refuses : {ws : List ℕ} {ps : List ℤ} {s : Sender} → Talk k ws ps s → (n : ℕ) (out o : List ℤ) (r : Sent) → Sends s n out r o → (numberOf (r .why) ≡ 0 → ⊥) →
+      Talk k ws ps (r .sender)
 
-pub record Ran (u : ℕ) (ws : List ℕ) (ps : List ℤ) : Type 0 where
+pub record Ran (k : Accord) (ws : List ℕ) (ps : List ℤ) : Type 0 where
   pub symbols : List Symbol
-  pub are : symbols ≡ symbolsFrom u 0 0 ws
-  pub made : AllMade u 0 ws symbols
-  pub allowed : AllowedFrom u 0 symbols
+  pub are : symbols ≡ symbolsFrom (k .u) 0 0 ws
+  pub made : AllMade (k .u) 0 ws symbols
+  pub allowed : AllowedFrom (k .u) 0 symbols
   pub written : ps ≡ coordinatesOf symbols

@@ -5,7 +5,7 @@
 --   after s n           the sender after it
 --   four c              the coordinates of a symbol's two points
 --   Given               what a call gives: the number, the sender after it, the output after it
---   opening u           what the opening gives (it is lent no output)
+--   opening k           what the opening gives (it is lent no output)
 --   sending s n out     what sending n into the output `out` gives
 --   End s               s is a state that the opening, or a call after it, gave
 use Prim.Native.Nat.{ℕ}
@@ -14,6 +14,8 @@ use mathlib.Core.List.{List, [], _∷_, _++_}
 use lib.Dec.{leb, ltb}
 use lib.IntN.{ℤ}
 use lib.ListN.{length, drop}
+use Rattle.points.specs.declared.Accord.{Accord}
+use Rattle.points.specs.Agreed.{isAccord}
 use Rattle.points.specs.Pair.{firstPoint, secondPoint}
 use Rattle.wei.specs.Word.{isWord}
 use Rattle.wei.specs.State.{nextState}
@@ -30,15 +32,15 @@ numberOf NoRoom = 8
 numberOf Closed = 9
 
 abbrev pub sound : Sender → Bool
-sound s = s .live && (leb (s .u) 8 && (ltb (s .turn) 4 && ltb (s .state) 16))
+sound s = s .live && (isAccord (s .accord) && (ltb (s .turn) 4 && ltb (s .state) 16))
 
 abbrev pub symbolFor : Sender → ℕ → Symbol
-symbolFor s n = symbolOf (s .u) (s .state) (s .turn) n
+symbolFor s n = symbolOf (s .accord .u) (s .state) (s .turn) n
 
 unfoldable pub after : Sender → ℕ → Sender
 after s n =
     let c = symbolFor s n in
-    record { live = true; u = s .u; turn = firstLabel c; state = nextState (s .state) (c .i1) (c .i2) }
+    record { live = true; accord = s .accord; turn = firstLabel c; state = nextState (s .state) (c .i1) (c .i2) }
 
 unfoldable pub four : Symbol → List ℤ
 four c = firstPoint c .x ∷ firstPoint c .y ∷ secondPoint c .x ∷ secondPoint c .y ∷ []
@@ -51,24 +53,24 @@ pub record Given : Type 0 where
 abbrev given : ℕ → Sender → List ℤ → Given
 given n s out = record { number = n; sender = s; output = out }
 
-abbrev pub fresh : ℕ → Sender
-fresh u = record { live = true; u = u; turn = 0; state = 0 }
+abbrev pub fresh : Accord → Sender
+fresh k = record { live = true; accord = k; turn = 0; state = 0 }
 
 abbrev pub shut : Sender
-shut = record { live = false; u = 0; turn = 0; state = 0 }
+shut = record { live = false; accord = record { u = 0 }; turn = 0; state = 0 }
 
 -- "u above 8 at an opening": 1, a closed end. "q starts at 0"; "The sender starts in state 0"
-unfoldable pub opening : ℕ → Given
-opening u = cond (leb u 8) (given 0 (fresh u) []) (given 1 shut [])
+unfoldable pub opening : Accord → Given
+opening k = cond (isAccord k) (given 0 (fresh k) []) (given 1 shut [])
 
 -- "Sending one word: 9, 4, 8; success writes the first four places of the output"
 unfoldable pub sending : Sender → ℕ → List ℤ → Given
 sending s n out =
     cond (sound s)
-    (cond (isWord (s .u) n) (cond (leb 4 (length out)) (given 0 (after s n) (four (symbolFor s n) ++ drop 4 out)) (given 8 s out)) (given 4 s out))
+    (cond (isWord (s .accord .u) n) (cond (leb 4 (length out)) (given 0 (after s n) (four (symbolFor s n) ++ drop 4 out)) (given 8 s out)) (given 4 s out))
     (given 9 s out)
 
 -- "An end is a state that an opening, or a call after it, gave"
 pub data End : Sender → Type 0 where
-  opened : (u : ℕ) → End (opening u .sender)
+  opened : (k : Accord) → End (opening k .sender)
   called : {s : Sender} → End s → (n : ℕ) (out : List ℤ) → End (sending s n out .sender)

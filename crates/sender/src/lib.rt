@@ -1,9 +1,10 @@
 // The sender: turns data words into pairs of points, one word to a symbol.
 //
-// `open_sender` names the width u and gives a sender in state 0 with the turn 0. `send` takes the sender by value, writes the
+// `open_sender` names what both ends agree on and gives a sender in state 0 with the turn 0. `send` takes the sender by value, writes the
 // four coordinates of the word's two points to the first four places of the lent output, and gives the sender back. A call
 // that is refused says why and leaves the sender and the output as they stood. A record that no opening and no call gave is
 // answered like a closed sender.
+use points::Accord;
 use points::Point;
 ghost use mathlib.Core.Path.{_≡_};
 ghost use mathlib.Core.Bool.{true};
@@ -15,7 +16,7 @@ ghost use Rattle.sender.specs.Promise.{Opens, Sends};
 
 pub struct Sender {
     pub live: bool,
-    pub u: u32,
+    pub accord: Accord,
     pub turn: u32,
     pub state: u32,
 }
@@ -53,20 +54,20 @@ pub fn closed_sender() -> Sender
 {
     Sender {
         live: false,
-        u: 0,
+        accord: Accord { u: 0 },
         turn: 0,
         state: 0,
     }
 }
 
-pub fn open_sender(u: u32) -> Sent
-    ensures { λ r. ⌜ Opens u r ⌝ }
+pub fn open_sender(accord: Accord) -> Sent
+    ensures { λ r. ⌜ Opens accord r ⌝ }
 {
-    if u <= 8 {
+    if points::is_accord(accord) {
         Sent {
             sender: Sender {
                 live: true,
-                u: u,
+                accord: accord,
                 turn: 0,
                 state: 0,
             },
@@ -87,7 +88,8 @@ pub fn is_open(s: Sender) -> bool
     if !s.live {
         return false;
     }
-    if s.u > 8 {
+    let accord = s.accord;
+    if !points::is_accord(accord) {
         return false;
     }
     if s.turn > 3 {
@@ -108,16 +110,17 @@ fn make(s: Sender, word: u32) -> Symbol
     ensures { λ r. ⌜ r ≡ record { sender = after s word; first = firstPoint (symbolFor s word); second = secondPoint (symbolFor s word) } ⌝ }
 {
     let table = points::table::a_points();
-    let p = wei::word::unpack(s.u, word);
+    let p = wei::word::unpack(s.accord.u, word);
     let q = wei::label::turn_on(s.turn, p.i2, p.i3);
     let l = wei::label::labels(q, s.state & 1, p.i1);
     let first = points::point_of(&table, l.first, p.w1 as usize);
     let second = points::point_of(&table, l.second, p.w2 as usize);
     let state = wei::state::next(s.state, p.i1, q & 1);
+    let accord = s.accord;
     Symbol {
         sender: Sender {
             live: true,
-            u: s.u,
+            accord: accord,
             turn: q,
             state: state,
         },
@@ -158,7 +161,7 @@ pub fn send(s: Sender, word: u32, out: &mut [i32]) -> Sent
     if !is_open(s) {
         return refuse(s, Why::Closed);
     }
-    if !wei::word::is_word(s.u, word) {
+    if !wei::word::is_word(s.accord.u, word) {
         return refuse(s, Why::BadWord);
     }
     if out.len() < 4 {

@@ -21,14 +21,14 @@ use Rattle.stored.specs.State.{holds, senderIn, wordsOfSender, coreIn, r
 -- ---- a sender
 
 pub record SenderFits (s : Sender) : Type 0 where
-  pub u : s .u < 2 ^ 32
+  pub u : s .accord .u < 2 ^ 32
   pub turn : s .turn < 2 ^ 32
   pub state : s .state < 2 ^ 32
 
 sender-live : (s : Sender) (rest : List ℕ) → SenderFits s → s .live ≡ true → senderIn (wordsOfSender s ++ rest) ≡ s
 unfolding senderIn holds wordsOfSender
 sender-live s rest f e =
-    let a = lt-ltb (s .u) (2 ^ 32) (f .u) in
+    let a = lt-ltb (s .accord .u) (2 ^ 32) (f .u) in
     let b = lt-ltb (s .turn) (2 ^ 32) (f .turn) in
     let d = lt-ltb (s .state) (2 ^ 32) (f .state) in
     let n : leb 4 (length (wordsOfSender s ++ rest)) ≡ true = le-leb 4 (length (wordsOfSender s ++ rest)) (omega arith) in
@@ -52,7 +52,7 @@ sender-stored s l f e = record { words = e; reads = ap senderIn e ∙ sender-bac
 -- ---- a receiver
 
 pub record ReceiverFits (rx : Receiver) : Type 0 where
-  pub u : rx .core .u < 2 ^ 32
+  pub u : rx .core .accord .u < 2 ^ 32
   pub taken : rx .core .taken < 2 ^ 32
   pub turn : rx .core .turn < 2 ^ 32
   pub sums : length (rx .sums) ≡ 16
@@ -90,7 +90,7 @@ module _ (rx : Receiver) (rest : List ℕ) where
     unfolding holds wordsOfReceiver
     held-yes e =
         let n = le-leb receiverLength (length state) long in
-        let a = lt-ltb (rx .core .u) (2 ^ 32) (f .u) in
+        let a = lt-ltb (rx .core .accord .u) (2 ^ 32) (f .u) in
         let b = lt-ltb (rx .core .taken) (2 ^ 32) (f .taken) in
         let d = lt-ltb (rx .core .turn) (2 ^ 32) (f .turn) in
         rw (n, e, a, b, d)

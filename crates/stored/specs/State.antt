@@ -12,6 +12,7 @@ use mathlib.Core.Bool.{Bool, true, cond, _&&_}
 use mathlib.Core.List.{List, [], _∷_, _++_}
 use lib.Dec.{eqb, leb, ltb}
 use lib.ListN.{getD, length, take, drop}
+use Rattle.points.specs.Agreed.{ofWidth}
 use Rattle.machine.specs.declared.Core.{Core}
 use Rattle.machine.specs.declared.Receiver.{Receiver}
 use Rattle.machine.specs.Machine as machine
@@ -35,16 +36,16 @@ holds size tag ws =
 
 unfoldable pub senderIn : List ℕ → Sender
 senderIn ws =
-    cond (holds senderLength senderTag ws) (record { live = true; u = getD ws 1 0; turn = getD ws 2 0; state = getD ws 3 0 }) sending.shut
+    cond (holds senderLength senderTag ws) (record { live = true; accord = ofWidth (getD ws 1 0); turn = getD ws 2 0; state = getD ws 3 0 }) sending.shut
 
 unfoldable pub wordsOfSender : Sender → List ℕ
-wordsOfSender s = tagOf (s .live) senderTag ∷ s .u ∷ s .turn ∷ s .state ∷ []
+wordsOfSender s = tagOf (s .live) senderTag ∷ s .accord .u ∷ s .turn ∷ s .state ∷ []
 
 -- ---- a receiver: the tag, six numbers, sixteen sums, 48 registers and 72 words of picks
 
 abbrev pub coreIn : List ℕ → Core
 coreIn ws =
-    record { u = getD ws 1 0; taken = getD ws 2 0; turn = getD ws 3 0; window = getD ws 4 0; slot = getD ws 5 0; pending = getD ws 6 0 }
+    record { accord = ofWidth (getD ws 1 0); taken = getD ws 2 0; turn = getD ws 3 0; window = getD ws 4 0; slot = getD ws 5 0; pending = getD ws 6 0 }
 
 unfoldable pub receiverIn : List ℕ → Receiver
 receiverIn ws =
@@ -59,7 +60,7 @@ receiverIn ws =
     machine.shut
 
 abbrev pub wordsOfCore : Bool → Core → List ℕ
-wordsOfCore live c = tagOf live receiverTag ∷ c .u ∷ c .taken ∷ c .turn ∷ c .window ∷ c .slot ∷ c .pending ∷ []
+wordsOfCore live c = tagOf live receiverTag ∷ c .accord .u ∷ c .taken ∷ c .turn ∷ c .window ∷ c .slot ∷ c .pending ∷ []
 
 unfoldable pub wordsOfReceiver : Receiver → List ℕ
 wordsOfReceiver rx = wordsOfCore (rx .live) (rx .core) ++ (rx .sums ++ (rx .planes ++ rx .picks))
@@ -85,6 +86,6 @@ pub record ReceiverStored (rx : Receiver) (l o : List ℕ) : Type 0 where
 -- inside: the first seven words, where the numbers fit their fields
 pub record CoreStored (live : Bool) (c : Core) (l o : List ℕ) : Type 0 where
   pub words : o ≡ wordsOfCore live c ++ drop 7 l
-  pub u-fits : c .u < 2 ^ 32
+  pub u-fits : c .accord .u < 2 ^ 32
   pub taken-fits : c .taken < 2 ^ 32
   pub turn-fits : c .turn < 2 ^ 32

@@ -5,6 +5,7 @@ pub mod layout;
 
 use machine::Core;
 use machine::Receiver;
+use points::Accord;
 use sender::Sender;
 ghost use mathlib.Core.Path.{_≡_};
 ghost use mathlib.Core.Bool.{true};
@@ -49,11 +50,14 @@ pub fn load_sender(words: &[u64]) -> Sender
     if !holds_record(words, layout::SENDER_WORDS, layout::SENDER) {
         return sender::closed_sender();
     }
+    let u = words[layout::WIDTH] as u32;
+    let turn = words[layout::SENDER_TURN] as u32;
+    let state = words[layout::SENDER_STATE] as u32;
     Sender {
         live: true,
-        u: words[layout::WIDTH] as u32,
-        turn: words[layout::SENDER_TURN] as u32,
-        state: words[layout::SENDER_STATE] as u32,
+        accord: Accord { u: u },
+        turn: turn,
+        state: state,
     }
 }
 
@@ -72,7 +76,7 @@ pub fn store_sender(s: Sender, words: &mut [u64])
     ensures { λ _. ⌜ SenderStored s (now (words .entry)) (now (words .exit)) ⌝ }
 {
     words[layout::TAG] = tag_of(s.live, layout::SENDER);
-    words[layout::WIDTH] = s.u as u64;
+    words[layout::WIDTH] = s.accord.u as u64;
     words[layout::SENDER_TURN] = s.turn as u64;
     words[layout::SENDER_STATE] = s.state as u64;
 }
@@ -82,13 +86,19 @@ fn core_in(words: &[u64]) -> Core
     requires { ⌜ holds receiverLength receiverTag (now words) ≡ true ⌝ }
     ensures { λ r. ⌜ r ≡ coreIn (now (words .entry)) ⌝ }
 {
+    let u = words[layout::WIDTH] as u32;
+    let window = words[layout::WINDOW] as usize;
+    let taken = words[layout::TAKEN] as u32;
+    let turn = words[layout::TURN] as u32;
+    let slot = words[layout::SLOT] as usize;
+    let pending = words[layout::PENDING] as usize;
     Core {
-        u: words[layout::WIDTH] as u32,
-        window: words[layout::WINDOW] as usize,
-        taken: words[layout::TAKEN] as u32,
-        turn: words[layout::TURN] as u32,
-        slot: words[layout::SLOT] as usize,
-        pending: words[layout::PENDING] as usize,
+        accord: Accord { u: u },
+        window: window,
+        taken: taken,
+        turn: turn,
+        slot: slot,
+        pending: pending,
     }
 }
 
@@ -134,7 +144,7 @@ fn store_core(live: bool, c: Core, words: &mut [u64])
     ensures { λ _. ⌜ CoreStored live c (now (words .entry)) (now (words .exit)) ⌝ }
 {
     words[layout::TAG] = tag_of(live, layout::RECEIVER);
-    words[layout::WIDTH] = c.u as u64;
+    words[layout::WIDTH] = c.accord.u as u64;
     words[layout::TAKEN] = c.taken as u64;
     words[layout::TURN] = c.turn as u64;
     words[layout::WINDOW] = c.window as u64;

@@ -26,13 +26,13 @@ use Rattle.told.specs.Owed.{Owed, endedOf, pieceOwed, FinishOwed, finish
 
 module _ (t : Told) (f : Fine t) where
   pub speaks : Speaks (speakerOf t)
-  speaks = wei-speaks (t .u) lineMeasure (lineChoice (t .u)) (line-chooses (t .u)) (t .start) (f .good-start)
+  speaks = wei-speaks (t .accord .u) (lineMeasure (t .accord)) (lineChoice (t .accord)) (line-chooses (t .accord)) (t .start) (f .good-start)
 
   abbrev IsWord : ℕ → Type 0
-  IsWord n = n < 2 ^ (3 + 2 * t .u)
+  IsWord n = n < 2 ^ (3 + 2 * t .accord .u)
 
   spoken-words : (ys : List (Two Received)) → Every IsWord (speakerOf t .spoken ys)
-  spoken-words ys = spoken-below (t .u) lineMeasure (lineChoice (t .u)) (line-chooses (t .u)) (t .start) (f .good-start) ys
+  spoken-words ys = spoken-below (t .accord .u) (lineMeasure (t .accord)) (lineChoice (t .accord)) (line-chooses (t .accord)) (t .start) (f .good-start) ys
 
   pub fresh-below : (ys : List (Two Received)) (y : Two Received) → Every IsWord (fresh (speakerOf t) ys y)
   fresh-below ys y = every-drop IsWord (length (speakerOf t .spoken ys)) (speakerOf t .spoken (y ∷ ys)) (spoken-words (y ∷ ys))
@@ -40,7 +40,7 @@ module _ (t : Told) (f : Fine t) where
   pub rest-below : (ys : List (Two Received)) → Every IsWord (rest (speakerOf t) ys)
   rest-below ys =
       every-drop IsWord (length (speakerOf t .spoken ys)) (speakerOf t .answered ys)
-      (answer-below (t .u) lineMeasure (lineChoice (t .u)) (line-chooses (t .u)) (t .start) (f .good-start) ys)
+      (answer-below (t .accord .u) (lineMeasure (t .accord)) (lineChoice (t .accord)) (line-chooses (t .accord)) (t .start) (f .good-start) ys)
 
   pub piece-below : (p : Piece) (room : ℕ) → Every IsWord (pieceOwed t p room .words)
   unfolding pieceOwed

@@ -14,6 +14,8 @@ use lib.Dec.{ltb}
 use lib.ListN.{length}
 use lib.IntN.{natAbs}
 use borrow.Author.Tests.{leb-true, le-leb, ltb-false}
+use Rattle.points.specs.declared.Accord.{Accord}
+use Rattle.points.specs.Agreed.{isAccord}
 use Rattle.trellis.specs.Measure.{Start, GoodStart, Two}
 use Rattle.nearest.specs.declared.Received.{Received}
 use Rattle.nearest.specs.Line.{isCoordinate, BothInRange}
@@ -31,7 +33,7 @@ module _ (t : Told) (zs : List (Two Received)) where
 pub telling-fine : (t : Told) (f : Fine t) (y : Two Received) → BothInRange y → length (t .heard) < 4294967295 → pendingAfter t (y ∷ t .heard) ≤ t .window → Fine (withHeard t (y ∷ t .heard))
 telling-fine t f y r few h =
     record {
-      width = f .width;
+      agreed = f .agreed;
       some-window = f .some-window;
       small-window = f .small-window;
       good-start = f .good-start;
@@ -39,12 +41,12 @@ telling-fine t f y r few h =
       each = (r, h, fine-same t (y ∷ t .heard) (t .heard) (f .each));
     }
 
-module _ (u window : ℕ) (b : Start) where
+module _ (k : Accord) (window : ℕ) (b : Start) where
   abbrev pub unheard : Told
-  unheard = record { u = u; window = window; start = b; heard = [] }
+  unheard = record { accord = k; window = window; start = b; heard = [] }
 
-  pub fine-opened : u ≤ 8 → 1 ≤ window → window ≤ 64 → GoodStart b → Fine unheard
-  fine-opened h k l g = record { width = h; some-window = k; small-window = l; good-start = g; few = omega arith; each = tt }
+  pub fine-opened : isAccord k ≡ true → 1 ≤ window → window ≤ 64 → GoodStart b → Fine unheard
+  fine-opened h i l g = record { agreed = h; some-window = i; small-window = l; good-start = g; few = omega arith; each = tt }
 
 module _ (y : Two Received) where
   pub no-fault : BothInRange y → faultOf y ≡ 4

@@ -1,7 +1,8 @@
 -- What a receiver has been told, and what it owes for it, in the words of 01 and over lists alone: no arrays, rings or masks. Symbols
 -- stand newest first, so that "one symbol more" is `y ∷ ys`. What is spoken and answered is fixed by the theory: the words of the
 -- longest common beginning, and the words of the answer.
---   Told              the opening's width, window and start, and the symbols taken
+--   codeOf, wordsOf   the code of a line, and the words of its symbols
+--   Told              the opening's accord, window and start, and the symbols taken
 --   withHeard t ys    the same opening, and the symbols ys
 --   speakerOf t       what is spoken of a list of symbols, and its answer
 --   pendingAfter t ys how many symbols of ys are taken and not released
@@ -9,33 +10,46 @@
 --   judgeOf t         what is said to a symbol, heard after ys with room for so many words: 5, 7, 6, 8 in this order, or 0
 --   Fine t            a history that calls can tell: no symbol of it was one to refuse
 use Prim.Native.Nat.{ℕ, _-_, _≤_}
-use mathlib.Core.Bool.{cond}
+use mathlib.Core.Path.{_≡_}
+use mathlib.Core.Bool.{true, cond}
 use mathlib.Core.List.{List, [], _∷_}
 use lib.Dec.{eqb, leb, ltb}
 use lib.ListN.{length}
+use Rattle.wei.specs.Symbol.{Symbol}
+use Rattle.points.specs.declared.Accord.{Accord}
+use Rattle.points.specs.Agreed.{isAccord}
 use Rattle.calls.specs.Calls.{Speaker, Judge, fresh}
-use Rattle.trellis.specs.Measure.{Start, GoodStart, Two}
+use Rattle.trellis.specs.Code.{Code}
+use Rattle.trellis.specs.Measure.{Start, GoodStart, Two, weiCode}
+use Rattle.trellis.specs.Words.{words}
 use Rattle.trellis.specs.Said.{spokenWords, answerWords}
 use Rattle.nearest.specs.declared.Received.{Received}
 use Rattle.nearest.specs.Line.{isCoordinate, BothInRange, lineMeasure, lineChoice}
 use Rattle.reasons.specs.Reason.{Reason, reason}
 
+-- the code of a line of the accord k, where the start is b, and the words of its symbols
+abbrev pub codeOf : Accord → Start → Code
+codeOf k b = weiCode (k .u) (lineMeasure k) b
+
+abbrev pub wordsOf : Accord → Start → List Symbol → List ℕ
+wordsOf k b cs = words (k .u) b cs
+
 pub record Told : Type 0 where
-  pub u : ℕ
+  pub accord : Accord
   pub window : ℕ
   pub start : Start
   pub heard : List (Two Received)
 
 abbrev pub withHeard : Told → List (Two Received) → Told
-withHeard t ys = record { u = t .u; window = t .window; start = t .start; heard = ys }
+withHeard t ys = record { accord = t .accord; window = t .window; start = t .start; heard = ys }
 
 abbrev pub speakerOf : Told → Speaker
 speakerOf t =
     record {
       Y = Two Received;
       W = ℕ;
-      spoken = spokenWords (t .u) lineMeasure (lineChoice (t .u)) (t .start);
-      answered = answerWords (t .u) lineMeasure (lineChoice (t .u)) (t .start);
+      spoken = spokenWords (t .accord .u) (lineMeasure (t .accord)) (lineChoice (t .accord)) (t .start);
+      answered = answerWords (t .accord .u) (lineMeasure (t .accord)) (lineChoice (t .accord)) (t .start);
     }
 
 -- "Taken and not yet released symbols are pending"
@@ -67,7 +81,7 @@ FineList t [] = Unit {0}
 FineList t (y ∷ ys) = BothInRange y × (pendingAfter t (y ∷ ys) ≤ t .window) × FineList t ys
 
 pub record Fine (t : Told) : Type 0 where
-  pub width : t .u ≤ 8
+  pub agreed : isAccord (t .accord) ≡ true
   pub some-window : 1 ≤ t .window
   pub small-window : t .window ≤ 64
   pub good-start : GoodStart (t .start)

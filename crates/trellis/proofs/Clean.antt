@@ -16,14 +16,14 @@ use Rattle.trellis.specs.Best.{Answer}
 use Rattle.trellis.specs.Measure.{Start, mayStart, GoodStart, Measure, weiCode}
 use Rattle.trellis.specs.Same.{sameSymbol}
 use Rattle.trellis.specs.Pick.{Choice, Chooses, weiSearch}
-use Rattle.trellis.specs.Words.{firstTurn, words}
+use Rattle.trellis.specs.Words.{words, wordsFrom}
 use Rattle.trellis.specs.Said.{answerWords}
 use Rattle.trellis.specs.Clean.{Hits, Exact}
 use Rattle.trellis.proofs.Common.{path-length}
 use Rattle.trellis.proofs.Onward.{some-answer}
 use Rattle.trellis.proofs.WeiLaws.{wei-laws, wei-onward}
 use Rattle.trellis.proofs.Paths.{from-drawn}
-use Rattle.trellis.proofs.Words.{symbols-allowed, words-back}
+use Rattle.trellis.proofs.Words.{symbols-allowed, words-back, first-turn}
 use Rattle.trellis.proofs.Spoken.{answer-words}
 use Rattle.wei.specs.Word.{isWord}
 use Rattle.wei.specs.Symbol.{Symbol, AllowedFrom, symbolsFrom}
@@ -76,11 +76,11 @@ module _ (u : ℕ) (M : Measure) (b : Start) where
 module _ (u : ℕ) (M : Measure) (H : Choice M) (C : Chooses u M H) (E : Exact u M) (b : Start) (g : GoodStart b) (s : ℕ) (h : s < 16) (t : T (mayStart b s)) where
   open Measure M using (Heard)
 
-  pub clean-words : (xs : List Heard) (cs : List Symbol) → Hits M xs cs → AllowedFrom u s cs → answerWords u M H b (reverse xs) ≡ words u cs
+  pub clean-words : (xs : List Heard) (cs : List Symbol) → Hits M xs cs → AllowedFrom u s cs → answerWords u M H b (reverse xs) ≡ words u b cs
   clean-words xs cs k a =
       let (p, A) = some-answer (weiSearch u M H sameSymbol b) (wei-laws u M H C sameSymbol b) (wei-onward u M b g) (reverse xs) in
-      answer-words u M H C b g xs p A ∙ ap (words u) (clean-answer u M b E s h t xs cs k a p A)
+      answer-words u M H C b g xs p A ∙ ap (words u b) (clean-answer u M b E s h t xs cs k a p A)
 
   -- the words of a sender that starts in s
-  pub round-trip : (xs : List Heard) (ns : List ℕ) → Every (λ n. isWord u n ≡ true) ns → Hits M xs (symbolsFrom u s firstTurn ns) → answerWords u M H b (reverse xs) ≡ ns
-  round-trip xs ns w k = clean-words xs (symbolsFrom u s firstTurn ns) k (symbols-allowed u s firstTurn ns) ∙ words-back u s firstTurn ns (omega arith) w
+  pub round-trip : (xs : List Heard) (ns : List ℕ) → Every (λ n. isWord u n ≡ true) ns → Hits M xs (symbolsFrom u s 0 ns) → answerWords u M H b (reverse xs) ≡ ns
+  round-trip xs ns w k = clean-words xs (symbolsFrom u s 0 ns) k (symbols-allowed u s 0 ns) ∙ ap (λ (q : ℕ). wordsFrom u q (symbolsFrom u s 0 ns)) (first-turn b) ∙ words-back u s 0 ns (omega arith) w

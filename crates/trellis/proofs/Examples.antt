@@ -44,7 +44,7 @@ laws r = wei-laws (r .width) (pairs Point gap) (bestOf (r .width) gap) (pairs-ch
 computed : Row → List (List ℕ)
 computed r =
     let best = row (S r) (reverse (r .received)) in
-    words (r .width) (lcps sameSymbol (live (λ s. getD best s absent) (range 0 16))) ∷ words (r .width) (symbolsOf (choose (λ s. getD best s absent) (range 0 16))) ∷ []
+    words (r .width) (r .start) (lcps sameSymbol (live (λ s. getD best s absent) (range 0 16))) ∷ words (r .width) (r .start) (symbolsOf (choose (λ s. getD best s absent) (range 0 16))) ∷ []
 
 written : Row → List (List ℕ)
 written r = r .spoken ∷ r .answer ∷ []
@@ -53,8 +53,8 @@ computes : (r : Row) → computed r ≡ written r → Holds r
 unfolding computed written spokenWords answerWords spoken answered
 computes r e =
     let ys = reverse (r .received) in
-    let z₁ : words (r .width) (common (S r) ys) ≡ r .spoken = ap (words (r .width)) (common-row (S r) (laws r) ys) ∙ cc in
-    let z₂ : words (r .width) (symbolsOf (answer (S r) ys)) ≡ r .answer = ap (λ (o : Surv _). words (r .width) (symbolsOf o)) (answer-row (S r) (laws r) ys) ∙ cc in
+    let z₁ : words (r .width) (r .start) (common (S r) ys) ≡ r .spoken = ap (words (r .width) (r .start)) (common-row (S r) (laws r) ys) ∙ cc in
+    let z₂ : words (r .width) (r .start) (symbolsOf (answer (S r) ys)) ≡ r .answer = ap (λ (o : Surv _). words (r .width) (r .start) (symbolsOf o)) (answer-row (S r) (laws r) ys) ∙ cc in
     (z₁, z₂)
 
 all-computed : map computed table ≡ map written table

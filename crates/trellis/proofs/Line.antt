@@ -29,15 +29,15 @@ module _ (u : ℕ) (M : Measure) (H : Choice M) (C : Chooses u M H) (b : Start) 
 
   module _ (J : Judge (weiSpeaker u M H b)) (ks : List (Call (weiSpeaker u M H b))) where
     pub exact : let c = run (weiSpeaker u M H b) J ks in c .line .is-open ≡ true →
-        (l : List Symbol) → Longest (weiCode u M b) (reverse (c .took)) l → c .said ≡ words u l
+        (l : List Symbol) → Longest (weiCode u M b) (reverse (c .took)) l → c .said ≡ words u b l
     exact o l h = calls.exact-in-time (weiSpeaker u M H b) wei-speaks J ks o ∙ Spoken.spoken-longest u M H C b g (run (weiSpeaker u M H b) J ks .took) l h
 
     pub final : let c = run (weiSpeaker u M H b) J ks in c .line .is-open ≡ true →
-        (zs : List (M .Heard)) (p : Path Symbol) → Answer (weiCode u M b) (reverse (c .took ++ zs)) p → IsPrefix (c .said) (words u (symbols p))
+        (zs : List (M .Heard)) (p : Path Symbol) → Answer (weiCode u M b) (reverse (c .took ++ zs)) p → IsPrefix (c .said) (words u b (symbols p))
     final o zs p a =
         let c = run (weiSpeaker u M H b) J ks in
         subst (IsPrefix (c .said)) (Spoken.answer-words u M H C b g (c .took ++ zs) p a) (calls.final-in-time (weiSpeaker u M H b) wei-speaks J ks o zs)
 
     pub whole : let c = run (weiSpeaker u M H b) J ks in c .line .is-open ≡ false →
-        (p : Path Symbol) → Answer (weiCode u M b) (reverse (c .took)) p → c .said ≡ words u (symbols p)
+        (p : Path Symbol) → Answer (weiCode u M b) (reverse (c .took)) p → c .said ≡ words u b (symbols p)
     whole o p a = calls.whole-in-time (weiSpeaker u M H b) wei-speaks J ks o ∙ Spoken.answer-words u M H C b g (run (weiSpeaker u M H b) J ks .took) p a

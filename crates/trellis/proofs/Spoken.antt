@@ -58,22 +58,22 @@ module _ (u : ℕ) (M : Measure) (H : Choice M) (C : Chooses u M H) (b : Start) 
   on = wei-onward u M b g
 
   -- ── what the words are ──
-  pub spoken-longest : (xs : List Heard) (l : List Symbol) → Longest (weiCode u M b) (reverse xs) l → spokenWords u M H b (reverse xs) ≡ words u l
+  pub spoken-longest : (xs : List Heard) (l : List Symbol) → Longest (weiCode u M b) (reverse xs) l → spokenWords u M H b (reverse xs) ≡ words u b l
   unfolding spokenWords spoken
-  spoken-longest xs l h = ap (words u) (sym (T4-only S laws on xs l h))
+  spoken-longest xs l h = ap (words u b) (sym (T4-only S laws on xs l h))
 
-  pub answer-words : (xs : List Heard) (p : Path Symbol) → Answer (weiCode u M b) (reverse xs) p → answerWords u M H b (reverse xs) ≡ words u (symbols p)
+  pub answer-words : (xs : List Heard) (p : Path Symbol) → Answer (weiCode u M b) (reverse xs) p → answerWords u M H b (reverse xs) ≡ words u b (symbols p)
   unfolding answerWords
-  answer-words xs p a = answered-is S laws (word u) turnAfter firstTurn (reverse xs) p a
+  answer-words xs p a = answered-is S laws (word u) turnAfter (firstTurn b) (reverse xs) p a
 
   -- ── newest first ──
   pub grows : (zs ys : List Heard) → IsPrefix (spokenWords u M H b ys) (spokenWords u M H b (zs ++ ys))
   unfolding spokenWords
-  grows zs ys = spoken-grows S laws (word u) turnAfter firstTurn on zs ys
+  grows zs ys = spoken-grows S laws (word u) turnAfter (firstTurn b) on zs ys
 
   pub final : (zs ys : List Heard) → IsPrefix (spokenWords u M H b ys) (answerWords u M H b (zs ++ ys))
   unfolding spokenWords answerWords
-  final zs ys = spoken-final S laws (word u) turnAfter firstTurn on zs ys
+  final zs ys = spoken-final S laws (word u) turnAfter (firstTurn b) on zs ys
 
   -- ── in the order of time ──
   pub spoken-begins : (xs zs : List Heard) → IsPrefix (spokenWords u M H b (reverse xs)) (spokenWords u M H b (reverse (xs ++ zs)))
@@ -87,11 +87,11 @@ module _ (u : ℕ) (M : Measure) (H : Choice M) (C : Chooses u M H) (b : Start) 
   unfolding answerWords
   answer-length ys =
       let (p, a) = some-answer S laws on ys in
-      ap length (answered-is S laws (word u) turnAfter firstTurn ys p a) ∙ speak-length turnAfter (word u) firstTurn (symbols p) ∙ path-length K ys p (a .allowed)
+      ap length (answered-is S laws (word u) turnAfter (firstTurn b) ys p a) ∙ speak-length turnAfter (word u) (firstTurn b) (symbols p) ∙ path-length K ys p (a .allowed)
 
   pub spoken-reach : (ys : List Heard) → length (spokenWords u M H b ys) ≡ reach (weiSearch u M H sameSymbol b) ys
   unfolding spokenWords
-  spoken-reach ys = spoken-length S laws (word u) turnAfter firstTurn ys
+  spoken-reach ys = spoken-length S laws (word u) turnAfter (firstTurn b) ys
 
   pub spoken-pending : (y : Heard) (ys : List Heard) → length (spokenWords u M H b (y ∷ ys)) ≤ length ys
   spoken-pending y ys = omega (arith, spoken-reach (y ∷ ys), newest-kept u M H C sameSymbol b g y ys)
@@ -111,7 +111,7 @@ module _ (u : ℕ) (M : Measure) (H : Choice M) (C : Chooses u M H) (b : Start) 
   unfolding answerWords
   answer-are ys =
       let (p, a) = some-answer S laws on ys in
-      subst (Every (λ n. isWord u n ≡ true)) (sym (answered-is S laws (word u) turnAfter firstTurn ys p a)) (words-are u firstTurn (symbols p) (answer-valid ys p a))
+      subst (Every (λ n. isWord u n ≡ true)) (sym (answered-is S laws (word u) turnAfter (firstTurn b) ys p a)) (words-are u (firstTurn b) (symbols p) (answer-valid ys p a))
 
   pub spoken-are : (ys : List Heard) → Every (λ n. isWord u n ≡ true) (spokenWords u M H b ys)
   spoken-are ys = every-prefix (λ n. isWord u n ≡ true) (spokenWords u M H b ys) (answerWords u M H b ys) (final [] ys) (answer-are ys)

@@ -5,6 +5,7 @@
 --   symbols-allowed          the symbols of words are allowed from the sender's state
 --   words-back               words of the symbols of words
 --   symbols-back             symbols of the words of symbols
+--   first-turn               the turn before the first symbol is the one with which a sender starts
 use mathlib.Core.Path.{_≡_, refl, sym, ap, ap₂, subst, _∙_}
 use mathlib.Core.Bool.{true}
 use mathlib.Core.List.{List, [], _∷_, IsPrefix}
@@ -13,7 +14,8 @@ use native.Mathlib.Omega.{arith}
 use borrow.Author.Tests.{ltb-true}
 use Rattle.trellis.specs.Lists.{Every}
 use Rattle.trellis.specs.Speak.{speak}
-use Rattle.trellis.specs.Words.{wordParts, word, turnAfter, wordsFrom}
+use Rattle.trellis.specs.Measure.{Start, free, named}
+use Rattle.trellis.specs.Words.{wordParts, word, turnAfter, wordsFrom, firstTurn}
 use Rattle.trellis.proofs.Speak.{speak-prefix}
 use Rattle.wei.specs.declared.word.Parts.{Parts}
 use Rattle.wei.specs.Word.{isWord, unpacked, packed, InRange}
@@ -125,3 +127,8 @@ module _ (u : ℕ) where
       let e : symbolOf u s q (word u q c) ≡ c = symbol-back s q c h (a .0 .valid) (a .0 .parity) in
       ap (λ (d : Symbol). d ∷ symbolsFrom u (nextState s (d .i1) (d .i2)) (firstLabel d) (wordsFrom u (firstLabel c) cs)) e
       ∙ ap (λ (l : List Symbol). c ∷ l) (symbols-back (nextState s (c .i1) (c .i2)) (firstLabel c) cs (label-below c (a .0 .valid)) (a .1))
+
+-- a sender starts with the turn 0, and against 0 its first symbol is measured
+pub first-turn : (b : Start) → firstTurn b ≡ 0
+first-turn free = refl
+first-turn (named n) = refl

@@ -12,7 +12,7 @@ use Rattle.trellis.specs.Words.{word, turnAfter, firstTurn}
 
 module _ (u : ℕ) (M : Measure) (H : Choice M) (b : Start) where
   unfoldable pub spokenWords : List (M .Heard) → List ℕ
-  spokenWords ys = spoken (weiSearch u M H sameSymbol b) (word u) turnAfter firstTurn ys
+  spokenWords ys = spoken (weiSearch u M H sameSymbol b) (word u) turnAfter (firstTurn b) ys
 
   unfoldable pub answerWords : List (M .Heard) → List ℕ
-  answerWords ys = answered (weiSearch u M H sameSymbol b) (word u) turnAfter firstTurn ys
+  answerWords ys = answered (weiSearch u M H sameSymbol b) (word u) turnAfter (firstTurn b) ys

@@ -5,11 +5,12 @@
 --   word u q c               that word
 --   turnAfter q c            the turn after c, whatever q was
 --   wordsFrom u q cs         the words of cs, where q is the turn before
---   firstTurn                the turn against which the first symbol is measured
---   words u cs               the words of cs from the first symbol on
+--   firstTurn b              the turn against which the first symbol is measured, where the start is b
+--   words u b cs             the words of cs from the first symbol on
 use Prim.Native.Nat.{ℕ, _/_, _%_}
 use mathlib.Core.List.{List}
 use Rattle.trellis.specs.Speak.{speak}
+use Rattle.trellis.specs.Measure.{Start, free, named}
 use Rattle.wei.specs.declared.word.Parts.{Parts}
 use Rattle.wei.specs.Word.{packed}
 use Rattle.wei.specs.Label.{turnFrom}
@@ -28,8 +29,10 @@ turnAfter q c = firstLabel c
 abbrev pub wordsFrom : ℕ → ℕ → List Symbol → List ℕ
 wordsFrom u q cs = speak (word u) turnAfter q cs
 
-abbrev pub firstTurn : ℕ
-firstTurn = 0
+-- "the first symbol's measured against 0 with either start"
+abbrev pub firstTurn : Start → ℕ
+firstTurn free = 0
+firstTurn (named n) = 0
 
-abbrev pub words : ℕ → List Symbol → List ℕ
-words u cs = wordsFrom u firstTurn cs
+abbrev pub words : ℕ → Start → List Symbol → List ℕ
+words u b cs = wordsFrom u (firstTurn b) cs

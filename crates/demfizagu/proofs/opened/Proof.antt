@@ -6,7 +6,7 @@ use Rattle.demfizagu.proofs.opened.Statement.{statement}
 use Rattle.demfizagu.proofs.opened.Tie as tie
 
 returns : tie.Need-returns
-returns c u w b e = receiver-short (now (c .before .before .args .state)) u w b (c .if1 .taken)
+returns c k w b e = receiver-short (now (c .before .before .args .state)) k w b (c .if1 .taken)
 
 store-receiver-requires : tie.Need-store-receiver-requires
 store-receiver-requires c κs = search needs
@@ -18,7 +18,7 @@ same-length : tie.Need-same-length
 same-length c = search needs
 
 returns-2 : tie.Need-returns-2
-returns-2 c u w b e = receiver-opened (now (c .before .before .before .before .before .before .before .before .args .state)) _ u w b _ _ (c .before .before .before .before .before .before .if1 .left) e (c .number .ensures) (c .before .before .before .store-receiver .ensures)
+returns-2 c k w b e = receiver-opened (now (c .before .before .before .before .before .before .before .before .args .state)) _ k w b _ _ (c .before .before .before .before .before .before .if1 .left) e (c .number .ensures) (c .before .before .before .store-receiver .ensures)
 
 pub opened-spec : {M : Type 1} → statement M
 opened-spec = tie.close (tie.spec returns store-receiver-requires number-requires same-length returns-2)

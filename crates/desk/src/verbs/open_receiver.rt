@@ -5,6 +5,7 @@ use crate::Done;
 use crate::ends;
 use openings::Opened;
 use openings::Start;
+use points::Accord;
 use requests::Request;
 ghost use mathlib.Core.Path.{_≡_};
 ghost use mathlib.Core.List.{[]};
@@ -30,14 +31,14 @@ pub fn open_plain(desk: Desk, u: u32, page: &mut [u8], at: usize) -> Done
     requires { ⌜ at + answerRoom ≤ length (now page) ⌝ }
     ensures { λ r. ⌜ Acts desk (Request.Plain u) [] (now (page .entry)) at r (now (page .exit)) ⌝ }
 {
-    opened(desk, openings::open_plain(u), page, at)
+    opened(desk, openings::open_plain(Accord { u: u }), page, at)
 }
 
 pub fn open_free(desk: Desk, u: u32, window: u32, page: &mut [u8], at: usize) -> Done
     requires { ⌜ at + answerRoom ≤ length (now page) ⌝ }
     ensures { λ r. ⌜ Acts desk (Request.Free u window) [] (now (page .entry)) at r (now (page .exit)) ⌝ }
 {
-    let o = openings::open_receiver(u, window, Start::Free);
+    let o = openings::open_receiver(Accord { u: u }, window, Start::Free);
     opened(desk, o, page, at)
 }
 
@@ -45,6 +46,6 @@ pub fn open_at(desk: Desk, u: u32, window: u32, state: u32, page: &mut [u8], at:
     requires { ⌜ at + answerRoom ≤ length (now page) ⌝ }
     ensures { λ r. ⌜ Acts desk (Request.At u window state) [] (now (page .entry)) at r (now (page .exit)) ⌝ }
 {
-    let o = openings::open_receiver(u, window, Start::At(state));
+    let o = openings::open_receiver(Accord { u: u }, window, Start::At(state));
     opened(desk, o, page, at)
 }

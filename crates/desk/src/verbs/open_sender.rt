@@ -2,6 +2,7 @@
 use crate::Desk;
 use crate::Done;
 use crate::ends;
+use points::Accord;
 use requests::Request;
 ghost use mathlib.Core.List.{[]};
 ghost use Prim.Native.Nat.{_+_, _≤_};
@@ -13,7 +14,7 @@ pub fn open_sender(desk: Desk, u: u32, page: &mut [u8], at: usize) -> Done
     requires { ⌜ at + answerRoom ≤ length (now page) ⌝ }
     ensures { λ r. ⌜ Acts desk (Request.Sender u) [] (now (page .entry)) at r (now (page .exit)) ⌝ }
 {
-    let opened = sender::open_sender(u);
+    let opened = sender::open_sender(Accord { u: u });
     let why = opened.why;
     let p = answers::number(page, at, sender::number(why) as u64);
     let sender = opened.sender;

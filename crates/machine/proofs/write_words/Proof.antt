@@ -9,6 +9,7 @@ use Rattle.trellis.specs.Words.{wordsFrom, turnAfter}
 use Rattle.picks.specs.Picks.{symbolIn, saidOf}
 use Rattle.machine.specs.Machine.{slotOf, wayFrom}
 use Rattle.machine.proofs.CodeWords.{turn-below, turn-more, words-more}
+use Rattle.points.proofs.Agreed.{accord-width}
 use Rattle.machine.proofs.write_words.Statement.{statement}
 use Rattle.machine.proofs.write_words.Tie as tie
 
@@ -18,7 +19,7 @@ Inv-loop core planes picks s n out₀ oldest turn₀ j₀ out turn j =
     × (length out ≡ length out₀)
     × (turn < 4)
     × (turn ≡ after turnAfter (core .turn) (take j (wayFrom core planes picks s)))
-    × (out ≡ wordsFrom (core .u) (core .turn) (take j (wayFrom core planes picks s)) ++ drop j out₀)
+    × (out ≡ wordsFrom (core .accord .u) (core .turn) (take j (wayFrom core planes picks s)) ++ drop j out₀)
 
 abbrev μ-loop : tie.MeasureT-loop
 μ-loop core planes picks s n out₀ oldest turn₀ j₀ out turn j = n - j
@@ -46,7 +47,7 @@ add-word-in : tie.Need-add-word-in Inv-loop μ-loop
 add-word-in c = let p = c .before .before .before .before .before .before .before .pre in record { fits = omega (arith, p .0 .slot-below, p .0 .held, p .0 .small-window) }
 
 word-in-requires : tie.Need-word-in-requires Inv-loop μ-loop
-word-in-requires c κs = let p = c .before .before .before .before .before .before .before .pre in (p .0 .width, c .before .before .before .loop .inv .2, omega arith, omega (arith, p .2, p .0 .held, p .0 .small-window), c .subset-at .ensures .1)
+word-in-requires c κs = let p = c .before .before .before .before .before .before .before .pre in (accord-width _ (p .0 .agreed), c .before .before .before .loop .inv .2, omega arith, omega (arith, p .2, p .0 .held, p .0 .small-window), c .subset-at .ensures .1)
 
 mul-out : tie.Need-mul-out Inv-loop μ-loop
 mul-out c = let p = c .before .before .before .before .before .before .before .before .pre in record { fits = omega (arith, p .0 .held, p .0 .small-window) }
@@ -68,7 +69,7 @@ loop-again c =
     let p = s .pre in
     let more = c .before .before .before .loop-test .taken in
     let age = a .core .pending - 1 - at .loop .j in
-    let is = c .word-in .ensures ∙ ap (λ (x : ℕ). saidOf (a .core .u) (at .loop .turn) (symbolIn (a .core .u) (a .picks .now) (slotOf (a .core) (at .loop .j)) age x)) (c .before .subset-at .ensures .0) in (
+    let is = c .word-in .ensures ∙ ap (λ (x : ℕ). saidOf (a .core .accord .u) (at .loop .turn) (symbolIn (a .core .accord .u) (a .picks .now) (slotOf (a .core) (at .loop .j)) age x)) (c .before .subset-at .ensures .0) in (
       omega arith,
       simp length-set (at .loop .inv .1),
       turn-below (a .core) (a .planes .now) (a .picks .now) (a .out .now) (at .loop .out) (a .s) (a .n) (at .loop .j) (at .loop .turn) (p .2) more (c .word-in .result) is,

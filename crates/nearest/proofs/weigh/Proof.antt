@@ -18,13 +18,13 @@ nearer-types-requires c κs =
     let s = c .before .before .before .before in
     let a = c .before .before .before .search in
     let b = c .before .before .search2 in
-    subst₂ (λ (m n : Nearest). Summable (m .d) (n .d)) (sym (a .ensures)) (sym (b .ensures)) (summable (s .args .u) (s .args .first) (s .args .second) (s .pre .1) (s .pre .2) (s .pre .3))
+    subst₂ (λ (m n : Nearest). Summable (m .d) (n .d)) (sym (a .ensures)) (sym (b .ensures)) (summable (s .args .k) (s .args .first) (s .args .second) (s .pre .1) (s .pre .2) (s .pre .3))
 
 returns : tie.Need-returns
 returns c =
     let t = c .before .before .before .before in
     let s = t .before .before .before .before .before in
-    weighed (s .args .u) (s .args .first) (s .args .second) _ _ _ (t .before .before .before .before .search .ensures) (t .before .before .before .search2 .ensures) (t .nearer-types .ensures)
+    weighed (s .args .k) (s .args .first) (s .args .second) _ _ _ (t .before .before .before .before .search .ensures) (t .before .before .before .search2 .ensures) (t .nearer-types .ensures)
 
 pub weigh-spec : {M : Type 1} → statement M
 weigh-spec = tie.close (tie.spec search-requires search-requires-2 nearer-types-requires returns)

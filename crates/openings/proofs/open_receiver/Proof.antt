@@ -1,5 +1,5 @@
 -- `open_receiver`: the outcomes, each by its law.
-use mathlib.Core.Path.{_≡_, sym, _∙_}
+use mathlib.Core.Path.{_≡_, sym, ap, _∙_}
 use mathlib.Core.Bool.{true, false, _&&_}
 use Prim.Native.Nat.{ℕ, _≤_, _<_}
 use native.Mathlib.Omega.{arith}
@@ -7,7 +7,11 @@ use borrow.Author.Tests.{le-leb, lt-leb, not-true, not-false}
 use lib.Dec.{leb}
 use lib.ListN.{replicate}
 use Rattle.reasons.specs.declared.Why.the-variants.{Done}
-use Rattle.machine.specs.Machine.{opened}
+use Rattle.machine.specs.Machine.{core, opened}
+use Rattle.points.specs.declared.Accord.{Accord}
+use Rattle.points.specs.Agreed.{isAccord}
+use Rattle.openings.specs.declared.Start.{Start}
+use Rattle.openings.specs.Given.{startFits}
 use Rattle.openings.proofs.Openings.{opens-wide, opens-window, opens-start, opens-done}
 use borrow.Author.Needs.{needs}
 use Rattle.openings.proofs.open_receiver.Statement.{statement}
@@ -22,23 +26,44 @@ high w h k = rw (le-leb 1 w h, lt-leb w 64 k)
 good : (w : ℕ) → 1 ≤ w → w ≤ 64 → (leb 1 w && leb w 64) ≡ true
 good w h k = rw (le-leb 1 w h, le-leb w 64 k)
 
+is-accord-requires : tie.Need-is-accord-requires
+is-accord-requires c κs = search needs
+
 not-opened-requires : tie.Need-not-opened-requires
 not-opened-requires c κs = search needs
 
 returns : tie.Need-returns
-returns c = let a = c .before .before .args in opens-wide (a .u) (a .window) (a .start) (c .not-opened .result) (c .before .if1 .taken) (c .not-opened .ensures)
+returns c =
+    let a = c .before .before .before .args in
+    opens-wide (a .accord) (a .window) (a .start) (c .not-opened .result) (sym (c .before .before .is-accord .ensures) ∙ not-true _ (c .before .if1 .taken)) (c .not-opened .ensures)
+
+-- the accord has passed
+module _ (e : tie.Else1) where
+  abbrev k : Accord
+  k = e .before .before .args .accord
+
+  abbrev w : ℕ
+  w = e .before .before .args .window
+
+  abbrev b : Start
+  b = e .before .before .args .start
+
+  fits : isAccord k ≡ true
+  fits = sym (e .before .is-accord .ensures) ∙ not-false _ (e .if1 .left)
 
 not-opened-requires-2 : tie.Need-not-opened-requires-2
 not-opened-requires-2 c κs = search needs
 
 returns-2 : tie.Need-returns-2
-returns-2 c = let a = c .before .before .before .args in opens-window (a .u) (a .window) (a .start) (c .not-opened2 .result) (omega arith) (low (a .window) (c .before .if2 .taken)) (c .not-opened2 .ensures)
+returns-2 c = let e = c .before .before in opens-window (k e) (w e) (b e) (c .not-opened2 .result) (fits e) (low (w e) (c .before .if2 .taken)) (c .not-opened2 .ensures)
 
 not-opened-requires-3 : tie.Need-not-opened-requires-3
 not-opened-requires-3 c κs = search needs
 
 returns-3 : tie.Need-returns-3
-returns-3 c = let a = c .before .before .before .before .args in opens-window (a .u) (a .window) (a .start) (c .not-opened3 .result) (omega arith) (high (a .window) (c .before .before .if2 .left) (c .before .if3 .taken)) (c .not-opened3 .ensures)
+returns-3 c =
+    let e = c .before .before .before in
+    opens-window (k e) (w e) (b e) (c .not-opened3 .result) (fits e) (high (w e) (c .before .before .if2 .left) (c .before .if3 .taken)) (c .not-opened3 .ensures)
 
 start-fits-requires : tie.Need-start-fits-requires
 start-fits-requires c κs = search needs
@@ -47,28 +72,39 @@ not-opened-requires-4 : tie.Need-not-opened-requires-4
 not-opened-requires-4 c κs = search needs
 
 returns-4 : tie.Need-returns-4
-returns-4 c = let a = c .before .before .before .before .before .before .args in opens-start (a .u) (a .window) (a .start) (c .not-opened4 .result) (omega arith) (good (a .window) (omega arith) (omega arith)) (sym (c .before .before .start-fits .ensures) ∙ not-true (c .before .before .start-fits .result) (c .before .if4 .taken)) (c .not-opened4 .ensures)
+returns-4 c =
+    let e = c .before .before .before .before .before in
+    opens-start (k e) (w e) (b e) (c .not-opened4 .result) (fits e) (good (w e) (omega arith) (omega arith))
+    (sym (c .before .before .start-fits .ensures) ∙ not-true (c .before .before .start-fits .result) (c .before .if4 .taken)) (c .not-opened4 .ensures)
+
+first-turn-requires : tie.Need-first-turn-requires
+first-turn-requires c κs = search needs
 
 fresh-core-requires : tie.Need-fresh-core-requires
 fresh-core-requires c κs = search needs
 
+-- the start has passed
+starts : (s : tie.Else4) → startFits (b (s .before .before .before .before)) ≡ true
+starts s = sym (s .before .start-fits .ensures) ∙ not-false (s .before .start-fits .result) (s .if4 .left)
+
 fresh-sums-requires : tie.Need-fresh-sums-requires
-fresh-sums-requires c κs = sym (c .before .before .start-fits .ensures) ∙ not-false (c .before .before .start-fits .result) (c .before .if4 .left)
+fresh-sums-requires c κs = starts (c .before .before)
 
 returns-5 : tie.Need-returns-5
 unfolding opened
 returns-5 c =
-    let a = c .before .before .before .before .before .before .before .args in
     let s = c .before .before .before in
-    let e = c .before .fresh-core .ensures in
-    let f = c .fresh-sums .ensures in
-    opens-done (a .u) (a .window) (a .start) _ (omega arith) (omega arith) (omega arith) (sym (s .start-fits .ensures) ∙ not-false (s .start-fits .result) (c .before .before .if4 .left))
-    (λ i. record { receiver = record { live = true; core = e i; sums = f i; planes = replicate 48 0; picks = replicate 72 0 }; why = Done })
+    let e = s .before .before .before .before in
+    let f = c .before .fresh-core .ensures ∙ ap (core (k e) (w e)) (c .before .before .first-turn .ensures) in
+    let g = c .fresh-sums .ensures in
+    opens-done (k e) (w e) (b e) _ (fits e) (omega arith) (omega arith) (starts s)
+    (λ i. record { receiver = record { live = true; core = f i; sums = g i; planes = replicate 48 0; picks = replicate 72 0 }; why = Done })
 
 pub open-receiver-spec : {M : Type 1} → statement M
 open-receiver-spec =
     tie.close
     (tie.spec
+    is-accord-requires
     not-opened-requires
     returns
     not-opened-requires-2
@@ -78,6 +114,7 @@ open-receiver-spec =
     start-fits-requires
     not-opened-requires-4
     returns-4
+    first-turn-requires
     fresh-core-requires
     fresh-sums-requires
     returns-5)

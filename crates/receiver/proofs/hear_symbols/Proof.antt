@@ -1,30 +1,31 @@
 -- `hear_symbols`: the loop over the symbols of a piece; `Going` says where it stands.
-use mathlib.Core.Path.{sym, _∙_}
+use mathlib.Core.Path.{sym, ap, _∙_}
 use Prim.Native.Nat.{_+_, _-_, _≤_}
 use native.Mathlib.Omega.{arith}
 use borrow.Author.Needs.{needs}
 use borrow.Author.Tests.{not-true, not-false}
 use lib.ListN.{length}
 use mir.Facts.{toZ-ofZ}
+use Rattle.nearest.specs.Found.{chartOf}
 use Rattle.machine.specs.Taken.{whole}
 use Rattle.receiver.proofs.Going.{Going, start, end, go-on, stop, more-fits, more-length}
 use Rattle.receiver.proofs.hear_symbols.Statement.{statement}
 use Rattle.receiver.proofs.hear_symbols.Tie as tie
 
 abbrev Inv-loop : tie.InvT-loop
-Inv-loop samples sums₀ planes₀ picks₀ out₀ table core₀ taken₀ written₀ why₀ i₀ sums planes picks out core taken written why i =
+Inv-loop samples sums₀ planes₀ picks₀ out₀ chart core₀ taken₀ written₀ why₀ i₀ sums planes picks out core taken written why i =
     Going samples out₀ (whole core₀ sums₀ planes₀ picks₀) out (whole core sums planes picks) taken written why i
 
 abbrev μ-loop : tie.MeasureT-loop
-μ-loop samples sums₀ planes₀ picks₀ out₀ table core₀ taken₀ written₀ why₀ i₀ sums planes picks out core taken written why i =
+μ-loop samples sums₀ planes₀ picks₀ out₀ chart core₀ taken₀ written₀ why₀ i₀ sums planes picks out core taken written why i =
     length samples - i
 
-a-points-requires : tie.Need-a-points-requires Inv-loop μ-loop
-a-points-requires c κs = search needs
+chart-requires : tie.Need-chart-requires Inv-loop μ-loop
+chart-requires c κs = search needs
 
 loop-holds : tie.Need-loop-holds Inv-loop μ-loop
 loop-holds c =
-    let s = c .before .before in
+    let s = c .before .before .before in
     let a = s .args in
     start (a .samples .now) (a .out .now) (whole (a .start) (a .sums .now) (a .planes .now) (a .picks .now)) (s .pre .1) (s .pre .0)
 
@@ -74,29 +75,31 @@ part-symbol-end : tie.Need-part-symbol-end Inv-loop μ-loop
 part-symbol-end c = omega arith
 
 symbol-requires : tie.Need-symbol-requires Inv-loop μ-loop
-symbol-requires c κs = (c .before .before .before .before .before .before .before .before .before .before .before .a-points .ensures, c .before .before .before .before .before .before .before .before .before .before .loop .inv .fit)
+symbol-requires c κs =
+    let l = c .before .before .before .before .before .before .before .before .before .before in
+    (l .before .chart .ensures ∙ ap chartOf (sym (l .loop .inv .accord)), l .loop .inv .fit)
 
 -- what is known after the call of `symbol`: each coordinate is the number of its bits
-fits : (d : tie.After-symbol Inv-loop μ-loop) → d .before .before .before .before .before .before .before .before .before .before .before .loop .written + d .symbol .result .written ≤ length (d .before .before .before .before .before .before .before .before .before .before .before .before .before .before .args .out .now)
+fits : (d : tie.After-symbol Inv-loop μ-loop) → d .before .before .before .before .before .before .before .before .before .before .before .loop .written + d .symbol .result .written ≤ length (d .before .before .before .before .before .before .before .before .before .before .before .before .before .before .before .args .out .now)
 fits d =
     let l = d .before .before .before .before .before .before .before .before .before .before .before in
-    let s = l .before .before .before in
+    let s = l .before .before .before .before in
     more-fits (s .args .samples .now) (s .args .out .now) _ _ _ _ _ _ _ (l .loop .inv) (d .before .before .before .before .before .before .before .before .before .before .loop-test .taken) _ _ _ _
     (toZ-ofZ (record { sfits = d .before .before .before .before .before .before .before .before .symbol-arg .given })) (toZ-ofZ (record { sfits = d .before .before .before .before .before .before .before .symbol-arg2 .given }))
     (toZ-ofZ (record { sfits = d .before .before .before .before .before .before .symbol-arg3 .given })) (toZ-ofZ (record { sfits = d .before .before .before .before .before .symbol-arg4 .given }))
     (d .symbol .result) _ _ _ _ (d .symbol .ensures) (d .symbol .kept .1 .1 .1 .1 .1 .1 .1 .1 .1 .0)
 
 add-written : tie.Need-add-written Inv-loop μ-loop
-add-written c = let h = fits (c .before .before .before .before) in omega (arith, c .before .before .before .before .before .before .before .before .before .before .before .before .before .before .before .before .before .before .good)
+add-written c = let h = fits (c .before .before .before .before) in omega (arith, c .before .before .before .before .before .before .before .before .before .before .before .before .before .before .before .before .before .before .before .good)
 
 is-done-requires : tie.Need-is-done-requires Inv-loop μ-loop
 is-done-requires c κs = search needs
 
 add-taken : tie.Need-add-taken Inv-loop μ-loop
-add-taken c = omega (arith, c .before .before .before .before .before .before .before .before .before .before .before .before .before .before .before .before .before .before .before .before .good)
+add-taken c = omega (arith, c .before .before .before .before .before .before .before .before .before .before .before .before .before .before .before .before .before .before .before .before .before .good)
 
 add-i : tie.Need-add-i Inv-loop μ-loop
-add-i c = omega (arith, c .before .before .before .before .before .before .before .before .before .before .before .before .before .before .before .before .before .before .before .before .good)
+add-i c = omega (arith, c .before .before .before .before .before .before .before .before .before .before .before .before .before .before .before .before .before .before .before .before .before .good)
 
 loop-less : tie.Need-loop-less Inv-loop μ-loop
 loop-less c = omega arith
@@ -105,7 +108,7 @@ loop-again : tie.Need-loop-again Inv-loop μ-loop
 loop-again c =
     let d = c .before .before .before .before .before .before in
     let l = d .before .before .before .before .before .before .before .before .before .before .before in
-    let s = l .before .before .before in
+    let s = l .before .before .before .before in
     go-on (s .args .samples .now) (s .args .out .now) _ _ _ _ _ _ _ (l .loop .inv) (d .before .before .before .before .before .before .before .before .before .before .loop-test .taken) _ _ _ _
     (toZ-ofZ (record { sfits = d .before .before .before .before .before .before .before .before .symbol-arg .given })) (toZ-ofZ (record { sfits = d .before .before .before .before .before .before .before .symbol-arg2 .given }))
     (toZ-ofZ (record { sfits = d .before .before .before .before .before .before .symbol-arg3 .given })) (toZ-ofZ (record { sfits = d .before .before .before .before .before .symbol-arg4 .given }))
@@ -117,14 +120,14 @@ same-length c = c .before .loop .inv .long
 returns : tie.Need-returns Inv-loop μ-loop
 returns c =
     let at = c .before in
-    let s = at .before .before .before in
+    let s = at .before .before .before .before in
     end (s .args .samples .now) (s .args .out .now) _ (at .loop .out) _ _ _ _ _ (at .loop .inv) (c .loop-test .left)
 
 same-length-2 : tie.Need-same-length-2 Inv-loop μ-loop
 same-length-2 c =
     let d = c .before .before .before .before .before .before in
     let l = d .before .before .before .before .before .before .before .before .before .before .before in
-    let s = l .before .before .before in
+    let s = l .before .before .before .before in
     more-length (s .args .samples .now) (s .args .out .now) _ _ _ _ _ _ _ (l .loop .inv) (d .before .before .before .before .before .before .before .before .before .before .loop-test .taken) _ _ _ _
     (toZ-ofZ (record { sfits = d .before .before .before .before .before .before .before .before .symbol-arg .given })) (toZ-ofZ (record { sfits = d .before .before .before .before .before .before .before .symbol-arg2 .given }))
     (toZ-ofZ (record { sfits = d .before .before .before .before .before .before .symbol-arg3 .given })) (toZ-ofZ (record { sfits = d .before .before .before .before .before .symbol-arg4 .given }))
@@ -134,7 +137,7 @@ returns-2 : tie.Need-returns-2 Inv-loop μ-loop
 returns-2 c =
     let d = c .before .before .before .before .before .before in
     let l = d .before .before .before .before .before .before .before .before .before .before .before in
-    let s = l .before .before .before in
+    let s = l .before .before .before .before in
     stop (s .args .samples .now) (s .args .out .now) _ _ _ _ _ _ _ (l .loop .inv) (d .before .before .before .before .before .before .before .before .before .before .loop-test .taken) _ _ _ _
     (toZ-ofZ (record { sfits = d .before .before .before .before .before .before .before .before .symbol-arg .given })) (toZ-ofZ (record { sfits = d .before .before .before .before .before .before .before .symbol-arg2 .given }))
     (toZ-ofZ (record { sfits = d .before .before .before .before .before .before .symbol-arg3 .given })) (toZ-ofZ (record { sfits = d .before .before .before .before .before .symbol-arg4 .given }))
@@ -146,7 +149,7 @@ hear-symbols-spec =
     (tie.spec
     Inv-loop
     μ-loop
-    a-points-requires
+    chart-requires
     loop-holds
     mul-symbol
     shared-slice-copy-out-symbol

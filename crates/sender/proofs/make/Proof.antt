@@ -1,17 +1,17 @@
 -- `make`: each callee is given numbers in range, and the results are the symbol's labels, points and next state.
-use mathlib.Core.Path.{_≡_, ap, _∙_}
+use mathlib.Core.Path.{ap, _∙_}
 use mathlib.Core.Bool.{true}
 use Prim.Native.Nat.{ℕ, _%_, _<_}
 use native.Mathlib.Omega.{arith}
-use lib.Bits.{bitAnd, and-mask, mask-lt}
+use lib.Bits.{and-mask, mask-lt}
 use Rattle.points.specs.Turn.{pointOf}
 use Rattle.points.specs.Pair.{firstPoint, secondPoint}
 use Rattle.wei.specs.declared.word.Parts.{Parts}
 use Rattle.wei.specs.State.{nextState}
 use Rattle.wei.specs.Label.{turnOn, secondLabel}
-use Rattle.wei.specs.Symbol.{firstLabel, lastLabel, symbolOf}
+use Rattle.wei.specs.Symbol.{lastLabel, symbolOf}
 use Rattle.sender.specs.Send.{symbolFor, after}
-use Rattle.sender.proofs.Sound.{Ranges, ranges, Sized, sized}
+use Rattle.sender.proofs.Sound.{Ranges, ranges, wide, Sized, sized}
 use Rattle.sender.proofs.Cases.{turn-is}
 use borrow.Author.Needs.{needs}
 use Rattle.sender.proofs.make.Statement.{statement}
@@ -20,8 +20,8 @@ use Rattle.sender.proofs.make.Tie as tie
 range : (c : tie.Start) → Ranges (c .args .s)
 range c = ranges (c .args .s) (c .pre)
 
-parts : (c : tie.After-unpack) → Sized (c .before .before .args .s .u) (c .unpack .result)
-parts c = sized (c .before .before .args .s .u) (c .before .before .args .word) (c .unpack .result) (range (c .before .before) .width) (c .unpack .ensures)
+parts : (c : tie.After-unpack) → Sized (c .before .before .args .s .accord .u) (c .unpack .result)
+parts c = sized (c .before .before .args .s .accord .u) (c .before .before .args .word) (c .unpack .result) (wide _ (range (c .before .before))) (c .unpack .ensures)
 
 below4 : (c : tie.After-turn-on) → c .turn-on .result < 4
 below4 c = omega (arith, c .turn-on .ensures)
@@ -30,7 +30,7 @@ a-points-requires : tie.Need-a-points-requires
 a-points-requires c κs = search needs
 
 unpack-requires : tie.Need-unpack-requires
-unpack-requires c κs = range (c .before) .width
+unpack-requires c κs = wide _ (range (c .before))
 
 turn-on-requires : tie.Need-turn-on-requires
 turn-on-requires c κs = let p = parts c in (range (c .before .before) .turn, p .parts .i2-below, p .parts .i3-below)
@@ -56,7 +56,7 @@ next-requires c κs = let b = c .before .before .before .before .before .before 
 returns : tie.Need-returns
 unfolding after symbolOf firstPoint secondPoint lastLabel
 returns c =
-    let l = c .before .before .before .before .before .before .before in
+    let l = c .before .before .before .before .before .before .before .before in
     let t = l .before .before in
     let b = t .before in
     let s = b .before .before .args .s in
@@ -64,14 +64,14 @@ returns c =
     let p = b .unpack .ensures in
     let q = t .turn-on .ensures ∙ ap (λ (v : Parts). turnOn (s .turn) (v .i2) (v .i3)) p ∙ turn-is s n in
     let e = l .labels .ensures in
-    let f = c .before .before .before .before .point-of .ensures ∙ (λ i. pointOf (e i .first) (p i .w1)) ∙ ap (λ (k : ℕ). pointOf k (symbolFor s n .w1)) q in
+    let f = c .before .before .before .before .before .point-of .ensures ∙ (λ i. pointOf (e i .first) (p i .w1)) ∙ ap (λ (k : ℕ). pointOf k (symbolFor s n .w1)) q in
     let g =
-    c .before .point-of2 .ensures ∙ (λ i. pointOf (e i .second) (p i .w2))
+    c .before .before .point-of2 .ensures ∙ (λ i. pointOf (e i .second) (p i .w2))
     ∙ (λ i. pointOf (secondLabel (q i) (and-mask (s .state) 1 i) (p i .i1)) (symbolFor s n .w2)) in
     let low = and-mask (t .turn-on .result) 1 ∙ ap (λ (k : ℕ). k % 2) (t .turn-on .ensures ∙ ap (λ (v : Parts). turnOn (s .turn) (v .i2) (v .i3)) p) in
-    let h = c .next .ensures ∙ (λ i. nextState (s .state) (p i .i1) (low i)) in
+    let h = c .before .next .ensures ∙ (λ i. nextState (s .state) (p i .i1) (low i)) in
     λ i. record {
-      sender = record { live = true; u = s .u; turn = q i; state = h i };
+      sender = record { live = true; accord = s .accord; turn = q i; state = h i };
       first = f i;
       second = g i;
     }

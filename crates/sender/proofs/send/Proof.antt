@@ -1,12 +1,12 @@
 -- `send`: the four outcomes, each by its law.
 use mathlib.Core.Path.{_≡_, sym, ap, _∙_}
-use mathlib.Core.Bool.{true, false}
+use mathlib.Core.Bool.{true}
 use borrow.Author.Tests.{not-true, not-false}
 use denote.Ref.{now}
 use Rattle.sender.specs.declared.Symbol.{Symbol}
 use Rattle.sender.specs.Send.{sound}
 use Rattle.wei.specs.Word.{isWord}
-use Rattle.sender.proofs.Sound.{ranges}
+use Rattle.sender.proofs.Sound.{ranges, wide}
 use Rattle.sender.proofs.Cases.{sends-closed, sends-bad, sends-short, sends-done}
 use borrow.Author.Needs.{needs}
 use Rattle.sender.proofs.send.Statement.{statement}
@@ -15,7 +15,7 @@ use Rattle.sender.proofs.send.Tie as tie
 open-is : (c : tie.Else1) → sound (c .before .before .args .s) ≡ true
 open-is c = sym (c .before .is-open .ensures) ∙ not-false (c .before .is-open .result) (c .if1 .left)
 
-word-is : (c : tie.Else2) → isWord (c .before .before .before .before .args .s .u) (c .before .before .before .before .args .word) ≡ true
+word-is : (c : tie.Else2) → isWord (c .before .before .before .before .args .s .accord .u) (c .before .before .before .before .args .word) ≡ true
 word-is c = sym (c .before .is-word .ensures) ∙ not-false (c .before .is-word .result) (c .if2 .left)
 
 is-open-requires : tie.Need-is-open-requires
@@ -28,7 +28,7 @@ returns : tie.Need-returns
 returns c = let t = c .before in let s = t .before .before in sends-closed (s .args .s) (s .args .word) (now (s .args .out)) (c .refuse .result) (sym (t .before .is-open .ensures) ∙ not-true (t .before .is-open .result) (t .if1 .taken)) (c .refuse .ensures)
 
 is-word-requires : tie.Need-is-word-requires
-is-word-requires c κs = ranges (c .before .before .args .s) (open-is c) .width
+is-word-requires c κs = wide _ (ranges (c .before .before .args .s) (open-is c))
 
 refuse-requires-2 : tie.Need-refuse-requires-2
 refuse-requires-2 c κs = search needs

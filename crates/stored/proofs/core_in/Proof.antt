@@ -10,32 +10,32 @@ use Rattle.stored.proofs.core_in.Tie as tie
 known : (s : tie.Start) → Held receiverLength receiverTag (now (s .args .words))
 known s = held receiverLength receiverTag (now (s .args .words)) (s .pre)
 
-shared-slice-read-t3 : tie.Need-shared-slice-read-t3
-shared-slice-read-t3 c = let h = known (c .before) in omega arith
+shared-slice-read-u : tie.Need-shared-slice-read-u
+shared-slice-read-u c = let h = known (c .before) in omega arith
 
-cast-t4 : tie.Need-cast-t4
-cast-t4 c = let h = known (c .before) in omega arith
+cast-u : tie.Need-cast-u
+cast-u c = let h = known (c .before) in omega arith
 
-shared-slice-read-t6 : tie.Need-shared-slice-read-t6
-shared-slice-read-t6 c = let h = known (c .before .before) in omega arith
+shared-slice-read-window : tie.Need-shared-slice-read-window
+shared-slice-read-window c = let h = known (c .before .before) in omega arith
 
-shared-slice-read-t9 : tie.Need-shared-slice-read-t9
-shared-slice-read-t9 c = let h = known (c .before .before .before) in omega arith
+shared-slice-read-taken : tie.Need-shared-slice-read-taken
+shared-slice-read-taken c = let h = known (c .before .before .before) in omega arith
 
-cast-t10 : tie.Need-cast-t10
-cast-t10 c = let h = known (c .before .before .before) in omega arith
+cast-taken : tie.Need-cast-taken
+cast-taken c = let h = known (c .before .before .before) in omega arith
 
-shared-slice-read-t12 : tie.Need-shared-slice-read-t12
-shared-slice-read-t12 c = let h = known (c .before .before .before .before) in omega arith
+shared-slice-read-turn : tie.Need-shared-slice-read-turn
+shared-slice-read-turn c = let h = known (c .before .before .before .before) in omega arith
 
-cast-t13 : tie.Need-cast-t13
-cast-t13 c = let h = known (c .before .before .before .before) in omega arith
+cast-turn : tie.Need-cast-turn
+cast-turn c = let h = known (c .before .before .before .before) in omega arith
 
-shared-slice-read-t15 : tie.Need-shared-slice-read-t15
-shared-slice-read-t15 c = let h = known (c .before .before .before .before .before) in omega arith
+shared-slice-read-slot : tie.Need-shared-slice-read-slot
+shared-slice-read-slot c = let h = known (c .before .before .before .before .before) in omega arith
 
-shared-slice-read-t18 : tie.Need-shared-slice-read-t18
-shared-slice-read-t18 c = let h = known (c .before .before .before .before .before .before) in omega arith
+shared-slice-read-pending : tie.Need-shared-slice-read-pending
+shared-slice-read-pending c = let h = known (c .before .before .before .before .before .before) in omega arith
 
 returns : tie.Need-returns
 returns c = search needs
@@ -44,13 +44,13 @@ pub core-in-spec : {M : Type 1} → statement M
 core-in-spec =
     tie.close
     (tie.spec
-    shared-slice-read-t3
-    cast-t4
-    shared-slice-read-t6
-    shared-slice-read-t9
-    cast-t10
-    shared-slice-read-t12
-    cast-t13
-    shared-slice-read-t15
-    shared-slice-read-t18
+    shared-slice-read-u
+    cast-u
+    shared-slice-read-window
+    shared-slice-read-taken
+    cast-taken
+    shared-slice-read-turn
+    cast-turn
+    shared-slice-read-slot
+    shared-slice-read-pending
     returns)

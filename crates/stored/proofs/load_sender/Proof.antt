@@ -27,23 +27,23 @@ returns : tie.Need-returns
 unfolding senderIn
 returns c = rw (sym (c .before .before .holds-record .ensures) ∙ not-true (c .before .before .holds-record .result) (c .before .if1 .taken)) (c .closed-sender .ensures)
 
-shared-slice-read-t5 : tie.Need-shared-slice-read-t5
-shared-slice-read-t5 c = let h = known (c .before) in omega arith
+shared-slice-read-u : tie.Need-shared-slice-read-u
+shared-slice-read-u c = let h = known (c .before) in omega arith
 
-cast-t6 : tie.Need-cast-t6
-cast-t6 c = let h = known (c .before) in omega arith
+cast-u : tie.Need-cast-u
+cast-u c = let h = known (c .before) in omega arith
 
-shared-slice-read-t8 : tie.Need-shared-slice-read-t8
-shared-slice-read-t8 c = let h = known (c .before .before) in omega arith
+shared-slice-read-turn : tie.Need-shared-slice-read-turn
+shared-slice-read-turn c = let h = known (c .before .before) in omega arith
 
-cast-t9 : tie.Need-cast-t9
-cast-t9 c = let h = known (c .before .before) in omega arith
+cast-turn : tie.Need-cast-turn
+cast-turn c = let h = known (c .before .before) in omega arith
 
-shared-slice-read-t11 : tie.Need-shared-slice-read-t11
-shared-slice-read-t11 c = let h = known (c .before .before .before) in omega arith
+shared-slice-read-state : tie.Need-shared-slice-read-state
+shared-slice-read-state c = let h = known (c .before .before .before) in omega arith
 
-cast-t12 : tie.Need-cast-t12
-cast-t12 c = let h = known (c .before .before .before) in omega arith
+cast-state : tie.Need-cast-state
+cast-state c = let h = known (c .before .before .before) in omega arith
 
 returns-2 : tie.Need-returns-2
 unfolding senderIn
@@ -56,10 +56,10 @@ load-sender-spec =
     holds-record-requires
     closed-sender-requires
     returns
-    shared-slice-read-t5
-    cast-t6
-    shared-slice-read-t8
-    cast-t9
-    shared-slice-read-t11
-    cast-t12
+    shared-slice-read-u
+    cast-u
+    shared-slice-read-turn
+    cast-turn
+    shared-slice-read-state
+    cast-state
     returns-2)

@@ -3,14 +3,17 @@
  * then gives the rest.
  *
  *     line [WIDTH [NOISE [SEED [WORDS]]]]
+ *     line help
  *
  * WIDTH is 0 to 8 (2 if not said). NOISE is the deviation of the noise in hundredths of the unit of the points, which
  * stand 2 apart in each coordinate (25). SEED starts the generator of words and noise (1). WORDS is how many are sent (20).
- * The same four numbers print the same lines everywhere.
+ * The same four numbers print the same lines everywhere. What is no such number is refused, with exit status 2.
  */
+#include <errno.h>
 #include <inttypes.h>
 #include <stdio.h>
 #include <stdlib.h>
+#include <string.h>
 
 #include "demfizagu.h"
 
@@ -108,18 +111,38 @@ static void hear(struct line *l, const int32_t heard[4], size_t symbols)
     print_words(l, "symbol", symbols, words, told[1]);
 }
 
-static unsigned long argument(int argc, char **argv, int n, unsigned long otherwise)
+#define USAGE "usage: line [WIDTH [NOISE [SEED [WORDS]]]]    WIDTH 0 to 8, NOISE in hundredths of the points' unit\n"
+
+/* The n-th argument, a decimal number of at most `most`; `otherwise` where there is none. */
+static uint64_t argument(int argc, char **argv, int n, const char *name, uint64_t otherwise, uint64_t most)
 {
-    return argc > n ? strtoul(argv[n], NULL, 10) : otherwise;
+    if (argc <= n)
+        return otherwise;
+    const char *text = argv[n];
+    errno = 0;
+    unsigned long long number = strtoull(text, NULL, 10);
+    if (*text == '\0' || text[strspn(text, "0123456789")] != '\0' || errno != 0 || number > most) {
+        fprintf(stderr, "line: %s is a number from 0 to %" PRIu64 ", not: %s\n" USAGE, name, most, text);
+        exit(2);
+    }
+    return number;
 }
 
 int main(int argc, char **argv)
 {
+    if (argc == 2 && strcmp(argv[1], "help") == 0) {
+        fputs(USAGE, stdout);
+        return 0;
+    }
+    if (argc > 5) {
+        fprintf(stderr, "line: one word too many: %s\n" USAGE, argv[5]);
+        return 2;
+    }
     struct line l = {0};
-    l.u = (uint32_t)argument(argc, argv, 1, 2);
-    float deviation = (float)argument(argc, argv, 2, 25) / 100.0f;
-    uint64_t seed = argument(argc, argv, 3, 1);
-    size_t count = argument(argc, argv, 4, 20);
+    l.u = (uint32_t)argument(argc, argv, 1, "WIDTH", 2, 8);
+    float deviation = (float)argument(argc, argv, 2, "NOISE", 25, 100000) / 100.0f;
+    uint64_t seed = argument(argc, argv, 3, "SEED", 1, UINT64_MAX);
+    size_t count = (size_t)argument(argc, argv, 4, "WORDS", 20, 100000000);
 
     if (demfizagu_version() != DEMFIZAGU_VERSION)
         stop("the library is of another version", demfizagu_version());

@@ -41,17 +41,23 @@
  *   - the words of a state are used by one thread at a time. Different states are independent: the library has no other
  *     memory;
  *   - the program is for the kind of machine that the archive was made for: it holds no other code;
- *   - the stack has room: a call of demfizagu_hear takes less than 3 kilobytes, every other call less than 2.
+ *   - the stack has room: a call of demfizagu_hear takes less than 3 kilobytes, every other call less than 2, and the first
+ *     call of a program some 3 more where the loader resolves memcpy at its first use;
+ *   - for demfizagu_sample and demfizagu_samples, the thread's floating-point environment is the default one. They are exact
+ *     only there: under another rounding mode they give other numbers, and where exceptions trap a call may raise the
+ *     signal. Denormals that are flushed to zero make no difference.
+ *
+ * The archive has no unwind tables, so a backtrace from inside a call ends there.
  *
  * STATES
  *
- * An end lives in 64-bit words that the caller lends: at least demfizagu_sender_words() or demfizagu_receiver_words(). More
- * do no harm and stay as they are. An opening makes a state from any words; nothing is allocated, and nothing need be
- * freed. A state may be copied to another place, and each copy then goes its own way. Its words are for the library
- * alone. A state that is too short, was not made by an opening of that end and of this version, or whose numbers are out of
- * range is read as closed: a state that an older library made too, for its words have another layout and say so. Between an opening and a finish nothing but these calls should write to it: a state whose words were
- * changed may be read as closed, or as an end that heard something else, but no call then reads or writes outside its
- * slices.
+ * An end lives in 64-bit words that the caller lends: at least demfizagu_sender_words() or demfizagu_receiver_words().
+ * More do no harm and stay as they are. An opening makes a state from any words; nothing is allocated, and nothing need
+ * be freed. A state may be copied to another place, and each copy then goes its own way. Its words are for the library
+ * alone. A state that is too short, was not made by an opening of that end and of this version, or whose numbers are out
+ * of range is read as closed: a state that an older library made too, for its words have another layout and say so.
+ * Between an opening and a finish nothing but these calls should write to it: a state whose words were changed may be
+ * read as closed, or as an end that heard something else, but no call then reads or writes outside its slices.
  *
  * TOLD
  *

@@ -1,12 +1,8 @@
-// The page of `lab help`: a first session to copy, the verbs, and the numbers given back.
-use libc::STDOUT_FILENO;
-
-fn say(text: &[u8]) {
-    io::write_all(STDOUT_FILENO, text);
-}
-
-fn first_session() {
-    say(
+// The page of `lab help`: a first session to copy, the verbs, and the numbers given back. It goes to standard output where it is asked
+// for, and to the error stream where an argument is another word. Each part answers whether it was written.
+fn first_session(to: i32) -> bool {
+    io::write_all(
+        to,
         b"lab: both ends of the line by hand. It reads lines from standard input and answers each by a line.
 
 A first session. Start `lab` and type the lines on the left; its answers stand on the right.
@@ -20,11 +16,12 @@ A first session. Start `lab` and type the lines on the left; its answers stand o
 The receiver says a word only when no later symbol can change it, so mostly some symbols later.
 
 ",
-    );
+    )
 }
 
-fn verbs() {
-    say(
+fn verbs(to: i32) -> bool {
+    io::write_all(
+        to,
         b"What a line can be. Tokens are separated by one space.
 
   sender U                  opens a sender of width U, 0 to 8. Answer: N
@@ -40,11 +37,12 @@ fn verbs() {
   an empty line, or # ..    answers nothing
 
 ",
-    );
+    )
 }
 
-fn numbers() {
-    say(
+fn numbers(to: i32) -> bool {
+    io::write_all(
+        to,
         b"N, the number given back:
 
   0 done                        6 the window is full: finish, and open again
@@ -56,11 +54,9 @@ fn numbers() {
 
 Numbers are decimal, CAP is at most 4096, and a line at most 65536 bytes.
 ",
-    );
+    )
 }
 
-pub fn show() {
-    first_session();
-    verbs();
-    numbers();
+pub fn show(to: i32) -> bool {
+    first_session(to) && verbs(to) && numbers(to)
 }

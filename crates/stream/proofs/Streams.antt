@@ -1,5 +1,5 @@
 -- Laws of the input as a stream: it may be cut anywhere, bytes up to a newline only grow the line, and what each step of the program does to its state.
-use Prim.Native.Nat.{ℕ, suc, _+_, _-_, _≤_, _<_}
+use Prim.Native.Nat.{ℕ, zero, suc, _+_, _-_, _≤_, _<_}
 use mathlib.Core.Path.{_≡_, refl, sym, ap, subst, _∙_}
 use mathlib.Core.Bool.{Bool, true, false, cond}
 use mathlib.Core.List.{List, [], _∷_, _++_, append-assoc, append-nil}
@@ -7,16 +7,17 @@ use native.Mathlib.Nat.{add-sub-cancel-left}
 use native.Mathlib.Omega.{arith}
 use borrow.Author.Tests.{eqb-true, eq-eqb, ne-eqb}
 use lib.Dec.{eqb}
-use lib.ListN.{length, take, drop, length-append, length-drop, take-append-drop}
-use lib.Seq.{take-at, take-all, take-add, length-take-le}
+use lib.ListN.{length, take, drop, length-append, length-drop}
+use lib.Seq.{take-at, take-add, take-take, length-take-le}
 use Rattle.text.specs.Token.{lengthBefore, Cuts}
 use Rattle.text.proofs.Digits.{to-end}
 use Rattle.desk.specs.declared.Desk.{Desk}
 use Rattle.lines.specs.declared.Lab.{Lab}
 use Rattle.lines.specs.declared.Part.{Part}
-use Rattle.desk.specs.Desk.{Result}
-use Rattle.lines.specs.Line.{Gathered, answering, Replies}
-use Rattle.stream.specs.Stream.{Course, grown, ended, streaming, lastLine, Stands}
+use Rattle.desk.specs.Desk.{Result, closedDesk}
+use Rattle.lines.specs.Line.{Gathered, noPart, answering, Replies}
+use Rattle.stream.specs.declared.Turn.{Turn}
+use Rattle.stream.specs.Stream.{Course, grown, ended, streaming, lastLine, Holds, Stands, heard, turned, Handed, bytesOf, textOf, Follow}
 use Rattle.lines.proofs.Gathering.{none-gathered}
 
 -- ---- bytes
@@ -58,12 +59,11 @@ module _ (most : ℕ) (c : Course) (chunk : List ℕ) (from n : ℕ) (cut : Cuts
       ∙ sym (run most (streaming most c (take from chunk)) (drop from chunk))
       ∙ ap (λ (k : ℕ). streaming most (streaming most c (take from chunk)) (take k (drop from chunk))) (sym is)
 
-  pub to-the-end : from + n ≡ length chunk → grown (streaming most c (take from chunk)) (take (from + n - from) (drop from chunk)) ≡ streaming most c chunk
-  to-the-end e =
+  pub to-the-end : grown (streaming most c (take from chunk)) (take (from + n - from) (drop from chunk)) ≡ streaming most c (take (from + n) chunk)
+  to-the-end =
       grows
-      ∙ ap (streaming most (streaming most c (take from chunk))) (take-all n (drop from chunk) (omega (arith, length-drop from chunk)))
-      ∙ sym (cut-anywhere most c (take from chunk) (drop from chunk))
-      ∙ ap (streaming most c) (take-append-drop from chunk)
+      ∙ sym (cut-anywhere most c (take from chunk) (take n (drop from chunk)))
+      ∙ ap (streaming most c) (sym (take-add from n chunk))
 
   pub to-the-newline : {room : ℕ} → room ≡ most → from + n < length chunk → ended room (grown (streaming most c (take from chunk)) (take (from + n - from) (drop from chunk))) ≡ streaming most c (take (from + n + 1) chunk)
   to-the-newline same h =
@@ -77,45 +77,111 @@ module _ (most : ℕ) (c : Course) (chunk : List ℕ) (from n : ℕ) (cut : Cuts
       ∙ sym (cut-anywhere most c (take from chunk) (take n ds ++ 10 ∷ []))
       ∙ ap (streaming most c) (sym bytes)
 
+-- ---- turns
+
+-- All that the turns handed on, joined, is the answer to all that they heard, joined: it makes no difference where the answers are cut into pages.
+pub joined : (most : ℕ) (c : Course) (hs : List Handed) → Follow most c hs → streaming most c (bytesOf hs) .text ≡ c .text ++ textOf hs
+joined most c [] f = sym (append-nil (c .text))
+joined most c (h ∷ hs) f =
+    ap (λ (d : Course). d .text) (cut-anywhere most c (bytesOf hs) (h .bytes))
+    ∙ f .1
+    ∙ ap (λ (t : List ℕ). t ++ h .text) (joined most c hs (f .0))
+    ∙ append-assoc (c .text) (textOf hs) (h .text)
+
 -- ---- the program's state
 
-pub stands-as : {c c' : Course} {line : List ℕ} {lab : Lab} {page : List ℕ} → c ≡ c' → Stands c line lab page → Stands c' line lab page
-stands-as {line = line} {lab = lab} {page = page} e z = subst (λ (x : Course). Stands x line lab page) e z
+pub stands-as : {c c' : Course} {before line : List ℕ} {lab : Lab} {page : List ℕ} → c ≡ c' → Stands c before line lab page → Stands c' before line lab page
+stands-as {before = before} {line = line} {lab = lab} {page = page} e z = subst (λ (x : Course). Stands x before line lab page) e z
 
-module _ {c : Course} {line : List ℕ} {lab : Lab} {page : List ℕ} (z : Stands c line lab page) where
-  pub after-gather : {line' : List ℕ} {r : Lab} (bs : List ℕ) → r .desk ≡ lab .desk → r .at ≡ lab .at → Gathered line' (r .part) (c .line ++ bs) → Stands (grown c bs) line' r page
+holds-as : {c : Course} {line : List ℕ} {lab r : Lab} → r .desk ≡ lab .desk → r .part ≡ lab .part → Holds c line lab → Holds c line r
+holds-as {c} {line} d e h = record { desk = d ∙ h .desk; part = subst (λ (p : Part). Gathered line p (c .line)) (sym e) (h .part) }
+
+-- a page begun anew: all answers so far stand before it
+pub begun : {c : Course} {line : List ℕ} {lab : Lab} (page : List ℕ) → Holds c line lab → Stands c (c .text) line (record { desk = lab .desk; part = lab .part; at = 0; on = lab .on }) page
+begun {c} page h = record { holds = record { desk = h .desk; part = h .part }; text = sym (append-nil (c .text)) }
+
+module _ {c : Course} {before line : List ℕ} {lab : Lab} {page : List ℕ} (z : Stands c before line lab page) where
+  pub after-gather : {line' : List ℕ} {r : Lab} (bs : List ℕ) → r .desk ≡ lab .desk → r .at ≡ lab .at → Gathered line' (r .part) (c .line ++ bs) → Stands (grown c bs) before line' r page
   after-gather {line'} {r} bs d e g =
-      record { desk = d ∙ z .desk; part = g; written = z .written; text = z .text ∙ ap (λ (n : ℕ). z .written ++ take n page) (sym e) }
+      record { holds = record { desk = d ∙ z .holds .desk; part = g }; text = z .text ∙ ap (λ (n : ℕ). before ++ take n page) (sym e) }
 
-  pub after-flush : {r : Lab} → r .desk ≡ lab .desk → r .part ≡ lab .part → r .at ≡ 0 → Stands c line r page
-  after-flush {r} d e f =
-      record {
-        desk = d ∙ z .desk;
-        part = subst (λ (p : Part). Gathered line p (c .line)) (sym e) (z .part);
-        written = c .text;
-        text = rw f (sym (append-nil (c .text)));
-      }
+  pub after-flush : {r : Lab} → r .desk ≡ lab .desk → r .part ≡ lab .part → r .at ≡ lab .at → Stands c before line r page
+  after-flush d e f = record { holds = holds-as d e (z .holds); text = z .text ∙ ap (λ (n : ℕ). before ++ take n page) (sym f) }
 
-  pub after-reply : (most : ℕ) {r : Lab} {page' : List ℕ} (line' : List ℕ) → lab .at ≤ length page → Replies (answering most (lab .desk) (c .line)) lab page r page' → Stands (ended most c) line' r page'
+  pub after-reply : (most : ℕ) {r : Lab} {page' : List ℕ} (line' : List ℕ) → lab .at ≤ length page → Replies (answering most (lab .desk) (c .line)) lab page r page' → Stands (ended most c) before line' r page'
   after-reply most {r} {page'} line' h p =
       let g : Result = answering most (c .desk) (c .line) in
-      let same : answering most (lab .desk) (c .line) ≡ g = ap (λ (d : Desk). answering most d (c .line)) (z .desk) in
+      let same : answering most (lab .desk) (c .line) ≡ g = ap (λ (d : Desk). answering most d (c .line)) (z .holds .desk) in
       let long : length (take (lab .at) page) ≡ lab .at = length-take-le (lab .at) page h in
       let all : take (r .at) page' ≡ take (lab .at) page ++ answering most (lab .desk) (c .line) .text =
       rw (p .puts .said) (take-at (take (lab .at) page ++ answering most (lab .desk) (c .line) .text) (drop (r .at) page) (r .at) (rw length-append (omega (arith, p .puts .next)))) in
       record {
-        desk = p .desk ∙ ap (λ (x : Result). x .desk) same;
-        part = subst (λ (q : Part). Gathered line' q []) (sym (p .part)) (none-gathered line');
-        written = z .written;
+        holds =
+            record {
+              desk = p .desk ∙ ap (λ (x : Result). x .desk) same;
+              part = subst (λ (q : Part). Gathered line' q []) (sym (p .part)) (none-gathered line');
+            };
         text =
             ap (λ (t : List ℕ). t ++ g .text) (z .text)
-            ∙ append-assoc (z .written) (take (lab .at) page) (g .text)
-            ∙ ap (λ (t : List ℕ). z .written ++ t) (ap (λ (x : Result). take (lab .at) page ++ x .text) (sym same) ∙ sym all);
+            ∙ append-assoc before (take (lab .at) page) (g .text)
+            ∙ ap (λ (t : List ℕ). before ++ t) (ap (λ (x : Result). take (lab .at) page ++ x .text) (sym same) ∙ sym all);
       }
 
-  -- the input is not to be read on
-  pub switched-off : Stands c line (record { desk = lab .desk; part = lab .part; at = lab .at; on = false }) page
-  switched-off = record { desk = z .desk; part = z .part; written = z .written; text = z .text }
+-- ---- a turn
+
+-- as much as is lent
+pub lent-part : (last : Turn) (chunk : List ℕ) → last .from ≤ last .to → last .to ≤ length chunk → length (take (last .to - last .from) (drop (last .from) chunk)) ≡ last .to - last .from
+lent-part last chunk h k = length-take-le (last .to - last .from) (drop (last .from) chunk) (omega (arith, length-drop (last .from) chunk))
+
+module _ (most : ℕ) (c : Course) (last : Turn) (chunk : List ℕ) where
+  pub the-end : (next : ℕ) → last .ends ≡ true → lastLine most c ≡ turned most c last chunk next
+  the-end next e = sym (ap (λ (b : Bool). cond b (lastLine most c) (streaming most c (heard last chunk next))) e)
+
+  pub no-end : (next : ℕ) → last .ends ≡ false → turned most c last chunk next ≡ streaming most c (heard last chunk next)
+  no-end next e = ap (λ (b : Bool). cond b (lastLine most c) (streaming most c (heard last chunk next))) e
+
+  pub some-bytes : {n : ℕ} → n ≤ last .to - last .from → last .ends ≡ false
+      → streaming most c (take n (take (last .to - last .from) (drop (last .from) chunk))) ≡ turned most c last chunk (last .from + n)
+  some-bytes {n} few e =
+      ap (streaming most c) (take-take n (last .to - last .from) (drop (last .from) chunk) few ∙ ap (λ (m : ℕ). take m (drop (last .from) chunk)) (sym (add-sub-cancel-left (last .from) n)))
+      ∙ sym (no-end (last .from + n) e)
+
+-- where the program begins
+abbrev begin : Course
+begin = record { desk = closedDesk; line = []; text = [] }
+
+-- turns that have brought the program to where it is; each handed on what its page held
+pub record Served (most : ℕ) (line : List ℕ) (lab : Lab) : Type 0 where
+  pub turns : List Handed
+  pub follow : Follow most begin turns
+  pub holds : Holds (streaming most begin (bytesOf turns)) line lab
+
+pub none-served : (most : ℕ) {line : List ℕ} {lab : Lab} → lab .desk ≡ closedDesk → lab .part ≡ noPart → Served most line lab
+none-served most {line} d e =
+    record { turns = []; follow = tt; holds = record { desk = d; part = subst (λ (p : Part). Gathered line p []) (sym e) (none-gathered line) } }
+
+pub served-as : {most : ℕ} {line : List ℕ} {lab r : Lab} → r .desk ≡ lab .desk → r .part ≡ lab .part → Served most line lab → Served most line r
+served-as d e s = record { turns = s .turns; follow = s .follow; holds = holds-as d e (s .holds) }
+
+module _ {line line' : List ℕ} {lab r : Lab} {page : List ℕ} (last : Turn) (chunk : List ℕ) (next : ℕ) (goes-on : last .ends ≡ false) (same : length line' ≡ length line) where
+  pub served-on : Served (length line) line lab → ((c : Course) → Holds c line lab → Stands (turned (length line) c last chunk next) (c .text) line' r page) → Served (length line') line' r
+  served-on s f =
+      let most : ℕ = length line in
+      let c : Course = streaming most begin (bytesOf (s .turns)) in
+      let stands = stands-as (no-end most c last chunk next goes-on) (f c (s .holds)) in
+      subst
+      (λ (n : ℕ). Served n line' r)
+      (sym same)
+      (record {
+        turns = record { bytes = heard last chunk next; text = take (r .at) page } ∷ s .turns;
+        follow = (s .follow, stands .text);
+        holds = subst (λ (d : Course). Holds d line' r) (sym (cut-anywhere most begin (bytesOf (s .turns)) (heard last chunk next))) (stands .holds);
+      })
+
+-- a turn does not stand still
+pub some-heard : (from : ℕ) {at : ℕ} → (from ≡ 0 → at ≤ 32768) → 32768 < at → 0 < from
+some-heard zero h k = absurd (omega (arith, h refl))
+some-heard (suc n) h k = omega arith
 
 -- ---- the input's end
 

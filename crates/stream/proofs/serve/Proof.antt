@@ -1,21 +1,24 @@
--- `serve`: the buffers keep their lengths from read to read, and the reads are counted down.
+-- `serve`: the buffers keep their lengths from turn to turn, and the turns are counted down. The turns so far have brought the program to where it is: what was heard is answered, and handed on page by page (`Served`, `joined`).
 use Prim.Native.Nat.{_≤_}
-use mathlib.Core.Path.{_≡_, _∙_}
+use mathlib.Core.Path.{_≡_, sym, ap, _∙_}
 use native.Mathlib.Omega.{arith}
 use lib.ListN.{length}
+use Rattle.desk.proofs.Desks.{lent-on}
+use Rattle.lines.specs.declared.Part.{Part}
+use Rattle.stream.proofs.Streams.{Served, none-served, served-as, served-on}
 use borrow.Author.Needs.{needs}
 use Rattle.stream.proofs.serve.Statement.{statement}
 use Rattle.stream.proofs.serve.Tie as tie
 
 abbrev Inv-loop : tie.InvT-loop
-Inv-loop chunk₀ line₀ page₀ coordinates₀ words₀ lab₀ reads₀ chunk line page coordinates words lab reads =
+Inv-loop chunk₀ line₀ page₀ coordinates₀ words₀ now₀ turns₀ chunk line page coordinates words now turns =
     ((length chunk ≡ length chunk₀) × (length line ≡ length line₀) × (length page ≡ length page₀))
     × ((length coordinates ≡ length coordinates₀) × (length words ≡ length words₀))
-    × ((lab .at ≤ 32768) × (lab .part .held ≤ length line))
+    × ((now .from ≤ now .to) × (now .to ≤ length chunk) × (now .lab .part .held ≤ length line))
+    × Served (length line) line (now .lab)
 
 abbrev μ-loop : tie.MeasureT-loop
-μ-loop chunk₀ line₀ page₀ coordinates₀ words₀ lab₀ reads₀ chunk line page coordinates words lab reads =
-    reads
+μ-loop chunk₀ line₀ page₀ coordinates₀ words₀ now₀ turns₀ chunk line page coordinates words now turns = turns
 
 closed-requires : tie.Need-closed-requires Inv-loop μ-loop
 closed-requires c κs = search needs
@@ -24,48 +27,53 @@ fresh-requires : tie.Need-fresh-requires Inv-loop μ-loop
 fresh-requires c κs = search needs
 
 loop-holds : tie.Need-loop-holds Inv-loop μ-loop
-loop-holds c = search needs
+loop-holds c = (search needs, search needs, search needs, none-served _ (c .before .closed .ensures) (c .fresh .ensures .1))
 
-hear-once-requires : tie.Need-hear-once-requires Inv-loop μ-loop
-hear-once-requires c κs = search needs
+refill-requires : tie.Need-refill-requires Inv-loop μ-loop
+refill-requires c κs = search needs
+
+answer-requires : tie.Need-answer-requires Inv-loop μ-loop
+answer-requires c κs =
+    let l = c .before .before .before .before .before .before .before .before .before .before .loop .inv in
+    let r = c .before .before .before .before .before .before .before .refill in (
+      lent-on (c .before .before .before .before .before .before .before .before .before .before .before .before .before .before .before .before .before .pre) (l .0 .2) (l .1 .0) (l .1 .1),
+      (r .ensures .0 .0, omega (arith, r .ensures .0 .1, r .kept .1 .0), omega (arith, ap (λ (p : Part). p .held) (r .ensures .0 .3), l .2 .2)),
+    )
 
 same-length : tie.Need-same-length Inv-loop μ-loop
-same-length c = c .before .before .before .before .before .before .before .before .before .before .before .hear-once .kept .1 .0 ∙ c .before .before .before .before .before .before .before .before .before .before .before .before .before .before .before .before .before .before .loop .inv .0 .0
+same-length c = c .before .before .before .before .before .before .before .before .before .before .before .before .before .before .before .before .refill .kept .1 .0 ∙ c .before .before .before .before .before .before .before .before .before .before .before .before .before .before .before .before .before .before .before .loop .inv .0 .0
 
 same-length-2 : tie.Need-same-length-2 Inv-loop μ-loop
-same-length-2 c = c .before .before .before .before .before .before .before .before .before .before .before .hear-once .kept .1 .1 .0 ∙ c .before .before .before .before .before .before .before .before .before .before .before .before .before .before .before .before .before .before .loop .inv .0 .1
+same-length-2 c = c .before .before .before .before .before .before .before .before .answer .kept .1 .1 .0 ∙ c .before .before .before .before .before .before .before .before .before .before .before .before .before .before .before .before .before .before .before .loop .inv .0 .1
 
 same-length-3 : tie.Need-same-length-3 Inv-loop μ-loop
-same-length-3 c = c .before .before .before .before .before .before .before .before .before .before .before .hear-once .kept .1 .1 .1 .0 ∙ c .before .before .before .before .before .before .before .before .before .before .before .before .before .before .before .before .before .before .loop .inv .0 .2
+same-length-3 c = c .before .before .before .before .before .before .before .before .answer .kept .1 .1 .1 .0 ∙ c .before .before .before .before .before .before .before .before .before .before .before .before .before .before .before .before .before .before .before .loop .inv .0 .2
 
 same-length-4 : tie.Need-same-length-4 Inv-loop μ-loop
-same-length-4 c = c .before .before .before .before .before .before .before .before .before .before .before .hear-once .kept .1 .1 .1 .1 .0 ∙ c .before .before .before .before .before .before .before .before .before .before .before .before .before .before .before .before .before .before .loop .inv .1 .0
+same-length-4 c = c .before .before .before .before .before .before .before .before .answer .kept .1 .1 .1 .1 .0 ∙ c .before .before .before .before .before .before .before .before .before .before .before .before .before .before .before .before .before .before .before .loop .inv .1 .0
 
 same-length-5 : tie.Need-same-length-5 Inv-loop μ-loop
-same-length-5 c = c .before .before .before .before .before .before .before .before .before .before .before .hear-once .kept .1 .1 .1 .1 .1 .0 ∙ c .before .before .before .before .before .before .before .before .before .before .before .before .before .before .before .before .before .before .loop .inv .1 .1
+same-length-5 c = c .before .before .before .before .before .before .before .before .answer .kept .1 .1 .1 .1 .1 .0 ∙ c .before .before .before .before .before .before .before .before .before .before .before .before .before .before .before .before .before .before .before .loop .inv .1 .1
 
 returns : tie.Need-returns Inv-loop μ-loop
 returns c = search needs
 
-sub-reads : tie.Need-sub-reads Inv-loop μ-loop
-sub-reads c = search needs
+sub-turns : tie.Need-sub-turns Inv-loop μ-loop
+sub-turns c = omega (arith, c .before .before .before .before .before .before .before .before .before .before .before .before .before .before .before .before .before .before .before .before .loop-test .taken)
 
 loop-less : tie.Need-loop-less Inv-loop μ-loop
-loop-less c = search needs
+loop-less c = omega (arith, c .before .before .before .before .before .before .before .before .before .before .before .before .before .before .before .before .before .before .before .before .loop-test .taken)
 
 loop-again : tie.Need-loop-again Inv-loop μ-loop
-loop-again c = (
-  (
-    c .before .before .before .before .before .before .before .before .before .before .before .hear-once .kept .1 .0 ∙ c .before .before .before .before .before .before .before .before .before .before .before .before .before .before .before .before .before .before .loop .inv .0 .0,
-    c .before .before .before .before .before .before .before .before .before .before .before .hear-once .kept .1 .1 .0 ∙ c .before .before .before .before .before .before .before .before .before .before .before .before .before .before .before .before .before .before .loop .inv .0 .1,
-    c .before .before .before .before .before .before .before .before .before .before .before .hear-once .kept .1 .1 .1 .0 ∙ c .before .before .before .before .before .before .before .before .before .before .before .before .before .before .before .before .before .before .loop .inv .0 .2,
-  ),
-  (
-    c .before .before .before .before .before .before .before .before .before .before .before .hear-once .kept .1 .1 .1 .1 .0 ∙ c .before .before .before .before .before .before .before .before .before .before .before .before .before .before .before .before .before .before .loop .inv .1 .0,
-    c .before .before .before .before .before .before .before .before .before .before .before .hear-once .kept .1 .1 .1 .1 .1 .0 ∙ c .before .before .before .before .before .before .before .before .before .before .before .before .before .before .before .before .before .before .loop .inv .1 .1,
-  ),
-  (c .before .before .before .before .before .before .before .before .before .before .before .hear-once .ensures .0 .0, omega (arith, c .before .before .before .before .before .before .before .before .before .before .before .hear-once .ensures .0 .1, c .before .before .before .before .before .before .before .before .before .before .before .hear-once .kept .1 .1 .0)),
-)
+loop-again c =
+    let l = c .before .before .before .before .before .before .before .before .before .before .before .before .before .before .before .before .before .before .before .before .before .loop .inv in
+    let r = c .before .before .before .before .before .before .before .before .before .before .before .before .before .before .before .before .before .before .refill in
+    let a = c .before .before .before .before .before .before .before .before .before .before .answer in (
+      (r .kept .1 .0 ∙ l .0 .0, a .kept .1 .1 .0 ∙ l .0 .1, a .kept .1 .1 .1 .0 ∙ l .0 .2),
+      (a .kept .1 .1 .1 .1 .0 ∙ l .1 .0, a .kept .1 .1 .1 .1 .1 .0 ∙ l .1 .1),
+      (a .ensures .0 .0, omega (arith, a .ensures .0 .1, r .ensures .0 .1, r .kept .1 .0), omega (arith, a .ensures .0 .3, a .kept .1 .1 .0)),
+      served-on (r .result) (r .last .1 .0) (a .result .from) (sym (a .ensures .0 .2) ∙ c .before .before .if1 .left) (a .kept .1 .1 .0) (served-as (r .ensures .0 .2) (r .ensures .0 .3) (l .3)) (a .ensures .1 .1),
+    )
 
 same-length-6 : tie.Need-same-length-6 Inv-loop μ-loop
 same-length-6 c = search needs
@@ -94,14 +102,15 @@ serve-spec =
     closed-requires
     fresh-requires
     loop-holds
-    hear-once-requires
+    refill-requires
+    answer-requires
     same-length
     same-length-2
     same-length-3
     same-length-4
     same-length-5
     returns
-    sub-reads
+    sub-turns
     loop-less
     loop-again
     same-length-6

@@ -1,0 +1,107 @@
+-- `answer`: the page is begun anew, so that what it holds in the end is what this turn has answered.
+use mathlib.Core.Path.{refl, sym, ap}
+use native.Mathlib.Omega.{arith}
+use Rattle.lines.specs.declared.Part.{Part}
+use Rattle.lines.proofs.Gathering.{clash}
+use Rattle.stream.proofs.Streams.{stands-as, begun, after-flush, the-end, lent-part, some-bytes}
+use borrow.Author.Needs.{needs}
+use Rattle.stream.proofs.answer.Statement.{statement}
+use Rattle.stream.proofs.answer.Tie as tie
+
+hear-end-requires : tie.Need-hear-end-requires
+hear-end-requires c κs = search needs
+
+flush-requires : tie.Need-flush-requires
+flush-requires c κs = search needs
+
+same-length : tie.Need-same-length
+same-length c = search needs
+
+same-length-2 : tie.Need-same-length-2
+same-length-2 c = search needs
+
+same-length-3 : tie.Need-same-length-3
+same-length-3 c = search needs
+
+same-length-4 : tie.Need-same-length-4
+same-length-4 c = search needs
+
+returns : tie.Need-returns
+returns c =
+    let start = c .before .before .before .before .before .before .before .before .before .before .before .before .before .before .before .before .before .before in
+    let heard = c .before .before .before .before .before .before .before .hear-end .ensures in
+    let ends = c .before .before .before .before .before .before .before .before .before .before .before .before .if1 .taken in (
+      (start .pre .1 .0, refl, sym ends, omega (arith, ap (λ (p : Part). p .held) (c .flush .ensures .1), heard .0 .1)),
+      (
+        λ e h. clash (start .args .last .ends) ends e,
+        λ k h. stands-as (the-end _ k (start .args .last) (start .args .chunk .now) _ ends) (after-flush (heard .1 k (k .text) (begun _ h)) (c .flush .ensures .0) (c .flush .ensures .1) (c .flush .ensures .2)),
+      ),
+    )
+
+sub-hear-chunk : tie.Need-sub-hear-chunk
+sub-hear-chunk c = search needs
+
+part-hear-chunk-start : tie.Need-part-hear-chunk-start
+part-hear-chunk-start c = search needs
+
+part-hear-chunk-end : tie.Need-part-hear-chunk-end
+part-hear-chunk-end c = search needs
+
+hear-chunk-requires : tie.Need-hear-chunk-requires
+hear-chunk-requires c κs = search needs
+
+add-till : tie.Need-add-till
+add-till c =
+    let start = c .before .before .before .before .before .before .before .before .before .before .before .before .before .before .before .before .before .before .before .before .before in
+    omega (arith, c .before .before .before .before .before .before .before .before .before .hear-chunk .ensures .1 .0 .0, lent-part (start .args .last) (start .args .chunk .now) (start .pre .1 .0) (start .pre .1 .1), start .pre .1 .0, start .pre .1 .1, start .good)
+
+flush-requires-2 : tie.Need-flush-requires-2
+flush-requires-2 c κs = omega (arith, c .before .before .before .before .before .before .before .before .before .before .hear-chunk .ensures .0 .0, c .before .before .before .before .before .before .before .before .before .before .hear-chunk .kept .1 .1 .1 .0, c .before .before .before .before .before .before .before .before .before .before .before .before .before .before .before .before .before .before .before .before .before .before .pre .0 .page-long)
+
+same-length-5 : tie.Need-same-length-5
+same-length-5 c = search needs
+
+same-length-6 : tie.Need-same-length-6
+same-length-6 c = search needs
+
+same-length-7 : tie.Need-same-length-7
+same-length-7 c = search needs
+
+same-length-8 : tie.Need-same-length-8
+same-length-8 c = search needs
+
+returns-2 : tie.Need-returns-2
+returns-2 c =
+    let start = c .before .before .before .before .before .before .before .before .before .before .before .before .before .before .before .before .before .before .before .before .before .before .before in
+    let heard = c .before .before .before .before .before .before .before .before .before .before .before .hear-chunk .ensures in
+    let ends = c .before .before .before .before .before .before .before .before .before .before .before .before .before .before .before .before .before .if1 .left in
+    let long = lent-part (start .args .last) (start .args .chunk .now) (start .pre .1 .0) (start .pre .1 .1) in (
+      (omega (arith, heard .1 .0 .0, long, start .pre .1 .0), refl, sym ends, omega (arith, ap (λ (p : Part). p .held) (c .flush2 .ensures .1), heard .0 .1)),
+      (
+        λ e h. omega (arith, heard .1 .0 .1 (omega (arith, long, h))),
+        λ k h. stands-as (some-bytes _ k (start .args .last) (start .args .chunk .now) (omega (arith, heard .1 .0 .0, long)) ends) (after-flush (heard .1 .1 k (k .text) (begun _ h)) (c .flush2 .ensures .0) (c .flush2 .ensures .1) (c .flush2 .ensures .2)),
+      ),
+    )
+
+pub answer-spec : {M : Type 1} → statement M
+answer-spec =
+    tie.close
+    (tie.spec
+    hear-end-requires
+    flush-requires
+    same-length
+    same-length-2
+    same-length-3
+    same-length-4
+    returns
+    sub-hear-chunk
+    part-hear-chunk-start
+    part-hear-chunk-end
+    hear-chunk-requires
+    add-till
+    flush-requires-2
+    same-length-5
+    same-length-6
+    same-length-7
+    same-length-8
+    returns-2)

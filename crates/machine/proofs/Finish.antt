@@ -23,7 +23,7 @@ use Rattle.nearest.specs.Line.{lineMeasure, lineChoice}
 use Rattle.machine.specs.declared.Receiver.{Receiver}
 use Rattle.select.specs.Select.{limit, rowOf}
 use Rattle.machine.specs.Machine.{wayFrom, lastSymbols, lastWords}
-use Rattle.select.specs.Select.{endOf}
+use Rattle.sums.specs.Sums.{endOf}
 use Rattle.machine.proofs.Trellis.{codeOf, searchOf, laws, onward, some-up}
 use Rattle.machine.proofs.Arrivals.{up-sealed, end-is}
 use Rattle.machine.proofs.Keeps.{Keeps}

@@ -31,7 +31,7 @@ use Rattle.lists.specs.Tabled.{tabled}
 use Rattle.planes.specs.Planes.{carried, movedWords, movedOf, sameFrom, oldest}
 use Rattle.select.specs.Select.{arrive, winner, sumAt, firstStep, reachedOf, liveOf, followed, stepAt}
 use Rattle.machine.specs.Machine.{freshSums, opened, shut, wayFrom, agreedOf, releasedOf, grown, taking, soundCore, sound}
-use Rattle.select.specs.Select.{allUpTo}
+use Rattle.sums.specs.Sums.{allUpTo}
 use Rattle.machine.specs.Told.{givenOf, faultOf}
 use Rattle.sender.specs.Send as sender
 use Rattle.receiver.specs.declared.Start.the-variants.{Free, At}

@@ -34,7 +34,7 @@ use Rattle.planes.specs.Planes.{carried, movedWords, movedOf, sameFrom, oldest}
 use Rattle.select.specs.Select.{arrive, winner, sumAt, firstStep, reachedOf, liveOf, followed, stepAt}
 use Rattle.picks.specs.Picks.{numbersOf, symbolBy, keptIn}
 use Rattle.machine.specs.Machine.{freshSums, opened, wayFrom, agreedOf, releasedOf, grown, taking, lastSymbols, soundCore, sound}
-use Rattle.select.specs.Select.{endOf, allUpTo}
+use Rattle.sums.specs.Sums.{endOf, allUpTo}
 use Rattle.machine.specs.Told.{Told, withHeard, Reason, reason, faultOf, speakerOf, judgeSymbol, judgeOf, Fine}
 use Rattle.receiver.specs.declared.Answer.{Answer}
 use Rattle.receiver.specs.Doors.{symbolsOf, symbolAt, running, hearing, finishing}

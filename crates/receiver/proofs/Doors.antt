@@ -17,7 +17,7 @@ use Rattle.machine.specs.declared.Core.{Core}
 use Rattle.machine.specs.declared.Receiver.{Receiver}
 use Rattle.machine.specs.declared.Why.the-variants.{Done, NoRoom, Closed, Uneven}
 use Rattle.machine.specs.Machine.{shut, lastWords, sound}
-use Rattle.select.specs.Select.{endOf}
+use Rattle.sums.specs.Sums.{endOf}
 use Rattle.machine.specs.Machine.{wayFrom}
 use Rattle.machine.specs.Told.{Told, reason, speakerOf, Fine, machineOf, givenOf, withHeard}
 use Rattle.machine.proofs.Owed.{machine-same, sound-told, last-told, rest-many}

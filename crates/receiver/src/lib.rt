@@ -18,7 +18,7 @@ ghost use lib.ListN.{length};
 ghost use Rattle.points.specs.Points.{coordinates};
 ghost use Rattle.nearest.specs.Found.{heardAs};
 ghost use Rattle.machine.specs.Machine.{core, freshSums, shut, topSum, soundCore, sound};
-ghost use Rattle.select.specs.Select.{allUpTo};
+ghost use Rattle.sums.specs.Sums.{allUpTo};
 ghost use Rattle.machine.specs.Taken.{whole, TookIs};
 ghost use Rattle.machine.specs.Told.{faultOf, givenOf};
 ghost use Rattle.receiver.specs.Given.{plainWindow, startOf, startFits};
@@ -216,7 +216,7 @@ fn parts_fit(live: bool, c: Core, sums: &[u64; 16]) -> bool
     if !core_fits(c) {
         return false;
     }
-    select::all_up_to(sums, 4611686018427387904 + (c.taken as u64) * 1073741824)
+    sums::all_up_to(sums, 4611686018427387904 + (c.taken as u64) * 1073741824)
 }
 
 // Whether the receiver is open and in range.
@@ -429,7 +429,7 @@ pub fn finish(rx: Receiver, out: &mut [u32]) -> Answer
     let sums = rx.sums;
     let planes = rx.planes;
     let picks = rx.picks;
-    let s = select::end_state(&sums);
+    let s = sums::end_state(&sums);
     machine::write_words(core, &planes, &picks, s, core.pending, out);
     Answer {
         receiver: closed,

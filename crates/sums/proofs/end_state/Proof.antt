@@ -5,10 +5,10 @@ use mathlib.Core.Logic.{⊎-elim}
 use native.Mathlib.Omega.{arith}
 use lib.ListN.{getD}
 use Rattle.trellis.specs.Pick.{least}
-use Rattle.select.specs.Select.{endOf}
-use Rattle.select.proofs.CodeSelect.{least-less, least-kept}
-use Rattle.select.proofs.end_state.Statement.{statement}
-use Rattle.select.proofs.end_state.Tie as tie
+use Rattle.sums.specs.Sums.{endOf}
+use Rattle.sums.proofs.Least.{least-less, least-kept}
+use Rattle.sums.proofs.end_state.Statement.{statement}
+use Rattle.sums.proofs.end_state.Tie as tie
 
 abbrev Inv-loop : tie.InvT-loop
 Inv-loop sums best₀ s₀ best s = (1 ≤ s) × (s ≤ 16) × (best < s) × (best ≡ least (λ i. getD sums i 0) (s - 1))

@@ -1,15 +1,14 @@
--- `follow::all_reached`: the bits of the sums passed, beside the test of the others.
+-- `all_reached`: the bits of the sums passed, beside the test of the others.
 use mathlib.Core.Path.{_≡_, refl, sym, _∙_}
 use mathlib.Core.Bool.{_&&_}
 use Prim.Native.Nat.{_-_, _≤_}
 use native.Mathlib.Omega.{arith}
 use lib.Dec.{ltb}
 use lib.ListN.{drop}
-use Rattle.select.specs.Select.{limit}
-use Rattle.select.specs.Select.{allUpTo}
-use Rattle.select.proofs.UpTo.{together, together-ends}
-use Rattle.select.proofs.follow.all_reached.Statement.{statement}
-use Rattle.select.proofs.follow.all_reached.Tie as tie
+use Rattle.sums.specs.Sums.{limit, allUpTo}
+use Rattle.sums.proofs.UpTo.{together, together-ends}
+use Rattle.sums.proofs.all_reached.Statement.{statement}
+use Rattle.sums.proofs.all_reached.Tie as tie
 
 abbrev Inv-loop : tie.InvT-loop
 Inv-loop sums bits₀ s₀ bits s = (s ≤ 16) × (allUpTo (limit - 1) sums ≡ (ltb bits limit && allUpTo (limit - 1) (drop s sums)))

@@ -3,10 +3,10 @@ use mathlib.Core.Path.{_≡_, refl, sym, _∙_}
 use Prim.Native.Nat.{_-_, _≤_}
 use native.Mathlib.Omega.{arith}
 use lib.ListN.{drop}
-use Rattle.select.specs.Select.{allUpTo}
-use Rattle.select.proofs.UpTo.{passes, fails, ends}
-use Rattle.select.proofs.all_up_to.Statement.{statement}
-use Rattle.select.proofs.all_up_to.Tie as tie
+use Rattle.sums.specs.Sums.{allUpTo}
+use Rattle.sums.proofs.UpTo.{passes, fails, ends}
+use Rattle.sums.proofs.all_up_to.Statement.{statement}
+use Rattle.sums.proofs.all_up_to.Tie as tie
 
 abbrev Inv-loop : tie.InvT-loop
 Inv-loop sums top s₀ s = (s ≤ 16) × (allUpTo top sums ≡ allUpTo top (drop s sums))

@@ -1,17 +1,14 @@
--- `states::table_iv6`: sixteen rows.
+-- `tables::rows`: sixteen rows.
 use Prim.Native.Nat.{_≤_, _-_}
 use borrow.Author.Needs.{needs}
-use Rattle.rows.proofs.states.table_iv6.Statement.{statement}
-use Rattle.rows.proofs.states.table_iv6.Tie as tie
+use Rattle.rows.proofs.tables.rows.Statement.{statement}
+use Rattle.rows.proofs.tables.rows.Tie as tie
 
 abbrev Inv-loop : tie.InvT-loop
-Inv-loop t₀ t = t ≤ 16
+Inv-loop title table r₀ r = r ≤ 16
 
 abbrev μ-loop : tie.MeasureT-loop
-μ-loop t₀ t = 16 - t
-
-slice-aggregate-text : tie.Need-slice-aggregate-text Inv-loop μ-loop
-slice-aggregate-text c = search needs
+μ-loop title table r₀ r = 16 - r
 
 text-requires : tie.Need-text-requires Inv-loop μ-loop
 text-requires c κs = search needs
@@ -19,11 +16,17 @@ text-requires c κs = search needs
 loop-holds : tie.Need-loop-holds Inv-loop μ-loop
 loop-holds c = search needs
 
+labels-requires : tie.Need-labels-requires Inv-loop μ-loop
+labels-requires c κs = search needs
+
+next-states-requires : tie.Need-next-states-requires Inv-loop μ-loop
+next-states-requires c κs = search needs
+
 states-before-requires : tie.Need-states-before-requires Inv-loop μ-loop
 states-before-requires c κs = search needs
 
-add-t : tie.Need-add-t Inv-loop μ-loop
-add-t c = search needs
+add-r : tie.Need-add-r Inv-loop μ-loop
+add-r c = search needs
 
 loop-less : tie.Need-loop-less Inv-loop μ-loop
 loop-less c = search needs
@@ -34,17 +37,18 @@ loop-again c = search needs
 returns : tie.Need-returns Inv-loop μ-loop
 returns c = search needs
 
-pub table-iv6-spec : {M : Type 1} → statement M
-table-iv6-spec =
+pub rows-spec : {M : Type 1} → statement M
+rows-spec =
     tie.close
     (tie.spec
     Inv-loop
     μ-loop
-    slice-aggregate-text
     text-requires
     loop-holds
+    labels-requires
+    next-states-requires
     states-before-requires
-    add-t
+    add-r
     loop-less
     loop-again
     returns)

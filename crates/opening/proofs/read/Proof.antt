@@ -1,9 +1,9 @@
--- `receiver::read`: a width, and then nothing or the rest.
+-- `opening::read`: a width, and then nothing or the rest.
 use mathlib.Core.Path.{_≡_, sym, _∙_}
 use Rattle.requests.proofs.Readers.{receiver-bad, receiver-plain, receiver-more}
 use borrow.Author.Needs.{needs}
-use Rattle.requests.proofs.receiver.read.Statement.{statement}
-use Rattle.requests.proofs.receiver.read.Tie as tie
+use Rattle.opening.proofs.read.Statement.{statement}
+use Rattle.opening.proofs.read.Tie as tie
 
 before-requires : tie.Need-before-requires
 before-requires c κs = search needs

@@ -1,9 +1,9 @@
--- `receiver::window`: a window, and then the start.
+-- `opening::window`: a window, and then the start.
 use mathlib.Core.Path.{_≡_, sym, _∙_}
 use Rattle.requests.proofs.Readers.{window-alone, window-more}
 use borrow.Author.Needs.{needs}
-use Rattle.requests.proofs.receiver.window.Statement.{statement}
-use Rattle.requests.proofs.receiver.window.Tie as tie
+use Rattle.opening.proofs.window.Statement.{statement}
+use Rattle.opening.proofs.window.Tie as tie
 
 before-requires : tie.Need-before-requires
 before-requires c κs = search needs

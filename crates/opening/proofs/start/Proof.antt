@@ -1,10 +1,10 @@
--- `receiver::start`: alone it is `free`, else `at` and a number.
+-- `opening::start`: alone it is `free`, else `at` and a number.
 use mathlib.Core.Path.{_≡_, refl, sym, _∙_}
 use borrow.Author.Tests.{not-true, not-false}
 use Rattle.requests.proofs.Readers.{start-alone, start-more}
 use borrow.Author.Needs.{needs}
-use Rattle.requests.proofs.receiver.start.Statement.{statement}
-use Rattle.requests.proofs.receiver.start.Tie as tie
+use Rattle.opening.proofs.start.Statement.{statement}
+use Rattle.opening.proofs.start.Tie as tie
 
 before-requires : tie.Need-before-requires
 before-requires c κs = search needs

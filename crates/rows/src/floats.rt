@@ -21,7 +21,8 @@ fn heard(v: f32) -> Given {
     }
 }
 
-fn say_given(value: i32, number: u64) {
+fn say_given(lead: &[u8], value: i32, number: u64) {
+    say::text(lead);
     let mut page = [0u8; 21];
     let n = page::put_whole(&mut page, 0, value);
     say::text(&page[..n]);
@@ -30,20 +31,17 @@ fn say_given(value: i32, number: u64) {
 
 fn row(name: &[u8], v: f32, value: i32, number: u64) {
     let is = heard(v);
-    say::text(b"float ");
     say::text(name);
-    say::text(b"  should be ");
-    say_given(value, number);
-    say::text(b"  is ");
-    say_given(is.value, is.number);
+    say_given(b"  should be ", value, number);
+    say_given(b"  is ", is.value, is.number);
     say::verdict(is.value == value && is.number == number);
 }
 
 pub fn all() {
     say::text(b"\nSamples: 128 times a float, halves to the even neighbour\n");
-    row(b"1/256", 0.00390625, 0, 0);
-    row(b"3/256", 0.01171875, 2, 0);
-    row(b"-3/256", -0.01171875, -2, 0);
-    row(b"64.00390625", 64.00390625, 8192, 0);
-    row(b"64.0625", 64.0625, 0, 5);
+    row(b"float 1/256", 0.00390625, 0, 0);
+    row(b"float 3/256", 0.01171875, 2, 0);
+    row(b"float -3/256", -0.01171875, -2, 0);
+    row(b"float 64.00390625", 64.00390625, 8192, 0);
+    row(b"float 64.0625", 64.0625, 0, 5);
 }

@@ -27,9 +27,7 @@ fn points(out: [i32; 4]) -> u64 {
 }
 
 fn asked(u: u32, word: u32) {
-    say::text(b"u ");
-    say::count(u as u64);
-    say::text(b" word ");
+    say::bits(b"u # word ", u as u64, 4);
     say::count(word as u64);
 }
 

@@ -7,12 +7,12 @@ use mathlib.Core.Path.{_≡_}
 use mathlib.Core.List.{List, [], _∷_, _++_}
 use lib.ListN.{length, drop}
 use lib.IntN.{ℤ}
 use Rattle.text.specs.declared.number.Whole.{Whole}
 use Rattle.text.specs.declared.number.Whole.the-variants as whole
-use Rattle.text.specs.declared.number.Many.{Many}
-use Rattle.text.specs.declared.number.Many.the-variants as many
+use Rattle.wholes.specs.declared.Many.{Many}
+use Rattle.wholes.specs.declared.Many.the-variants as many
 use Rattle.text.specs.Token.{tokens}
 use Rattle.text.specs.Number.{wholeOf}
 
 abbrev pub before : Whole → List ℤ → List ℤ
 before (whole.Got z) zs = z ∷ zs

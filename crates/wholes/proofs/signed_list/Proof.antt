@@ -1,4 +1,4 @@
--- `number::signed_list`: token by token, by the laws of Lists.
+-- `wholes::signed_list`: token by token, by the laws of Lists.
 use Prim.Native.Nat.{_+_, _-_, _≤_}
 use mathlib.Core.Path.{_≡_, sym, _∙_}
 use native.Mathlib.Omega.{arith}
@@ -6,10 +6,10 @@ use borrow.Author.Needs.{needs}
 use lib.ListN.{length, length-set}
 use mir.Syntax.{w32}
 use mir.ValLaws.{toZ-ofZ}
 use Rattle.text.proofs.Tokens.{token-end}
-use Rattle.text.proofs.Lists.{Listed, none-listed, list-full, list-bad, list-done, list-more}
-use Rattle.text.proofs.number.signed_list.Statement.{statement}
-use Rattle.text.proofs.number.signed_list.Tie as tie
+use Rattle.wholes.proofs.Lists.{Listed, none-listed, list-full, list-bad, list-done, list-more}
+use Rattle.wholes.proofs.signed_list.Statement.{statement}
+use Rattle.wholes.proofs.signed_list.Tie as tie
 
 abbrev Inv-loop : tie.InvT-loop
 Inv-loop s list₀ from₀ k₀ list from k = (from ≤ length s) × (k ≤ length list) × Listed s list₀ from k list

@@ -8,15 +8,15 @@ use native.Mathlib.Numerals.{add-one}
 use lib.IntN.{ℤ}
 use lib.ListN.{length, take, drop, set, length-append, length-take, length-drop, length-set, take-append-drop}
 use lib.Seq.{drop-drop, drop-set-lt, take-suc-set, take-all, append-snoc, length-take-le}
 use Rattle.text.specs.Token.{tokens, lengthBefore, Cuts}
 use Rattle.text.specs.Number.{wholeOf}
-use Rattle.text.specs.Many.{before, firstWholes, more, oneMore, manyOf, Lists}
+use Rattle.wholes.specs.Many.{before, firstWholes, more, oneMore, manyOf, Lists}
 use Rattle.text.specs.declared.number.Whole.{Whole}
 use Rattle.text.specs.declared.number.Whole.the-variants as whole
-use Rattle.text.specs.declared.number.Many.{Many}
-use Rattle.text.specs.declared.number.Many.the-variants as many
+use Rattle.wholes.specs.declared.Many.{Many}
+use Rattle.wholes.specs.declared.Many.the-variants as many
 use Rattle.text.proofs.Digits.{to-end}
 use Rattle.text.proofs.Tokens.{not-empty, last-token, more-tokens, first-token}
 
 -- k numbers are in the list, there is room for some more, and the tokens from `from` on are still to be read
 pub record Listed (s : List ℕ) (list₀ : List ℤ) (from k : ℕ) (list : List ℤ) : Type 0 where

@@ -1,5 +1,6 @@
 // Rows on standard output. A form is a text with holes, which are filled from the bits of one number, left to right: `0` is one bit, `@`
-// the two of a label, `#` the four of a count, `+` the four of a coordinate, which is negative from 8 on.
+// the two of a label, `#` the four of a count, `~` the sixteen of a larger one, `-` a minus if the bit is set, `+` the four of a coordinate,
+// which is negative from 8 on.
 use libc::STDOUT_FILENO;
 ghost use Prim.Native.Nat.{_<_};
 
@@ -13,9 +14,10 @@ fn after(b: u8, left: u32) -> u32
     ensures { λ r. ⌜ r < 64 ⌝ }
 {
     let w = match b {
-        b'0' => 1,
+        b'0' | b'-' => 1,
         b'@' => 2,
         b'#' | b'+' => 4,
+        b'~' => 16,
         _ => 0,
     };
     if w <= left { left - w } else { left }
@@ -46,17 +48,23 @@ fn hole(b: u8, n: u64) {
         b'@' => byte(letter(n & 3)),
         b'#' => count(n & 15),
         b'+' => coordinate(n & 15),
+        b'~' => count(n & 65535),
+        b'-' => minus(n & 1),
         _ => byte(b),
     }
 }
 
+fn minus(n: u64) {
+    if n == 1 {
+        byte(b'-');
+    }
+}
+
 fn coordinate(n: u64) {
+    minus(n >> 3);
     if n < 8 {
         count(n);
-        return;
-    }
-    byte(b'-');
-    if n < 16 {
+    } else if n < 16 {
         count(16 - n);
     }
 }

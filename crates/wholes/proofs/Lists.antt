@@ -1,16 +1,16 @@
 -- Laws of reading a list of whole numbers token by token, and that its promise allows one result alone.
 use Prim.Native.Nat.{ℕ, zero, suc, _+_, _-_, _≤_, _<_}
 use mathlib.Core.Path.{_≡_, refl, sym, ap, _∙_}
-use mathlib.Core.List.{List, [], _∷_, _++_, append-assoc, append-nil}
+use mathlib.Core.List.{List, [], _∷_, _++_, append-nil}
 use native.Mathlib.Omega.{arith}
 use native.Mathlib.Nat.{add-sub-cancel-left}
 use native.Mathlib.Numerals.{add-one}
 use lib.IntN.{ℤ}
-use lib.ListN.{length, take, drop, set, length-append, length-take, length-drop, length-set, take-append-drop}
+use lib.ListN.{length, take, drop, set, length-drop, length-set, take-append-drop}
 use lib.Seq.{drop-drop, drop-set-lt, take-suc-set, take-all, append-snoc, length-take-le}
 use Rattle.text.specs.Token.{tokens, lengthBefore, Cuts}
 use Rattle.text.specs.Number.{wholeOf}
-use Rattle.wholes.specs.Many.{before, firstWholes, more, oneMore, manyOf, Lists}
+use Rattle.wholes.specs.Many.{firstWholes, more, oneMore, manyOf, Lists}
 use Rattle.text.specs.declared.number.Whole.{Whole}
 use Rattle.text.specs.declared.number.Whole.the-variants as whole
 use Rattle.wholes.specs.declared.Many.{Many}

@@ -1,5 +1,5 @@
 -- `opening::read`: a width, and then nothing or the rest.
-use mathlib.Core.Path.{_≡_, sym, _∙_}
+use mathlib.Core.Path.{sym, _∙_}
 use Rattle.requests.proofs.Readers.{receiver-bad, receiver-plain, receiver-more}
 use borrow.Author.Needs.{needs}
 use Rattle.opening.proofs.read.Statement.{statement}

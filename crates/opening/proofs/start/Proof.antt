@@ -1,5 +1,5 @@
 -- `opening::start`: alone it is `free`, else `at` and a number.
-use mathlib.Core.Path.{_≡_, refl, sym, _∙_}
+use mathlib.Core.Path.{refl, sym, _∙_}
 use borrow.Author.Tests.{not-true, not-false}
 use Rattle.requests.proofs.Readers.{start-alone, start-more}
 use borrow.Author.Needs.{needs}

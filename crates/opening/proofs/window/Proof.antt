@@ -1,5 +1,5 @@
 -- `opening::window`: a window, and then the start.
-use mathlib.Core.Path.{_≡_, sym, _∙_}
+use mathlib.Core.Path.{sym, _∙_}
 use Rattle.requests.proofs.Readers.{window-alone, window-more}
 use borrow.Author.Needs.{needs}
 use Rattle.opening.proofs.window.Statement.{statement}

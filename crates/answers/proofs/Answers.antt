@@ -72,10 +72,12 @@ four-of (a ∷ b ∷ []) h = absurd (omega arith)
 four-of (a ∷ b ∷ c ∷ []) h = absurd (omega arith)
 four-of (a ∷ b ∷ c ∷ d ∷ out) h = refl
 
-regroup : (s n a b c d e : List ℕ) → n ++ (s ++ a ++ (s ++ b ++ (s ++ c ++ (s ++ d ++ [])))) ++ e ≡ n ++ (s ++ a) ++ (s ++ b) ++ (s ++ c) ++ (s ++ d) ++ e
+regroup : (s n a b c d e : List ℕ) → n ++ (s ++ a ++ (s ++ b ++ (s ++ c ++ (s ++ d ++ [])))) ++ e ≡ n ++ (s ++ a ++ (s ++ b)) ++ (s ++ c ++ (s ++ d)) ++ e
 regroup s n a b c d e = simp (append-assoc, append-nil)
 
 pub all-sent : (n : ℕ) (out : List ℤ) → n ≡ 0 → 4 ≤ length out
-    → decimal n ++ (bytes " " ++ whole (getD out 0 (pos 0))) ++ (bytes " " ++ whole (getD out 1 (pos 0))) ++ (bytes " " ++ whole (getD out 2 (pos 0))) ++ (bytes " " ++ whole (getD out 3 (pos 0))) ++ bytes "\n" ≡ sentLine n out
+    → decimal n ++ (bytes " " ++ whole (getD out 0 (pos 0)) ++ (bytes " " ++ whole (getD out 1 (pos 0)))) ++ (bytes " " ++ whole (getD out 2 (pos 0)) ++ (bytes " " ++ whole (getD out 3 (pos 0)))) ++ bytes "\n" ≡ sentLine n out
 unfolding sentLine
-all-sent n out e h = sym (rw (eq-eqb n 0 e, le-leb 4 (length out) h, four-of out h) (regroup (bytes " ") (decimal n) _ _ _ _ (bytes "\n")))
+all-sent n out e h =
+    let w : ℕ → List ℕ = λ i. whole (getD out i (pos 0)) in
+    sym (rw (eq-eqb n 0 e, le-leb 4 (length out) h, four-of out h) (regroup (bytes " ") (decimal n) (w 0) (w 1) (w 2) (w 3) (bytes "\n")))

@@ -35,10 +35,8 @@ pub fn sent(page: &mut [u8], at: usize, n: u32, out: &[i32]) -> usize
     if out.len() < 4 {
         return phrases::end(page, p);
     }
-    let p = phrases::next_whole(page, p, out[0]);
-    let p = phrases::next_whole(page, p, out[1]);
-    let p = phrases::next_whole(page, p, out[2]);
-    let p = phrases::next_whole(page, p, out[3]);
+    let p = phrases::next_pair(page, p, out[0], out[1]);
+    let p = phrases::next_pair(page, p, out[2], out[3]);
     phrases::end(page, p)
 }
 

@@ -24,7 +24,8 @@ use Rattle.nearest.specs.Line.{distance, lineDistance}
 use Rattle.nearest.specs.Found.{costOf, weighedOf}
 use Rattle.lists.specs.Tabled.{tabled}
 use Rattle.planes.specs.Planes.{carried, movedWords, movedOf, sameFrom, oldest}
-use Rattle.select.specs.Select.{arrive, winner, sumAt, firstStep, reachedOf, liveOf, followed, stepAt, endOf, allUpTo}
+use Rattle.select.specs.Select.{arrive, winner, sumAt, firstStep, reachedOf, liveOf, followed, stepAt}
+use Rattle.sums.specs.Sums.{endOf, allUpTo}
 use Rattle.picks.specs.Picks.{numbersOf, symbolBy, keptIn}
 use Rattle.reasons.specs.Reason.{givenOf}
 use Rattle.told.specs.Told.{faultOf}

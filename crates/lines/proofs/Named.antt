@@ -13,13 +13,13 @@ use Rattle.text.specs.Bytes.{bytes}
 use Rattle.page.specs.Page.{Puts}
 use Rattle.text.specs.Token.{tokens, sameBytes}
 use Rattle.text.specs.Number.{wholeOf, hexOf}
-use Rattle.text.specs.Many.{firstWholes, manyOf, before, oneMore}
+use Rattle.wholes.specs.Many.{firstWholes, manyOf, before, oneMore}
 use Rattle.text.specs.declared.number.Number.{Number}
 use Rattle.text.specs.declared.number.Number.the-variants as number
 use Rattle.text.specs.declared.number.Whole.{Whole}
 use Rattle.text.specs.declared.number.Whole.the-variants as whole
-use Rattle.text.specs.declared.number.Many.{Many}
-use Rattle.text.specs.declared.number.Many.the-variants as many
+use Rattle.wholes.specs.declared.Many.{Many}
+use Rattle.wholes.specs.declared.Many.the-variants as many
 use Rattle.requests.specs.declared.Request.{Request}
 use Rattle.requests.specs.declared.Request.the-variants as request
 use Rattle.requests.specs.Verb.{just, both, one, two, anyNumber, capNumber, senderOf, finishOf, sendOf, sampleOf, startOf, windowOf, openOf, receiverOf, heardOf, pieceOf, filledBy}

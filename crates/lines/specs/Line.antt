@@ -12,7 +12,7 @@ use lib.Dec.{ltb}
 use lib.IntN.{ℤ}
 use lib.ListN.{length, take, drop}
 use Rattle.text.specs.Token.{tokens}
-use Rattle.text.specs.Many.{firstWholes}
+use Rattle.wholes.specs.Many.{firstWholes}
 use Rattle.page.specs.Page.{Puts}
 use Rattle.protocol.specs.Request.{requestOf}
 use Rattle.desk.specs.declared.Desk.{Desk}

@@ -70,10 +70,11 @@ pub fn reply(
     let at = lab.at;
     let desk = lab.desk;
     let part = lab.part;
+    let none = fresh();
     if part.long {
         return Lab {
             desk,
-            part: fresh(),
+            part: none,
             at: answers::unread(page, at),
             on: lab.on,
         };
@@ -84,7 +85,7 @@ pub fn reply(
     let next = done.desk;
     Lab {
         desk: next,
-        part: fresh(),
+        part: none,
         at: done.at,
         on: lab.on,
     }

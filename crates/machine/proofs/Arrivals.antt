@@ -31,7 +31,8 @@ use Rattle.wei.specs.State.{before, between}
 use Rattle.nearest.specs.declared.Received.{Received}
 use Rattle.nearest.specs.Line.{lineMeasure}
 use Rattle.nearest.specs.Found.{weighedOf}
-use Rattle.select.specs.Select.{limit, sixteen, arrive, winner, sumAt, fromAt, rowOf, endOf}
+use Rattle.select.specs.Select.{limit, sixteen, arrive, winner, sumAt, fromAt, rowOf}
+use Rattle.sums.specs.Sums.{endOf}
 use Rattle.select.proofs.Lists.{sixteen-at}
 use Rattle.machine.proofs.Trellis.{searchOf, pickOf, laws, cost-at}
 use Rattle.points.specs.declared.Accord.{Accord}

@@ -21,7 +21,8 @@ use Rattle.wei.specs.Symbol.{Symbol}
 use Rattle.nearest.specs.declared.Received.{Received}
 use Rattle.nearest.specs.Line.{lineMeasure, lineChoice}
 use Rattle.machine.specs.declared.Receiver.{Receiver}
-use Rattle.select.specs.Select.{limit, rowOf, endOf}
+use Rattle.select.specs.Select.{limit, rowOf}
+use Rattle.sums.specs.Sums.{endOf}
 use Rattle.machine.specs.Machine.{wayFrom, lastSymbols, lastWords}
 use Rattle.machine.proofs.Trellis.{searchOf, laws, onward, some-up}
 use Rattle.machine.proofs.Arrivals.{up-sealed, end-is}

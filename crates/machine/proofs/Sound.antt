@@ -21,7 +21,7 @@ use Rattle.nearest.specs.declared.Received.{Received}
 use Rattle.nearest.specs.Line.{BothInRange}
 use Rattle.machine.specs.declared.Core.{Core}
 use Rattle.machine.specs.declared.Receiver.{Receiver}
-use Rattle.select.proofs.UpTo.{and-both, up-to-all, all-up-to}
+use Rattle.sums.proofs.UpTo.{and-both, up-to-all, all-up-to}
 use Rattle.picks.specs.Picks.{symbolBy}
 use Rattle.machine.specs.Machine.{topSum, soundCore, sound, pendingAt, wayFrom, keptOf, agreedOf, releasedOf, grown}
 use Rattle.machine.specs.Taken.{CoreFits, SumsFit, Ready}

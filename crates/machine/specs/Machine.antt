@@ -34,7 +34,8 @@ use Rattle.machine.specs.declared.Core.{Core}
 use Rattle.machine.specs.declared.Receiver.{Receiver}
 use Rattle.reasons.specs.declared.Why.{Why}
 use Rattle.reasons.specs.declared.Why.the-variants.{Done, TooMany, Full, NoRoom}
-use Rattle.select.specs.Select.{limit, sixteen, sumAt, stepAt, prevIn, endOf, allUpTo}
+use Rattle.select.specs.Select.{limit, sixteen, sumAt, stepAt, prevIn}
+use Rattle.sums.specs.Sums.{endOf, allUpTo}
 use Rattle.picks.specs.Picks.{numbersOf, symbolIn, keptIn}
 use Rattle.told.specs.Told.{Told}
 

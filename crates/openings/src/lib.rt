@@ -10,7 +10,7 @@ ghost use mathlib.Core.Path.{_≡_};
 ghost use mathlib.Core.Bool.{true, cond, _&&_};
 ghost use Rattle.trellis.specs.Words.{firstTurn};
 ghost use Rattle.machine.specs.Machine.{core, freshSums, shut, topSum, soundCore, sound};
-ghost use Rattle.select.specs.Select.{allUpTo};
+ghost use Rattle.sums.specs.Sums.{allUpTo};
 ghost use Rattle.openings.specs.Given.{plainWindow, startOf, startFits};
 ghost use Rattle.openings.specs.Opening.{Opens};
 
@@ -59,7 +59,7 @@ fn fresh_sums(start: Start) -> [u64; 16]
     match start {
         Start::Free => [0u64; 16],
         Start::At(s) => {
-            let mut sums = [4611686018427387904u64; 16];
+            let mut sums = [sums::LIMIT; 16];
             sums[s as usize] = 0;
             sums
         }
@@ -166,7 +166,7 @@ pub fn parts_fit(live: bool, c: Core, sums: &[u64; 16]) -> bool
     if !core_fits(c) {
         return false;
     }
-    select::all_up_to(sums, 4611686018427387904 + (c.taken as u64) * 1073741824)
+    sums::all_up_to(sums, sums::LIMIT + (c.taken as u64) * 1073741824)
 }
 
 // Whether the receiver is open and in range.

@@ -64,6 +64,10 @@ module _ {page : List ℕ} {at : ℕ} {r : ℕ} {page' : List ℕ} where
   pub says-next : (x : ℤ) → SFits w32 x → Puts page at (bytes " " ++ whole (toZ w32 (ofZ w32 x))) r page' → Puts page at (bytes " " ++ whole x) r page'
   says-next x f p = rw (toZ-ofZ w32 x f) at p
 
+  pub says-pair : (x y : ℤ) → SFits w32 x → SFits w32 y → Puts page at (bytes " " ++ whole (toZ w32 (ofZ w32 x)) ++ (bytes " " ++ whole (toZ w32 (ofZ w32 y)))) r page'
+      → Puts page at (bytes " " ++ whole x ++ (bytes " " ++ whole y)) r page'
+  says-pair x y f g p = rw (toZ-ofZ w32 x f, toZ-ofZ w32 y g) at p
+
 -- ---- lengths
 
 short : (k n : ℕ) → length (decimalIn k n) ≤ k
@@ -106,6 +110,9 @@ wholes-short (z ∷ zs) = rw length-append (omega (arith, wholes-short zs, whole
 module _ {page : List ℕ} {at : ℕ} {r : ℕ} {page' : List ℕ} where
   pub next-near : (x : ℤ) → Puts page at (bytes " " ++ whole x) r page' → r ≤ at + 22
   next-near x p = omega (arith, p .next, whole-short x)
+
+  pub pair-near : (x y : ℤ) → Puts page at (bytes " " ++ whole x ++ (bytes " " ++ whole y)) r page' → r ≤ at + 44
+  pair-near x y p = omega (arith, simp length-append at (p .next), whole-short x, whole-short y)
 
   pub counts-near : (m n : ℕ) → Puts page at (decimal m ++ bytes " " ++ decimal n ++ bytes " ") r page' → r ≤ at + 42
   counts-near m n p = omega (arith, simp length-append at (p .next), decimal-short m, decimal-short n)

@@ -26,6 +26,15 @@ pub fn next_whole(page: &mut [u8], at: usize, x: i32) -> usize
     page::put_whole(page, p, x)
 }
 
+// Two whole numbers, a space before each.
+pub fn next_pair(page: &mut [u8], at: usize, x: i32, y: i32) -> usize
+    requires { ⌜ at + 44 ≤ length (now page) ⌝ }
+    ensures { λ r. ⌜ Puts (now (page .entry)) at (bytes " " ++ whole x ++ (bytes " " ++ whole y)) r (now (page .exit)) ⌝ }
+{
+    let p = next_whole(page, at, x);
+    next_whole(page, p, y)
+}
+
 pub fn place(page: &mut [u8], at: usize, n: u64) -> usize
     requires { ⌜ at + 27 ≤ length (now page) ⌝ }
     ensures { λ r. ⌜ Puts (now (page .entry)) at (placeText n) r (now (page .exit)) ⌝ }

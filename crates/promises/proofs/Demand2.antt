@@ -40,7 +40,7 @@ use Rattle.nearest.specs.declared.Received.{Received}
 use Rattle.nearest.proofs.Laws.{line-chooses}
 use Rattle.nearest.specs.Line.{lineMeasure, lineChoice}
 use Rattle.openings.specs.Opening.{Receiver}
-use Rattle.told.specs.Told.{Fine, speakerOf}
+use Rattle.told.specs.Told.{Fine, speakerOf, codeOf, wordsOf}
 use Rattle.openings.specs.declared.Start.{Start}
 use Rattle.openings.specs.Given.{startOf}
 use Rattle.told.specs.Piece.{symbolsOf}
@@ -53,7 +53,6 @@ use Rattle.promises.proofs.Follows.{toldOf, follows, answers}
 use Rattle.told.proofs.Speaks.{speaks}
 use Rattle.promises.proofs.Demand3.{whole}
 use Rattle.promises.proofs.Clean.{exact, hits, first-sent, read-back, floats, agreed-sent, every-take, accepted}
-use Rattle.told.specs.Told.{codeOf, wordsOf}
 
 -- ---- the least sum
 

@@ -1,4 +1,4 @@
-// Whether the verb is `receiver`; if not, it is handed on to the next. The tokens after it are read by `requests`.
+// Whether the verb is `receiver`; if not, it is handed on to the next. The tokens after it are read by `opening`.
 use crate::sender;
 use requests::Request;
 use text::token;
@@ -10,7 +10,7 @@ pub fn tried(word: &[u8], rest: &[u8]) -> Request
     ensures { λ r. ⌜ r ≡ receiverVerb (now (word .entry)) (tokens (now (rest .entry))) ⌝ }
 {
     if token::same(word, b"receiver") {
-        return requests::receiver::read(rest);
+        return verb_receiver::read(rest);
     }
     sender::tried(word, rest)
 }

@@ -16,7 +16,7 @@ use Rattle.machine.specs.declared.Core.{Core}
 use Rattle.machine.specs.declared.Receiver.{Receiver}
 use Rattle.reasons.specs.declared.Why.the-variants.{Done, NoRoom, Closed, Uneven}
 use Rattle.machine.specs.Machine.{shut, lastWords, sound, wayFrom, machineOf}
-use Rattle.select.specs.Select.{endOf}
+use Rattle.sums.specs.Sums.{endOf}
 use Rattle.told.specs.Told.{Told, speakerOf, Fine, withHeard}
 use Rattle.reasons.specs.Reason.{reason, givenOf}
 use Rattle.machine.proofs.Owed.{machine-same, sound-told, last-told, rest-many}

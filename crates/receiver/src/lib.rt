@@ -221,7 +221,7 @@ pub fn finish(rx: Receiver, out: &mut [u32]) -> Answer
     let sums = rx.sums;
     let planes = rx.planes;
     let picks = rx.picks;
-    let s = select::end_state(&sums);
+    let s = sums::end_state(&sums);
     machine::write_words(core, &planes, &picks, s, core.pending, out);
     Answer {
         receiver: closed,

@@ -6,13 +6,13 @@ use mathlib.Core.List.{List, [], _∷_}
 use Rattle.text.specs.Bytes.{bytes}
 use Rattle.text.specs.Token.{sameBytes}
 use Rattle.text.specs.Number.{hexOf}
-use Rattle.text.specs.Many.{manyOf}
-use Rattle.text.specs.declared.number.Many.{Many}
-use Rattle.text.specs.declared.number.Many.the-variants as many
+use Rattle.wholes.specs.Many.{manyOf}
+use Rattle.wholes.specs.declared.Many.{Many}
+use Rattle.wholes.specs.declared.Many.the-variants as many
 use Rattle.text.specs.declared.number.Number.{Number}
 use Rattle.text.specs.declared.number.Number.the-variants as number
 use Rattle.text.proofs.Digits.{got-most}
-use Rattle.text.proofs.Lists.{many-most}
+use Rattle.wholes.proofs.Lists.{many-most}
 use Rattle.requests.specs.declared.Request.{Request}
 use Rattle.requests.specs.declared.Request.the-variants as request
 use Rattle.requests.specs.Verb.{anyNumber, capNumber, just, both, one, two, senderOf, finishOf, sendOf, sampleOf, startOf, windowOf, openOf, receiverOf, heardOf, pieceOf, Fit}

@@ -13,8 +13,8 @@ use lib.Seq.{take-all}
 use Rattle.text.specs.Bytes.{bytes}
 use Rattle.text.specs.Token.{tokens, lengthBefore, Cuts, sameBytes}
 use Rattle.text.specs.Number.{hexOf}
-use Rattle.text.specs.Many.{Lists}
-use Rattle.text.specs.declared.number.Many.{Many}
+use Rattle.wholes.specs.Many.{Lists}
+use Rattle.wholes.specs.declared.Many.{Many}
 use Rattle.text.specs.declared.number.Number.{Number}
 use Rattle.text.specs.declared.number.Number.the-variants as number
 use Rattle.text.proofs.Digits.{to-end}

@@ -1,10 +1,10 @@
-// What the tokens after each verb of the laboratory's protocol ask for: a file for each verb, and the requests that they name.
+// What the tokens after each verb of the laboratory's protocol ask for: a file for each verb, and the requests that they name. The verb
+// `receiver` has a crate of its own, `opening`.
 // A number is decimal digits and nothing else, zeros in front allowed; U, W, WINDOW, S and CAP are 0 to 4294967295, and a CAP is
 // 4096 at most. A coordinate C may have one `-` before it and has 32 bits. HEX is eight hexadecimal digits, small or large.
 // Other tokens are unread. specs/Verb.antt says what each verb asks for.
 pub mod finish;
 pub mod piece;
-pub mod receiver;
 pub mod sample;
 pub mod send;
 pub mod sender;
@@ -36,7 +36,7 @@ pub enum Request {
 // The longest output that a line can ask for.
 const MOST: u32 = 4096;
 
-fn number_of(token: &[u8]) -> Number
+pub fn number_of(token: &[u8]) -> Number
     ensures { λ r. ⌜ r ≡ anyNumber (now (token .entry)) ⌝ }
 {
     number::decimal(token, 4294967295)

@@ -1,9 +1,8 @@
 // `piece CAP C C C C ..`: the number of an output, and then nothing or coordinates, which go to the start of the list that is lent.
 use crate::Request;
-use text::number;
-use text::number::Many;
 use text::number::Number;
 use text::token;
+use wholes::Many;
 ghost use mathlib.Core.Path.{_≡_};
 ghost use lib.ListN.{length};
 ghost use Rattle.text.specs.Token.{tokens};
@@ -20,7 +19,7 @@ pub fn read(rest: &[u8], coordinates: &mut [i32]) -> Request
     if n == rest.len() {
         return Request::Piece { cap, count: 0 };
     }
-    let Many::Got(count) = number::signed_list(&rest[n + 1..], coordinates) else {
+    let Many::Got(count) = wholes::signed_list(&rest[n + 1..], coordinates) else {
         return Request::Unread;
     };
     Request::Piece { cap, count }

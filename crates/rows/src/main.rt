@@ -1,16 +1,13 @@
 // Runs the published rows and tables and prints each with what it should be and what it is. What should be is typed from 01 and
-// from the print of 000 with the one repair that 01 names.
+// from the print of 000 with the one repair that 01 names: each table stands beside the one function that asks for its rows.
 mod floats;
-mod labels;
 mod received;
 mod say;
-mod states;
+mod tables;
 mod words;
 
 fn main() {
-    labels::table_iv2();
-    states::table_iv5();
-    states::table_iv6();
+    tables::all();
     words::all();
     floats::all();
     received::all();

@@ -1,110 +1,65 @@
-// The receiver's rows of 01: what each piece and each finish gives back, and the words written into five nines.
+// The receiver's rows of 01: symbols taken, words written and the number that each piece and each finish gives back, and the output
+// that was five nines before, a digit each of one number.
 use crate::say;
 use machine::Receiver;
 use openings::Start;
 use points::Accord;
 use reasons::Why;
 
-// Symbols taken, words written, the number, and the output.
-struct Shown {
-    taken: usize,
-    written: usize,
-    number: u32,
-    out: [u32; 5],
-}
-
-fn say_word(n: u32) {
-    say::text(b" ");
-    say::unsigned(n);
-}
-
-fn say_shown(r: Shown) {
-    say::count(r.taken);
-    say::text(b" taken ");
-    say::count(r.written);
-    say::text(b" written number ");
-    say::unsigned(r.number);
-    say::text(b" output");
-    let out = r.out;
-    say_word(out[0]);
-    say_word(out[1]);
-    say_word(out[2]);
-    say_word(out[3]);
-    say_word(out[4]);
-}
-
-fn same_out(a: [u32; 5], b: [u32; 5]) -> bool {
-    let first = a[0] == b[0] && a[1] == b[1];
-    let rest = a[2] == b[2] && a[3] == b[3] && a[4] == b[4];
-    first && rest
-}
-
-fn row(is: Shown, should: Shown) {
-    let a = is.out;
-    let b = should.out;
-    say::text(b"  should be ");
-    say_shown(should);
-    say::text(b"  is ");
-    say_shown(is);
-    say::verdict(
-        is.taken == should.taken
-            && is.written == should.written
-            && is.number == should.number
-            && same_out(a, b),
-    );
-}
-
-fn told(taken: usize, written: usize, why: Why, out: [u32; 5]) -> Shown {
-    Shown {
-        taken: taken,
-        written: written,
-        number: reasons::number(why),
-        out: out,
-    }
-}
-
-// Hears a piece into five nines, prints the row, and gives the receiver after it.
-fn heard(rx: Receiver, samples: &[i32], should: Shown) -> Receiver {
-    let mut out = [9u32; 5];
-    let r = receiver::hear(rx, samples, &mut out);
-    let why = r.why;
-    row(told(r.taken, r.written, why, out), should);
-    r.receiver
-}
-
-fn finished(rx: Receiver, should: Shown) {
-    let mut out = [9u32; 5];
-    let r = receiver::finish(rx, &mut out);
-    let why = r.why;
-    say::text(b"finish");
-    row(told(r.taken, r.written, why, out), should);
-}
-
 fn fresh(window: u32) -> Receiver {
     let r = openings::open_receiver(Accord { u: 0 }, window, Start::Free);
     r.receiver
 }
 
-fn should(taken: usize, written: usize, number: u32, out: [u32; 5]) -> Shown {
-    Shown {
-        taken: taken,
-        written: written,
-        number: number,
-        out: out,
-    }
+// A count as four bits; 15 stands for those that no row has.
+fn digit(n: u64) -> u64 {
+    if n < 15 { n } else { 15 }
+}
+
+fn output(out: [u32; 5]) -> u64 {
+    let first = digit(out[0] as u64) << 16 | digit(out[1] as u64) << 12 | digit(out[2] as u64) << 8;
+    first | digit(out[3] as u64) << 4 | digit(out[4] as u64)
+}
+
+fn row(taken: usize, written: usize, why: Why, out: [u32; 5], should: u64) {
+    let counts = digit(taken as u64) << 28 | digit(written as u64) << 24;
+    let is = counts | digit(reasons::number(why) as u64) << 20 | output(out);
+    say::row(
+        b"# taken # written number # output # # # # #",
+        should,
+        is,
+        32,
+    );
+}
+
+// Hears a piece, prints the row, and gives the receiver after it.
+fn heard(rx: Receiver, samples: &[i32], should: u64) -> Receiver {
+    let mut out = [9u32; 5];
+    let r = receiver::hear(rx, samples, &mut out);
+    let why = r.why;
+    row(r.taken, r.written, why, out, should);
+    r.receiver
+}
+
+fn finished(rx: Receiver, should: u64) {
+    let mut out = [9u32; 5];
+    let r = receiver::finish(rx, &mut out);
+    let why = r.why;
+    say::text(b"finish");
+    row(r.taken, r.written, why, out, should);
 }
 
 fn short_rows() {
     let zeros = [0i32; 4];
     let twice = [128i32; 8];
     say::text(b"all zeros once");
-    let rx = heard(fresh(64), &zeros, should(1, 0, 0, [9, 9, 9, 9, 9]));
-    finished(rx, should(0, 1, 0, [0, 9, 9, 9, 9]));
+    let rx = heard(fresh(64), &zeros, 0x1_0_0_99999);
+    finished(rx, 0x0_1_0_09999);
     say::text(b"(A,A) twice, window 1");
-    heard(fresh(1), &twice, should(1, 0, 6, [9, 9, 9, 9, 9]));
+    heard(fresh(1), &twice, 0x1_0_6_99999);
     say::text(b"(A,A) twice, window 64");
-    let rx = heard(fresh(64), &twice, should(2, 0, 0, [9, 9, 9, 9, 9]));
-    finished(rx, should(0, 2, 0, [0, 0, 9, 9, 9]));
+    let rx = heard(fresh(64), &twice, 0x2_0_0_99999);
+    finished(rx, 0x0_2_0_00999);
 }
 
 // Five (A,A) are allowed and come back; four and then (A,C) are not, and the answer has (A,A) for the last.
@@ -113,11 +68,11 @@ fn five_rows() {
     let mut last = [128i32; 20];
     last[19] = -128;
     say::text(b"(A,A) five times");
-    let rx = heard(fresh(64), &five, should(5, 0, 0, [9, 9, 9, 9, 9]));
-    finished(rx, should(0, 5, 0, [0, 0, 0, 0, 0]));
+    let rx = heard(fresh(64), &five, 0x5_0_0_99999);
+    finished(rx, 0x0_5_0_00000);
     say::text(b"(A,A) four times, then (A,C)");
-    let rx = heard(fresh(64), &last, should(5, 0, 0, [9, 9, 9, 9, 9]));
-    finished(rx, should(0, 5, 0, [0, 0, 0, 0, 0]));
+    let rx = heard(fresh(64), &last, 0x5_0_0_99999);
+    finished(rx, 0x0_5_0_00000);
 }
 
 pub fn all() {

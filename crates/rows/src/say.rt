@@ -1,58 +1,85 @@
-// Plain text on standard output: words, bits, labels, whole numbers, and whether a row is as it should be.
+// Rows on standard output. A form is a text with holes, which are filled from the bits of one number, left to right: `0` is one bit, `@`
+// the two of a label, `#` the four of a count, `~` the sixteen of a larger one, `-` a minus if the bit is set, `+` the four of a coordinate,
+// which is negative from 8 on.
 use libc::STDOUT_FILENO;
+ghost use Prim.Native.Nat.{_<_};
 
 pub fn text(t: &[u8]) {
     io::write_all(STDOUT_FILENO, t);
 }
 
-// One bit of n.
-fn bit(n: u32) {
-    let b = [b'0' + (n % 2) as u8];
-    text(&b);
+// How many bits are left after a byte of a form.
+fn after(b: u8, left: u32) -> u32
+    requires { ⌜ left < 64 ⌝ }
+    ensures { λ r. ⌜ r < 64 ⌝ }
+{
+    let w = match b {
+        b'0' | b'-' => 1,
+        b'@' => 2,
+        b'#' | b'+' => 4,
+        b'~' => 16,
+        _ => 0,
+    };
+    if w <= left { left - w } else { left }
 }
 
-// A 4D subset, or the three bits Y0 I1 I2'.
-pub fn bits3(n: u32) {
-    bit(n / 4);
-    bit(n / 2);
-    bit(n);
+fn letter(label: u64) -> u8 {
+    match label {
+        0 => b'A',
+        1 => b'C',
+        2 => b'B',
+        _ => b'D',
+    }
 }
 
-// A state, or the four bits Y0 I1 I2' I3'.
-pub fn bits4(n: u32) {
-    bit(n / 8);
-    bits3(n);
-}
-
-// A letter.
-pub fn letter(b: u8) {
+fn byte(b: u8) {
     let t = [b];
     text(&t);
 }
 
-pub fn unsigned(n: u32) {
-    io::print_decimal(STDOUT_FILENO, n as u64);
+pub fn count(n: u64) {
+    io::print_decimal(STDOUT_FILENO, n);
 }
 
-pub fn count(n: usize) {
-    io::print_decimal(STDOUT_FILENO, n as u64);
-}
-
-// The absolute value.
-fn size(x: i32) -> u64 {
-    let wide = x as i64;
-    if wide < 0 {
-        (-wide) as u64
-    } else {
-        wide as u64
+// A byte of a form that stands for the low bits of n.
+fn hole(b: u8, n: u64) {
+    match b {
+        b'0' => count(n & 1),
+        b'@' => byte(letter(n & 3)),
+        b'#' => count(n & 15),
+        b'+' => coordinate(n & 15),
+        b'~' => count(n & 65535),
+        b'-' => minus(n & 1),
+        _ => byte(b),
     }
 }
 
-pub fn signed(x: i32) {
-    if x < 0 {
-        text(b"-");
+fn minus(n: u64) {
+    if n == 1 {
+        byte(b'-');
     }
-    io::print_decimal(STDOUT_FILENO, size(x));
+}
+
+fn coordinate(n: u64) {
+    minus(n >> 3);
+    if n < 8 {
+        count(n);
+    } else if n < 16 {
+        count(16 - n);
+    }
+}
+
+// A form filled with the lowest k bits of n.
+pub fn bits(form: &[u8], n: u64, k: u32)
+    requires { ⌜ k < 64 ⌝ }
+{
+    let mut left = k;
+    let mut i = 0;
+    while i < form.len() {
+        left = after(form[i], left);
+        hole(form[i], n >> left);
+        i += 1;
+    }
 }
 
 // Ends a row.
@@ -62,4 +89,15 @@ pub fn verdict(ok: bool) {
     } else {
         text(b"  DIFFERS\n");
     }
+}
+
+// What should be and what is, k bits each, in one form.
+pub fn row(form: &[u8], should: u64, is: u64, k: u32)
+    requires { ⌜ k < 64 ⌝ }
+{
+    text(b"  should be ");
+    bits(form, should, k);
+    text(b"  is ");
+    bits(form, is, k);
+    verdict(should == is);
 }

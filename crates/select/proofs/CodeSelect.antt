@@ -5,7 +5,7 @@
 use mathlib.Core.Path.{_≡_, refl, sym, ap, _∙_}
 use mathlib.Core.Bool.{Bool, true, false}
 use mathlib.Core.List.{List}
-use Prim.Native.Nat.{ℕ, suc, _+_, _-_, _≤_, _<_}
+use Prim.Native.Nat.{ℕ, suc, _+_, _-_}
 use native.Mathlib.Omega.{arith}
 use lib.Dec.{ltb}
 use lib.ListN.{length, getD}
@@ -14,10 +14,10 @@ use Rattle.trellis.specs.Pick.{keepN, least}
 use Rattle.select.specs.declared.ways.Way.{Way}
 use Rattle.select.specs.declared.ways.Four.{Four}
 use Rattle.select.specs.declared.Selected.{Selected}
-use Rattle.select.specs.Select.{limit, sixteen, arrive, winner, sumAt, firstStep, followed, stepAt}
+use Rattle.select.specs.Select.{sixteen, arrive, winner, sumAt, firstStep, followed, stepAt}
 use Rattle.select.specs.Ways.{wayBy, keepWay, nearerOf, wayAt, sumsOf, stepsOf, followedStep}
-use Rattle.select.specs.Select.{allUpTo}
-use Rattle.select.proofs.UpTo.{up-to-all}
+use Rattle.sums.specs.Sums.{limit, allUpTo}
+use Rattle.sums.proofs.UpTo.{up-to-all}
 use Rattle.select.proofs.Lists.{sixteen-at, sixteen-same}
 use Rattle.lists.specs.Tabled.{tabled}
 use Rattle.lists.proofs.Filled.{all-listed}
@@ -84,18 +84,3 @@ module _ (f : ℕ → Way) where
   pub laid-out : (a b c d : Four) (sums steps : List ℕ) → a ≡ fourFrom 0 → b ≡ fourFrom 4 → c ≡ fourFrom 8 → d ≡ fourFrom 12 → sums ≡ sumsOf a b c d → steps ≡ stepsOf a b c d
       → _≡_ {A = Selected} (record { sums = sums; steps = steps }) (record { sums = sixteen (λ t. f t .sum); steps = sixteen (λ t. f t .step) })
   laid-out a b c d sums steps p q r s e g = rw (e, g, p, q, r, s)
-
--- one number more, at which f is less or is not
-module _ (f : ℕ → ℕ) (s b : ℕ) (some : 1 ≤ s) (so-far : b ≡ least f (s - 1)) where
-  next-least : least f (s + 1 - 1) ≡ keepN (ltb (f s) (f b)) b s
-  unfolding least
-  next-least =
-      let up : s + 1 - 1 ≡ suc (s - 1) = omega arith in
-      let here : suc (s - 1) ≡ s = omega arith in
-      ap (least f) up ∙ rw (here, ← so-far)
-
-  pub least-less : f s < f b → s ≡ least f (s + 1 - 1)
-  least-less h = sym (next-least ∙ rw (lt-ltb _ _ h))
-
-  pub least-kept : f b ≤ f s → b ≡ least f (s + 1 - 1)
-  least-kept h = sym (next-least ∙ rw (le-ltb _ _ h))

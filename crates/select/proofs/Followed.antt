@@ -17,7 +17,8 @@ use borrow.Author.Tests.{ltb-true, lt-ltb, le-ltb}
 use Rattle.trellis.specs.Lists.{In}
 use Rattle.trellis.specs.Search.{range}
 use Rattle.trellis.proofs.Lists.{state-in, state-below}
-use Rattle.select.specs.Select.{limit, reachedOf, liveOf, headOf, followed}
+use Rattle.sums.specs.Sums.{limit}
+use Rattle.select.specs.Select.{reachedOf, liveOf, headOf, followed}
 use Rattle.select.specs.Ways.{followedStep}
 
 module _ (sums : List ℕ) where

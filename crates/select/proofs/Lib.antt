@@ -1,4 +1,3 @@
 pub mod Lists
-pub mod UpTo
 pub mod Followed
 pub mod CodeSelect

@@ -3,7 +3,7 @@
 --   sixteen-at, sixteen-same   f at the states; two that are equal there
 --   sixteen-most               a bound that also holds past them
 use mathlib.Core.Path.{_≡_, refl, sym, ap, _∙_}
-use mathlib.Core.List.{List, map}
+use mathlib.Core.List.{map}
 use Prim.Native.Nat.{ℕ, zero, suc, _+_, _≤_, _<_}
 use native.Mathlib.Omega.{arith}
 use native.Mathlib.Decide.{decLt}

@@ -1,6 +1,5 @@
--- Add, compare and select on numbers, as the code does it. A state that no sequence reaches has a sum of `limit` or more: the sums
--- of reached states stay below it, so an unreached state never wins, and nothing is ever compared with a flag.
---   limit                  where the sums of unreached states begin
+-- Add, compare and select on numbers, as the code does it. A state that no sequence reaches has a sum of `limit` (of the crate `sums`)
+-- or more: the sums of reached states stay below it, so an unreached state never wins, and nothing is ever compared with a flag.
 --   sixteen f              f at the states 0 to 15
 --   arrive sums costs t k  the sum of the way into t from the k-th state before it
 --   winner                 the place of the least such sum, the first of equals
@@ -12,20 +11,16 @@
 --   followed sums s        s, or the first reached state where nothing reaches s
 --   stepAt                 the step into the state that t is or follows
 --   prevIn steps s         the state before s
---   endOf sums             the state with the least sum, the smallest of equals
---   allUpTo m l            no number of l is above m
-use Prim.Native.Nat.{ℕ, _+_, _*_, _/_, _%_, _^_}
-use mathlib.Core.Bool.{Bool, true, cond, _&&_}
+use Prim.Native.Nat.{ℕ, _+_, _*_, _/_, _%_}
+use mathlib.Core.Bool.{cond}
 use mathlib.Core.List.{List, [], _∷_}
-use lib.Dec.{leb, ltb}
+use lib.Dec.{ltb}
 use lib.ListN.{getD}
 use Rattle.trellis.specs.Best.{Surv, absent, alive}
 use Rattle.trellis.specs.Search.{range}
 use Rattle.trellis.specs.Pick.{least}
 use Rattle.wei.specs.State.{before, between}
-
-abbrev pub limit : ℕ
-limit = 2 ^ 62
+pub use Rattle.sums.specs.Sums.{limit}
 
 abbrev pub sixteen : (ℕ → ℕ) → List ℕ
 sixteen f = f 0 ∷ f 1 ∷ f 2 ∷ f 3 ∷ f 4 ∷ f 5 ∷ f 6 ∷ f 7 ∷ f 8 ∷ f 9 ∷ f 10 ∷ f 11 ∷ f 12 ∷ f 13 ∷ f 14 ∷ f 15 ∷ []
@@ -68,11 +63,3 @@ stepAt sums costs t = firstStep sums costs (followed (sixteen (sumAt sums costs)
 
 abbrev pub prevIn : List ℕ → ℕ → ℕ
 prevIn steps s = getD steps s 0 / 8 % 16
-
--- the state with the least sum, the smallest of equals
-unfoldable pub endOf : List ℕ → ℕ
-endOf sums = least (λ s. getD sums s 0) 15
-
-unfoldable pub allUpTo : ℕ → List ℕ → Bool
-allUpTo m [] = true
-allUpTo m (x ∷ l) = leb x m && allUpTo m l

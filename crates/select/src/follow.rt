@@ -1,12 +1,12 @@
 // The steps into all states, once a symbol's are selected. A state that nothing reaches follows the first reached one: it is as if it
 // were that state, so that whoever moves or compares all sixteen need ask of none whether it is reached.
-use crate::LIMIT;
+use sums::LIMIT;
 ghost use mathlib.Core.Path.{_≡_};
 ghost use mathlib.Core.Bool.{cond};
 ghost use Prim.Native.Nat.{_<_};
 ghost use lib.Dec.{ltb};
-ghost use Rattle.select.specs.Select.{limit, sixteen, headOf, liveOf};
-ghost use Rattle.select.specs.Select.{allUpTo};
+ghost use Rattle.sums.specs.Sums.{limit};
+ghost use Rattle.select.specs.Select.{sixteen, headOf, liveOf};
 ghost use Rattle.select.specs.Ways.{followedStep};
 
 // The first reached state; 0 where none is reached.
@@ -45,26 +45,11 @@ fn followers(sums: &[u64; 16], steps: &[u8; 16]) -> [u8; 16]
     all
 }
 
-// Whether all states are reached. A sum that stands for nothing has bit 62 or 63 set, so one comparison does for all sixteen.
-fn all_reached(sums: &[u64; 16]) -> bool
-    ensures { λ r. ⌜ r ≡ allUpTo 4611686018427387903 (now (sums .entry)) ⌝ }
-{
-    // as a slice the array shows its length
-    let all: &[u64] = sums;
-    let mut bits: u64 = 0;
-    let mut s: usize = 0;
-    while s < 16 {
-        bits = bits | sums[s];
-        s += 1;
-    }
-    bits < LIMIT
-}
-
 // The same. All states are reached but in the first two symbols after a named start, so one test spares the sixteen.
 pub fn arrivals(sums: [u64; 16], steps: [u8; 16]) -> [u8; 16]
     ensures { λ r. ⌜ r ≡ sixteen (followedStep sums steps) ⌝ }
 {
-    if all_reached(&sums) {
+    if sums::all_reached(&sums) {
         return steps;
     }
     followers(&sums, &steps)

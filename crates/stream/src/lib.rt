@@ -11,8 +11,7 @@ ghost use mathlib.Core.List.{List};
 ghost use Prim.Native.Nat.{ℕ, _≤_, _<_};
 ghost use lib.ListN.{length, take};
 ghost use Rattle.desk.specs.Room.{Lent};
-ghost use Rattle.stream.specs.Stream.{Course, streaming, lastLine, Holds, Stands, turned, Reads};
-ghost use Rattle.stream.specs.Stream.{took as Stream·took};
+ghost use Rattle.stream.specs.Stream.{Course, streaming, lastLine, Holds, Stands, turned, Reads, took as Stream·took};
 
 // What became of the lines so far, the place in the chunk up to which it is heard, how many bytes it holds, and whether the input has
 // ended.

@@ -1,4 +1,3 @@
 pub mod Digits
 pub mod Signs
 pub mod Tokens
-pub mod Lists

@@ -1,4 +1,3 @@
 pub mod Bytes
 pub mod Token
 pub mod Number
-pub mod Many

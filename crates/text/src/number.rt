@@ -1,9 +1,7 @@
 // Numbers as a token writes them: digits and nothing else, before a whole number one minus.
-use crate::token;
 ghost use mathlib.Core.Path.{_≡_};
 ghost use Prim.Native.Nat.{_≤_};
 ghost use lib.IntN.{pos, negℤ};
-ghost use Rattle.text.specs.Many.{Lists};
 ghost use Rattle.text.specs.Number.{digitOf, numberOf, wholeOf, hexOf};
 
 // What a token writes: a number, or none that is wanted.
@@ -14,12 +12,6 @@ pub enum Number {
 
 pub enum Whole {
     Got(i32),
-    Bad,
-}
-
-// What a list of tokens writes: so many numbers, or something else.
-pub enum Many {
-    Got(usize),
     Bad,
 }
 
@@ -101,26 +93,4 @@ pub fn signed(s: &[u8]) -> Whole
         return Whole::Bad;
     };
     Whole::Got(n as i32)
-}
-
-// The whole numbers that all tokens of s write, into the first places of the list that is lent. Where a token is no such number,
-// or there are more of them than places, those before it have been put there.
-pub fn signed_list(s: &[u8], list: &mut [i32]) -> Many
-    ensures { λ r. ⌜ Lists (now (s .entry)) (now (list .entry)) r (now (list .exit)) ⌝ }
-{
-    let mut from = 0;
-    let mut k = 0;
-    while k < list.len() {
-        let end = from + token::before(&s[from..], b' ');
-        let Whole::Got(x) = signed(&s[from..end]) else {
-            return Many::Bad;
-        };
-        list[k] = x;
-        k += 1;
-        if end == s.len() {
-            return Many::Got(k);
-        }
-        from = end + 1;
-    }
-    Many::Bad
 }

@@ -17,19 +17,19 @@ same-length : tie.Need-same-length
 same-length c = search needs
 
 returns : tie.Need-returns
-returns c = (search needs, λ s g. replied refl (c .before .before .unread .ensures) (long-answered g (c .before .before .before .before .before .before .before .before .before .before .before .args .lab .desk) (c .before .before .before .before .before .if1 .taken)) (c .before .before .before .before .fresh .ensures .1) refl)
+returns c =
+    let none = c .before .before .before .before .before in
+    let start = none .before .before .before .before .before .before in
+    (search needs, λ s g. replied refl (c .before .before .unread .ensures) (long-answered g (start .args .lab .desk) (c .before .before .before .before .if1 .taken)) (none .fresh .ensures .1) refl)
 
 slice-aggregate-read : tie.Need-slice-aggregate-read
-slice-aggregate-read c = sym (length-take-le _ _ (c .before .before .before .before .before .before .before .pre .1 .1))
+slice-aggregate-read c = sym (length-take-le _ _ (c .before .before .before .before .before .before .before .before .pre .1 .1))
 
 read-requires : tie.Need-read-requires
 read-requires c κs = search needs
 
 act-requires : tie.Need-act-requires
-act-requires c κs = ready _ (c .before .before .before .before .before .before .before .before .before .before .before .before .before .pre .0) (c .before .before .before .before .before .before .before .before .before .before .before .before .before .pre .1 .0) (c .before .before .before .before .read .kept .1 .0) (c .before .before .before .before .read .ensures .fit)
-
-fresh-requires-2 : tie.Need-fresh-requires-2
-fresh-requires-2 c κs = search needs
+act-requires c κs = let start = c .before .before .before .before .before .before .before .before .before .before .before .before .before .before in ready _ (start .pre .0) (start .pre .1 .0) (c .before .before .before .before .read .kept .1 .0) (c .before .before .before .before .read .ensures .fit)
 
 same-length-2 : tie.Need-same-length-2
 same-length-2 c = search needs
@@ -41,10 +41,14 @@ same-length-4 : tie.Need-same-length-4
 same-length-4 c = search needs
 
 returns-2 : tie.Need-returns-2
-returns-2 c = (
-  search needs,
-  λ s g. replied (c .before .before .before .before .before .before .before .act .ensures .desk) (c .before .before .before .before .before .before .before .act .ensures .puts) (line-answered g (c .before .before .before .before .before .before .before .before .before .before .before .before .before .before .before .before .before .before .before .before .before .args .lab .desk) (c .before .before .before .before .before .before .before .before .before .before .before .before .before .before .before .if1 .left) (c .before .before .before .before .before .before .before .before .before .before .before .before .before .before .before .before .before .before .before .before .before .pre .0 .coordinates-long) (c .before .before .before .before .before .before .before .before .before .before .before .before .read .ensures)) (c .fresh2 .ensures .1) refl,
-)
+returns-2 c =
+    let acted = c .before .before .before .before .before .before in
+    let read = acted .before .before .before .before .before in
+    let none = read .before .before .before .before in
+    let start = none .before .before .before .before .before .before in (
+      search needs,
+      λ s g. replied (acted .act .ensures .desk) (acted .act .ensures .puts) (line-answered g (start .args .lab .desk) (read .before .before .before .if1 .left) (start .pre .0 .coordinates-long) (read .read .ensures)) (none .fresh .ensures .1) refl,
+    )
 
 pub reply-spec : {M : Type 1} → statement M
 reply-spec =
@@ -57,7 +61,6 @@ reply-spec =
     slice-aggregate-read
     read-requires
     act-requires
-    fresh-requires-2
     same-length-2
     same-length-3
     same-length-4

@@ -3,8 +3,8 @@ use Prim.Native.Nat.{ℕ}
 use mathlib.Core.Path.{_≡_, sym, _∙_}
 use mathlib.Core.List.{List}
 use lib.IntN.{ℤ}
-use Rattle.text.specs.Many.{Lists}
-use Rattle.text.specs.declared.number.Many.{Many}
+use Rattle.wholes.specs.Many.{Lists}
+use Rattle.wholes.specs.declared.Many.{Many}
 use Rattle.requests.proofs.Readers.{piece-bad, piece-alone, piece-more}
 use borrow.Author.Needs.{needs}
 use Rattle.requests.proofs.piece.read.Statement.{statement}

@@ -1,5 +1,5 @@
 -- `sample::read`: two numbers.
-use mathlib.Core.Path.{_≡_, refl, sym, _∙_}
+use mathlib.Core.Path.{refl, sym, _∙_}
 use Rattle.requests.specs.declared.Request.the-variants as request
 use Rattle.text.specs.Number.{hexOf}
 use Rattle.requests.proofs.Readers.{hex-reader, two-alone, two-read}

@@ -1,5 +1,5 @@
 -- `send::read`: two numbers.
-use mathlib.Core.Path.{_≡_, refl, sym, _∙_}
+use mathlib.Core.Path.{refl, sym, _∙_}
 use Rattle.requests.specs.declared.Request.the-variants as request
 use Rattle.requests.specs.Verb.{anyNumber}
 use Rattle.requests.proofs.Readers.{cap-reader, two-alone, two-read}

@@ -1,5 +1,5 @@
 -- `sender::read`: one number.
-use mathlib.Core.Path.{_≡_, sym, _∙_}
+use mathlib.Core.Path.{sym, _∙_}
 use Rattle.requests.specs.declared.Request.the-variants as request
 use Rattle.requests.proofs.Readers.{any-reader, one-read}
 use borrow.Author.Needs.{needs}

@@ -3,8 +3,7 @@ use Prim.Native.Nat.{ℕ, _≤_, _-_}
 use mathlib.Core.Path.{_≡_, refl, sym, ap, _∙_}
 use native.Mathlib.Omega.{arith}
 use Rattle.trellis.specs.Search.{range}
-use Rattle.select.specs.Select.{reachedOf, liveOf}
-use Rattle.select.specs.Select.{headOf}
+use Rattle.select.specs.Select.{reachedOf, liveOf, headOf}
 use Rattle.select.proofs.Followed.{head-here, head-later}
 use Rattle.select.proofs.follow.first_live.Statement.{statement}
 use Rattle.select.proofs.follow.first_live.Tie as tie

@@ -1,0 +1,130 @@
+-- `wholes::signed_list`: token by token, by the laws of Lists.
+use Prim.Native.Nat.{_+_, _-_, _≤_}
+use mathlib.Core.Path.{sym, _∙_}
+use native.Mathlib.Omega.{arith}
+use borrow.Author.Needs.{needs}
+use lib.ListN.{length, length-set}
+use mir.Syntax.{w32}
+use mir.ValLaws.{toZ-ofZ}
+use Rattle.text.proofs.Tokens.{token-end}
+use Rattle.wholes.proofs.Lists.{Listed, none-listed, list-full, list-bad, list-done, list-more}
+use Rattle.wholes.proofs.signed_list.Statement.{statement}
+use Rattle.wholes.proofs.signed_list.Tie as tie
+
+abbrev Inv-loop : tie.InvT-loop
+Inv-loop s list₀ from₀ k₀ list from k = (from ≤ length s) × (k ≤ length list) × Listed s list₀ from k list
+
+abbrev μ-loop : tie.MeasureT-loop
+μ-loop s list₀ from₀ k₀ list from k = length s + 1 - from
+
+loop-holds : tie.Need-loop-holds Inv-loop μ-loop
+loop-holds c = (search needs, search needs, none-listed _ _)
+
+sub-before : tie.Need-sub-before Inv-loop μ-loop
+sub-before c = search needs
+
+part-before-start : tie.Need-part-before-start Inv-loop μ-loop
+part-before-start c = search needs
+
+part-before-end : tie.Need-part-before-end Inv-loop μ-loop
+part-before-end c = search needs
+
+before-requires : tie.Need-before-requires Inv-loop μ-loop
+before-requires c κs = search needs
+
+add-end : tie.Need-add-end Inv-loop μ-loop
+add-end c = omega (arith, token-end (c .before .before .before .before .before .args .s .now) (c .before .before .before .loop .from) (c .before .before .before .loop .inv .0) (c .before2 .ensures))
+
+sub-signed : tie.Need-sub-signed Inv-loop μ-loop
+sub-signed c = search needs
+
+part-signed-start : tie.Need-part-signed-start Inv-loop μ-loop
+part-signed-start c = search needs
+
+part-signed-end : tie.Need-part-signed-end Inv-loop μ-loop
+part-signed-end c = omega (arith, token-end (c .before .before .before .before .before .args .s .now) (c .before .before .before .loop .from) (c .before .before .before .loop .inv .0) (c .before2 .ensures))
+
+signed-requires : tie.Need-signed-requires Inv-loop μ-loop
+signed-requires c κs = search needs
+
+enum-known-x : tie.Need-enum-known-x Inv-loop μ-loop
+enum-known-x c = search needs
+
+enum-told : tie.Need-enum-told Inv-loop μ-loop
+enum-told c = search needs
+
+same-length : tie.Need-same-length Inv-loop μ-loop
+same-length c = search needs
+
+returns : tie.Need-returns Inv-loop μ-loop
+returns c = list-bad (c .before .before .before .before .before .before .before .loop .inv .2) _ (search needs) (c .before .before .before .before .before2 .ensures) (sym (c .enum-told .given .1) ∙ c .before .before .signed .ensures)
+
+mul-x : tie.Need-mul-x Inv-loop μ-loop
+mul-x c = search needs
+
+slice-set-from-x : tie.Need-slice-set-from-x Inv-loop μ-loop
+slice-set-from-x c = search needs
+
+add-k : tie.Need-add-k Inv-loop μ-loop
+add-k c = search needs
+
+same-length-2 : tie.Need-same-length-2 Inv-loop μ-loop
+same-length-2 c = search needs
+
+returns-2 : tie.Need-returns-2 Inv-loop μ-loop
+returns-2 c =
+    list-done (c .before .before .before .before .before .before .before .before .before .loop .inv .2) _ (omega (arith, c .before .before .before .before .before .before .before .before .loop-test .taken, c .before .before .before .before .before .before .before .before .before .loop .inv .2 .long)) (c .before .before .before .before .before .before .before2 .ensures) _ _
+    (toZ-ofZ w32 (c .before .before .x .given .0 .0) (record { sfits = c .before .known-told .given .0 .1 })) (sym (c .before .before .x .given .1) ∙ c .before .before .before .before .signed .ensures)
+    (c .before .before .before .before .before .before .before .before .before .loop .inv .0) (c .if1 .taken)
+
+add-from : tie.Need-add-from Inv-loop μ-loop
+add-from c = omega (arith, token-end (c .before .before .before .before .before .before .before .before .before .before .before .args .s .now) (c .before .before .before .before .before .before .before .before .before .loop .from) (c .before .before .before .before .before .before .before .before .before .loop .inv .0) (c .before .before .before .before .before .before .before2 .ensures))
+
+loop-less : tie.Need-loop-less Inv-loop μ-loop
+loop-less c = omega (arith, token-end (c .before .before .before .before .before .before .before .before .before .before .before .args .s .now) (c .before .before .before .before .before .before .before .before .before .loop .from) (c .before .before .before .before .before .before .before .before .before .loop .inv .0) (c .before .before .before .before .before .before .before2 .ensures))
+
+loop-again : tie.Need-loop-again Inv-loop μ-loop
+loop-again c = (
+  omega (arith, token-end (c .before .before .before .before .before .before .before .before .before .before .before .args .s .now) (c .before .before .before .before .before .before .before .before .before .loop .from) (c .before .before .before .before .before .before .before .before .before .loop .inv .0) (c .before .before .before .before .before .before .before2 .ensures)),
+  simp length-set (omega (arith, c .before .before .before .before .before .before .before .before .loop-test .taken)),
+  list-more (c .before .before .before .before .before .before .before .before .before .loop .inv .2) _ (omega (arith, c .before .before .before .before .before .before .before .before .loop-test .taken, c .before .before .before .before .before .before .before .before .before .loop .inv .2 .long)) (c .before .before .before .before .before .before .before2 .ensures) _ _
+      (toZ-ofZ w32 (c .before .before .x .given .0 .0) (record { sfits = c .before .known-told .given .0 .1 })) (sym (c .before .before .x .given .1) ∙ c .before .before .before .before .signed .ensures)
+      (omega (arith, token-end (c .before .before .before .before .before .before .before .before .before .before .before .args .s .now) (c .before .before .before .before .before .before .before .before .before .loop .from) (c .before .before .before .before .before .before .before .before .before .loop .inv .0) (c .before .before .before .before .before .before .before2 .ensures))),
+)
+
+same-length-3 : tie.Need-same-length-3 Inv-loop μ-loop
+same-length-3 c = search needs
+
+returns-3 : tie.Need-returns-3 Inv-loop μ-loop
+returns-3 c = list-full (c .before .loop .inv .2) (omega (arith, c .before .loop .inv .2 .long))
+
+pub signed-list-spec : {M : Type 1} → statement M
+signed-list-spec =
+    tie.close
+    (tie.spec
+    Inv-loop
+    μ-loop
+    loop-holds
+    sub-before
+    part-before-start
+    part-before-end
+    before-requires
+    add-end
+    sub-signed
+    part-signed-start
+    part-signed-end
+    signed-requires
+    enum-known-x
+    enum-told
+    same-length
+    returns
+    mul-x
+    slice-set-from-x
+    add-k
+    same-length-2
+    returns-2
+    add-from
+    loop-less
+    loop-again
+    same-length-3
+    returns-3)

@@ -1,0 +1,34 @@
+// The whole numbers that the tokens of a text write, read into a list that is lent. The tokens and the numbers are those of `text`;
+// specs/Many.antt says which numbers there are, and what the list holds where a token writes none.
+use text::number;
+use text::number::Whole;
+use text::token;
+ghost use Rattle.wholes.specs.Many.{Lists};
+
+// What a list of tokens writes: so many numbers, or something else.
+pub enum Many {
+    Got(usize),
+    Bad,
+}
+
+// The whole numbers that all tokens of s write, into the first places of the list that is lent. Where a token is no such number,
+// or there are more of them than places, those before it have been put there.
+pub fn signed_list(s: &[u8], list: &mut [i32]) -> Many
+    ensures { λ r. ⌜ Lists (now (s .entry)) (now (list .entry)) r (now (list .exit)) ⌝ }
+{
+    let mut from = 0;
+    let mut k = 0;
+    while k < list.len() {
+        let end = from + token::before(&s[from..], b' ');
+        let Whole::Got(x) = number::signed(&s[from..end]) else {
+            return Many::Bad;
+        };
+        list[k] = x;
+        k += 1;
+        if end == s.len() {
+            return Many::Got(k);
+        }
+        from = end + 1;
+    }
+    Many::Bad
+}

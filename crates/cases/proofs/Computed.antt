@@ -3,7 +3,7 @@
 --   closed-row, uneven-row, sample-row   9 of a piece and of a finish; 10; 5 with its place
 --   many-row                             7, of a record that is set up with 4,294,967,295 symbols taken
 --   window-row, room-row, finish-row     6, 8 at a symbol, 8 at a finish
---   zeros-taken, one-back, zero-one-back, five-one   symbols taken and words written, where a wrong receiver gives others
+--   five-one, five-taken                 of five symbols (A,A) one word is released
 use mathlib.Core.Path.{_≡_, refl}
 use mathlib.Core.Bool.{true}
 use mathlib.Core.List.{List, [], _∷_, _++_}
@@ -47,12 +47,12 @@ row r = givenOf (r .why) .number ∷ givenOf (r .why) .place ∷ r .taken ∷ le
 abbrev pub zeros : List ℤ
 zeros = replicate 4 (pos 0)
 
--- the points of (A,A), and those of word 1 from state 0
+-- the points of (A,A), once and five times
 abbrev pub a-a : List ℤ
 a-a = replicate 4 (pos 128)
 
-abbrev pub clean-one : List ℤ
-clean-one = pos 128 ∷ pos 128 ∷ negℤ (pos 128) ∷ negℤ (pos 128) ∷ []
+abbrev pub a-a-five : List ℤ
+a-a-five = replicate 20 (pos 128)
 
 pub closed-row : (row (hearing shut (pieceOf []) 0) ≡ 9 ∷ 0 ∷ 0 ∷ 0 ∷ []) × (row (finishing shut 0) ≡ 9 ∷ 0 ∷ 0 ∷ 0 ∷ [])
 unfolding hearing finishing sound shut
@@ -77,16 +77,14 @@ unfolding opening hearing sound soundCore allUpTo opened freshSums running symbo
 many-row = refl
 
 -- "Window 1, u 0, free start, (128,128,128,128) twice: the first is taken, nothing released; the second gets 6"; with no room, the second
--- symbol's word; with no room, the one pending word; all zeros once; word 1; words 0 and 1; (A,A) five times
+-- symbol's word; with no room, the one pending word; (A,A) five times
 at-work : (row (hearing (freshly 1 Free) (pieceOf (a-a ++ a-a)) 0) ≡ 6 ∷ 0 ∷ 1 ∷ 0 ∷ [])
     × (row (hearing (freshly 64 Free) (pieceOf (replicate 4 (pos 8192) ++ zeros)) 0) ≡ 8 ∷ 0 ∷ 1 ∷ 0 ∷ [])
     × (row (finishing (hearing (freshly 64 Free) (pieceOf zeros) 0 .receiver) 0) ≡ 8 ∷ 0 ∷ 0 ∷ 0 ∷ [])
-    × (hearing (freshly 64 Free) (pieceOf zeros) 0 .taken ≡ 1)
-    × (finishing (hearing (freshly 64 (At 0)) (pieceOf clean-one) 1 .receiver) 1 .words ≡ 1 ∷ [])
-    × (finishing (hearing (freshly 64 (At 0)) (pieceOf (a-a ++ clean-one)) 2 .receiver) 2 .words ≡ 0 ∷ 1 ∷ [])
-    × (hearing (freshly 64 (At 0)) (pieceOf (replicate 20 (pos 128))) 5 .words ≡ 0 ∷ [])
+    × (hearing (freshly 64 (At 0)) (pieceOf a-a-five) 5 .words ≡ 0 ∷ [])
+    × (hearing (freshly 64 (At 0)) (pieceOf a-a-five) 5 .taken ≡ 5)
 unfolding opening hearing finishing sound soundCore allUpTo opened freshSums running symbolAt faultOf taking agreedOf grown releasedOf oldest sameFrom carried movedWords movedOf tabled followed liveOf reachedOf sumAt stepAt firstStep winner arrive weighedOf costOf bestI3 typeSum gapOf near least lineDistance distance pointOf aPoint coordinates secondLabel before between carryI1 carryI2 wayFrom range speak after endOf lastSymbols symbolBy numbersOf keptIn word wordParts packed
-at-work = (refl, refl, refl, refl, refl, refl, refl)
+at-work = (refl, refl, refl, refl, refl)
 
 pub window-row : row (hearing (freshly 1 Free) (pieceOf (a-a ++ a-a)) 0) ≡ 6 ∷ 0 ∷ 1 ∷ 0 ∷ []
 window-row = at-work .0
@@ -97,14 +95,8 @@ room-row = at-work .1
 pub finish-row : row (finishing (hearing (freshly 64 Free) (pieceOf zeros) 0 .receiver) 0) ≡ 8 ∷ 0 ∷ 0 ∷ 0 ∷ []
 finish-row = at-work .2
 
-pub zeros-taken : hearing (freshly 64 Free) (pieceOf zeros) 0 .taken ≡ 1
-zeros-taken = at-work .3
+pub five-one : hearing (freshly 64 (At 0)) (pieceOf a-a-five) 5 .words ≡ 0 ∷ []
+five-one = at-work .3
 
-pub one-back : finishing (hearing (freshly 64 (At 0)) (pieceOf clean-one) 1 .receiver) 1 .words ≡ 1 ∷ []
-one-back = at-work .4
-
-pub zero-one-back : finishing (hearing (freshly 64 (At 0)) (pieceOf (a-a ++ clean-one)) 2 .receiver) 2 .words ≡ 0 ∷ 1 ∷ []
-zero-one-back = at-work .5
-
-pub five-one : hearing (freshly 64 (At 0)) (pieceOf (replicate 20 (pos 128))) 5 .words ≡ 0 ∷ []
-five-one = at-work .6
+pub five-taken : hearing (freshly 64 (At 0)) (pieceOf a-a-five) 5 .taken ≡ 5
+five-taken = at-work .4

@@ -91,8 +91,8 @@ said-open t ys y room g (table.Said.taken i j k l) e = omega arith
 
 hears-open : (t : Told) (q : Piece) (room m n : ℕ) (g : Reason) → table.Hears t q room m n g → g .number ≡ 9 → ⊥
 hears-open t q room m n g (table.Hears.ten a b c) e = omega arith
-hears-open t q room m n g (table.Hears.whole a b) e = omega arith
-hears-open t q room m n g (table.Hears.stopped a y later d g′ z s) e = said-open t (reverse (take m (q .symbols)) ++ t .heard) y (room - n) g s e
+hears-open t q room m n g (table.Hears.whole a b c) e = omega arith
+hears-open t q room m n g (table.Hears.stopped a y later d k g′ z s) e = said-open t (reverse (take m (q .symbols)) ++ t .heard) y (room - n) g s e
 
 finishes-open : (t : Told) (room k : ℕ) → table.Finishes t room k → k ≡ 9 → ⊥
 finishes-open t room k (table.Finishes.eight h) e = omega arith

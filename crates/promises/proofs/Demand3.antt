@@ -5,16 +5,22 @@
 -- `Talk u w b took ws rx` (specs/Talk) is any run of calls from an opening: symbols taken, words written. What the words are is said
 -- by `Longest` and `Answer` (trellis/specs/Best): the longest common beginning of the best sequences into every reachable state, and
 -- the allowed sequence with the least sum, ties by 01's order. Lists are in the order of time.
+--   some-longest, one-longest   there is a longest common beginning, and one alone
 --   exact     the words written reach exactly as far as the best sequences agree
 --   final     they begin the answer for the symbols taken followed by any others, and so the answer for those taken
 --   whole     with a finish that succeeds they are the answer whole
-use mathlib.Core.Path.{_≡_, subst, _∙_}
+use mathlib.Core.Path.{_≡_, sym, subst, _∙_}
 use mathlib.Core.List.{List, _++_, reverse, IsPrefix}
 use Prim.Native.Nat.{ℕ}
 use Rattle.points.specs.declared.Accord.{Accord}
 use Rattle.trellis.specs.Code.{Path, symbols}
 use Rattle.trellis.specs.Best.{Answer, Longest}
-use Rattle.trellis.specs.Measure.{Two}
+use Rattle.trellis.specs.Measure.{Two, GoodStart}
+use Rattle.trellis.specs.Measure as measure
+use Rattle.trellis.specs.Same.{sameSymbol}
+use Rattle.trellis.specs.Pick.{weiSearch}
+use Rattle.trellis.proofs.Theorems.{T4, T4-only}
+use Rattle.trellis.proofs.WeiLaws.{wei-laws, wei-onward}
 use Rattle.trellis.specs.Said.{spokenWords}
 use Rattle.trellis.proofs.Spoken as spoken
 use Rattle.wei.specs.Symbol.{Symbol}
@@ -27,6 +33,15 @@ use Rattle.openings.specs.Given.{startOf}
 use Rattle.promises.specs.Talk.{Talk, Ended}
 use Rattle.promises.proofs.Follows.{follows, answers, start-of}
 use Rattle.told.specs.Told.{codeOf, wordsOf}
+
+module _ (ac : Accord) (b : measure.Start) (g : GoodStart b) (took : List (Two Received)) where
+  pub some-longest : (l : List Symbol) × Longest (codeOf ac b) (reverse took) l
+  some-longest = (_, T4 (weiSearch (ac .u) (lineMeasure ac) (lineChoice ac) sameSymbol b) (wei-laws (ac .u) (lineMeasure ac) (lineChoice ac) (line-chooses ac) sameSymbol b) (wei-onward (ac .u) (lineMeasure ac) b g) took)
+
+  pub one-longest : (l m : List Symbol) → Longest (codeOf ac b) (reverse took) l → Longest (codeOf ac b) (reverse took) m → l ≡ m
+  one-longest l m h k =
+      let only = T4-only (weiSearch (ac .u) (lineMeasure ac) (lineChoice ac) sameSymbol b) (wei-laws (ac .u) (lineMeasure ac) (lineChoice ac) (line-chooses ac) sameSymbol b) (wei-onward (ac .u) (lineMeasure ac) b g) took in
+      only l h ∙ sym (only m k)
 
 module _ (ac : Accord) (w : ℕ) (b : Start) (took : List (Two Received)) (ws : List ℕ) where
   pub exact : (rx : Receiver) → Talk ac w b took ws rx → (l : List Symbol) → Longest (codeOf ac (startOf b)) (reverse took) l → ws ≡ wordsOf ac (startOf b) l

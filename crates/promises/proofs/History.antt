@@ -34,7 +34,7 @@ use Rattle.promises.proofs.Numbers.{said-is}
 use Rattle.promises.proofs.Demand1.{seven}
 
 -- the four coordinates of a received symbol
-abbrev fourOf : Two Received → List ℤ
+abbrev pub fourOf : Two Received → List ℤ
 fourOf y = y .first .x ∷ y .first .y ∷ y .second .x ∷ y .second .y ∷ []
 
 -- `hear` answers 7 to every good symbol

@@ -2,6 +2,8 @@
 pub mod Demand1
 pub mod Demand2
 pub mod Demand3
+pub mod Meant
+pub mod Left
 -- what they lean on
 pub mod Ends
 pub mod Follows

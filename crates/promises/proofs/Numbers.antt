@@ -7,7 +7,7 @@ use mathlib.Core.List.{List, [], _∷_, _++_, reverse, reverse-append, reverse-r
 use Prim.Native.Nat.{ℕ, suc, _-_, _<_}
 use native.Mathlib.Nat.{sub-zero}
 use native.Mathlib.Omega.{arith}
-use borrow.Author.Tests.{ltb-true, ltb-false, leb-true, leb-false, eqb-false, lt-ltb, le-ltb, le-leb, lt-leb}
+use borrow.Author.Tests.{ltb-true, ltb-false, leb-true, leb-false, eqb-true, eqb-false, lt-ltb, le-ltb, le-leb, lt-leb}
 use lib.Dec.{eqb, leb, ltb}
 use lib.IntN.{ℤ}
 use lib.ListN.{length, take, drop, length-append, drop-of-length-le}
@@ -136,28 +136,47 @@ module _ (t : Told) (ys : List (Two Received)) (y : Two Received) (room : ℕ) w
 
 -- ---- a piece
 
--- how the symbols zs went after ys: all taken, or up to the first that is refused
-data Went (t : Told) (zs : List (Two Received)) (room : ℕ) (e : Ended (speakerOf t) (judgeOf t)) : Type 0 where
-  all : e .taken ≡ length zs → e .why ≡ reason 0 → Went t zs room e
-  some : (y : Two Received) (later : List (Two Received)) → drop (e .taken) zs ≡ y ∷ later → e .why ≡ judgeSymbol t (e .heard) y (room - length (e .said)) → (e .why .number ≡ 0 → ⊥) → Went t zs room e
+-- a symbol is answered with 0 only if it is taken
+said-taken : (t : Told) (ys : List (Two Received)) (y : Two Received) (room : ℕ) → judgeSymbol t ys y room .number ≡ 0 → table.Said t ys y room (reason 0)
+said-taken t ys y room z = go (judgeSymbol t ys y room) (said-case t ys y room) z
+  where
+    go : (g : Reason) → table.Said t ys y room g → g .number ≡ 0 → table.Said t ys y room (reason 0)
+    go g (table.Said.five a) e = absurd (omega arith)
+    go g (table.Said.seven a b) e = absurd (omega arith)
+    go g (table.Said.six a b c) e = absurd (omega arith)
+    go g (table.Said.eight a b c d) e = absurd (omega arith)
+    go g (table.Said.taken a b c d) e = table.Said.taken a b c d
 
-went : (t : Told) (ys zs : List (Two Received)) (room : ℕ) → Went t zs room (walk (speakerOf t) (judgeOf t) ys zs room)
+-- how the symbols zs went after ys: all taken, or up to the first that is refused
+data Went (t : Told) (ys zs : List (Two Received)) (room : ℕ) (e : Ended (speakerOf t) (judgeOf t)) : Type 0 where
+  all : e .taken ≡ length zs → e .why ≡ reason 0 → table.Takes t ys zs room (length (e .said)) → Went t ys zs room e
+  some : (y : Two Received) (later : List (Two Received)) → drop (e .taken) zs ≡ y ∷ later → e .why ≡ judgeSymbol t (e .heard) y (room - length (e .said)) → (e .why .number ≡ 0 → ⊥) →
+      table.Takes t ys (take (e .taken) zs) room (length (e .said)) → Went t ys zs room e
+
+went : (t : Told) (ys zs : List (Two Received)) (room : ℕ) → Went t ys zs room (walk (speakerOf t) (judgeOf t) ys zs room)
 unfolding walk
-went t ys [] room = all refl refl
+went t ys [] room = all refl refl (table.Takes.none ys room)
 went t ys (z ∷ zs) room =
     let f = fresh (speakerOf t) ys z in
     go (eqb (judgeSymbol t ys z room .number) 0) refl (walk (speakerOf t) (judgeOf t) (z ∷ ys) zs (room - length f)) (went t (z ∷ ys) zs (room - length f))
   where
-    go : (b : Bool) → eqb (judgeSymbol t ys z room .number) 0 ≡ b → (e : Ended (speakerOf t) (judgeOf t)) → Went t zs (room - length (fresh (speakerOf t) ys z)) e →
-        Went t (z ∷ zs) room (after (speakerOf t) (judgeOf t) ys z (judgeSymbol t ys z room) b e)
-    go true q e (all m w) = all (ap suc m) w
-    go true q e (some y later d w n) =
+    -- one symbol more
+    more : (ls : List (Two Received)) (ws : List ℕ) → eqb (judgeSymbol t ys z room .number) 0 ≡ true → table.Takes t (z ∷ ys) ls (room - length (fresh (speakerOf t) ys z)) (length ws) →
+        table.Takes t ys (z ∷ ls) room (length (fresh (speakerOf t) ys z ++ ws))
+    more ls ws q k =
+        subst (table.Takes t ys (z ∷ ls) room) (sym (length-append (fresh (speakerOf t) ys z) ws))
+        (table.Takes.next ys ls z room (length ws) (said-taken t ys z room (eqb-true (judgeSymbol t ys z room .number) 0 q)) k)
+
+    go : (b : Bool) → eqb (judgeSymbol t ys z room .number) 0 ≡ b → (e : Ended (speakerOf t) (judgeOf t)) → Went t (z ∷ ys) zs (room - length (fresh (speakerOf t) ys z)) e →
+        Went t ys (z ∷ zs) room (after (speakerOf t) (judgeOf t) ys z (judgeSymbol t ys z room) b e)
+    go true q e (all m w k) = all (ap suc m) w (more zs (e .said) q k)
+    go true q e (some y later d w n k) =
         let l : room - length (fresh (speakerOf t) ys z) - length (e .said) ≡ room - length (fresh (speakerOf t) ys z ++ e .said) =
         omega (arith, length-append (fresh (speakerOf t) ys z) (e .said)) in
-        some y later d (w ∙ ap (judgeSymbol t (e .heard) y) l) n
-    go false q e x = some z zs refl (ap (judgeSymbol t ys z) (sym (sub-zero room))) (eqb-false (judgeSymbol t ys z room .number) 0 q)
+        some y later d (w ∙ ap (judgeSymbol t (e .heard) y) l) n (more (take (e .taken) zs) (e .said) q k)
+    go false q e x = some z zs refl (ap (judgeSymbol t ys z) (sym (sub-zero room))) (eqb-false (judgeSymbol t ys z room .number) 0 q) (table.Takes.none ys room)
 
-heard-then : (t : Told) (ys zs : List (Two Received)) (room : ℕ) → let e = walk (speakerOf t) (judgeOf t) ys zs room in e .heard ≡ reverse (take (e .taken) zs) ++ ys
+pub heard-then : (t : Told) (ys zs : List (Two Received)) (room : ℕ) → let e = walk (speakerOf t) (judgeOf t) ys zs room in e .heard ≡ reverse (take (e .taken) zs) ++ ys
 heard-then t ys zs room =
     let e = walk (speakerOf t) (judgeOf t) ys zs room in
     sym (reverse-reverse (e .heard)) ∙ ap reverse (walk-heard (speakerOf t) (judgeOf t) ys zs room) ∙ reverse-append (reverse ys) (take (e .taken) zs)
@@ -171,10 +190,10 @@ module _ (t : Told) (q : Piece) (room : ℕ) where
       e : Ended (speakerOf t) (judgeOf t)
       e = endedOf t q room
 
-      walked : q .fits ≡ true → Went t (q .symbols) room e → table.Hears t q room (e .taken) (length (e .said)) (e .why)
-      walked z (all m w) = subst (table.Hears t q room (e .taken) (length (e .said))) (sym w) (table.Hears.whole z m)
-      walked z (some y later d w n) =
-          table.Hears.stopped z y later d (e .why) n
+      walked : q .fits ≡ true → Went t (t .heard) (q .symbols) room e → table.Hears t q room (e .taken) (length (e .said)) (e .why)
+      walked z (all m w k) = subst (table.Hears t q room (e .taken) (length (e .said))) (sym w) (table.Hears.whole z m k)
+      walked z (some y later d w n k) =
+          table.Hears.stopped z y later d k (e .why) n
           (subst (table.Said t (reverse (take (e .taken) (q .symbols)) ++ t .heard) y (room - length (e .said))) (sym (w ∙ ap (λ (l : List (Two Received)). judgeSymbol t l y (room - length (e .said))) (heard-then t (t .heard) (q .symbols) room)))
           (said-case t (reverse (take (e .taken) (q .symbols)) ++ t .heard) y (room - length (e .said))))
 
@@ -197,14 +216,14 @@ headOr d (x ∷ l) = x
 
 pub piece-one : (t : Told) (q : Piece) (room m n : ℕ) (g h : Reason) → table.Hears t q room m n g → table.Hears t q room m n h → g ≡ h
 piece-one t q room m n g h (table.Hears.ten a p k) (table.Hears.ten b r s) = refl
-piece-one t q room m n g h (table.Hears.ten a p k) (table.Hears.whole b r) = absurd (apart (q .fits) b a)
-piece-one t q room m n g h (table.Hears.ten a p k) (table.Hears.stopped b y later d g′ z s) = absurd (apart (q .fits) b a)
-piece-one t q room m n g h (table.Hears.whole a p) (table.Hears.ten b r s) = absurd (apart (q .fits) a b)
-piece-one t q room m n g h (table.Hears.whole a p) (table.Hears.whole b r) = refl
-piece-one t q room m n g h (table.Hears.whole a p) (table.Hears.stopped b y later d g′ z s) = absurd (not-more (q .symbols) m y later p d)
-piece-one t q room m n g h (table.Hears.stopped a y later d g′ z s) (table.Hears.ten b r k) = absurd (apart (q .fits) a b)
-piece-one t q room m n g h (table.Hears.stopped a y later d g′ z s) (table.Hears.whole b r) = absurd (not-more (q .symbols) m y later r d)
-piece-one t q room m n g h (table.Hears.stopped a y later d g′ z s) (table.Hears.stopped b y₂ later₂ d₂ g₂ z₂ s₂) =
+piece-one t q room m n g h (table.Hears.ten a p k) (table.Hears.whole b r v) = absurd (apart (q .fits) b a)
+piece-one t q room m n g h (table.Hears.ten a p k) (table.Hears.stopped b y later d v₂ g′ z s) = absurd (apart (q .fits) b a)
+piece-one t q room m n g h (table.Hears.whole a p v) (table.Hears.ten b r s) = absurd (apart (q .fits) a b)
+piece-one t q room m n g h (table.Hears.whole a p v) (table.Hears.whole b r v₂) = refl
+piece-one t q room m n g h (table.Hears.whole a p v) (table.Hears.stopped b y later d v₂ g′ z s) = absurd (not-more (q .symbols) m y later p d)
+piece-one t q room m n g h (table.Hears.stopped a y later d v g′ z s) (table.Hears.ten b r k) = absurd (apart (q .fits) a b)
+piece-one t q room m n g h (table.Hears.stopped a y later d v g′ z s) (table.Hears.whole b r v₂) = absurd (not-more (q .symbols) m y later r d)
+piece-one t q room m n g h (table.Hears.stopped a y later d v g′ z s) (table.Hears.stopped b y₂ later₂ d₂ v₂ g₂ z₂ s₂) =
     let ys = reverse (take m (q .symbols)) ++ t .heard in
     let e : y ≡ y₂ = ap (headOr y) (sym d ∙ d₂) in
     sym (said-is t ys y (room - n) g s) ∙ ap (λ (x : Two Received). judgeSymbol t ys x (room - n)) e ∙ said-is t ys y₂ (room - n) h s₂

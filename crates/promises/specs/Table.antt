@@ -4,14 +4,15 @@
 --   Sends s n out k         sending the word n into `out` gives k
 --   ReceiverOpens k w b n   the receiver's opening gives n
 --   Said t ys y room g      the symbol y, heard after ys with room for so many words, is answered with g
+--   Takes t ys zs room n    the symbols zs, heard after ys, are all taken, and write n words
 --   Hears t q room m n g    a piece q gives g, after m symbols taken and n words written
 --   Finishes t room k       a finish gives k
 -- A receiver that has been told t is open; a closed one is answered 9, as said in proofs/Demand1.
-use Prim.Native.Nat.{ℕ, _-_, _≤_, _<_}
+use Prim.Native.Nat.{ℕ, _+_, _-_, _≤_, _<_}
 use mathlib.Core.Path.{_≡_}
 use mathlib.Core.Bool.{true, false}
 use mathlib.Core.Logic.{_⊎_}
-use mathlib.Core.List.{List, _∷_, _++_, reverse}
+use mathlib.Core.List.{List, [], _∷_, _++_, reverse}
 use lib.IntN.{ℤ}
 use lib.ListN.{length, take, drop}
 use Rattle.points.specs.declared.Accord.{Accord}
@@ -56,11 +57,18 @@ pub data Said (t : Told) (ys : List (Two Received)) (y : Two Received) (room : �
   eight : BothInRange y → length ys < 4294967295 → pendingAfter t (y ∷ ys) ≤ t .window → room < length (fresh (speakerOf t) ys y) → Said t ys y room (reason 8)
   taken : BothInRange y → length ys < 4294967295 → pendingAfter t (y ∷ ys) ≤ t .window → length (fresh (speakerOf t) ys y) ≤ room → Said t ys y room (reason 0)
 
--- "A piece: 9, 10, then symbol by symbol .., stopping at the first refusal. Earlier symbols of that piece stay taken"
+-- "Earlier symbols of that piece stay taken": the symbols zs, heard after ys, were each answered with 0 in the room left then, and n is the
+-- sum of their words
+pub data Takes (t : Told) : List (Two Received) → List (Two Received) → ℕ → ℕ → Type 0 where
+  none : (ys : List (Two Received)) (room : ℕ) → Takes t ys [] room 0
+  next : (ys zs : List (Two Received)) (y : Two Received) (room n : ℕ) → Said t ys y room (reason 0) →
+      Takes t (y ∷ ys) zs (room - length (fresh (speakerOf t) ys y)) n → Takes t ys (y ∷ zs) room (length (fresh (speakerOf t) ys y) + n)
+
+-- "A piece: 9, 10, then symbol by symbol .., stopping at the first refusal"
 pub data Hears (t : Told) (q : Piece) (room m n : ℕ) : Reason → Type 0 where
   ten : q .fits ≡ false → m ≡ 0 → n ≡ 0 → Hears t q room m n (reason 10)
-  whole : q .fits ≡ true → m ≡ length (q .symbols) → Hears t q room m n (reason 0)
-  stopped : q .fits ≡ true → (y : Two Received) (later : List (Two Received)) → drop m (q .symbols) ≡ y ∷ later →
+  whole : q .fits ≡ true → m ≡ length (q .symbols) → Takes t (t .heard) (q .symbols) room n → Hears t q room m n (reason 0)
+  stopped : q .fits ≡ true → (y : Two Received) (later : List (Two Received)) → drop m (q .symbols) ≡ y ∷ later → Takes t (t .heard) (take m (q .symbols)) room n →
       (g : Reason) → (g .number ≡ 0 → ⊥) → Said t (reverse (take m (q .symbols)) ++ t .heard) y (room - n) g → Hears t q room m n g
 
 -- "Finish: 9, 8"; "Need for 8: room .. at finish for all pending words"

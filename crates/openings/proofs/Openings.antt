@@ -1,6 +1,7 @@
 -- The outcomes of an opening, one law each, in the order of the tests; and what a fresh receiver is.
 --   named-sums      a named start's sums, as the code makes them
 --   opens-wide, opens-window, opens-start, opens-done   the four outcomes
+--   opening-opens   what the function gives keeps the promise
 --   opened-end      what an opening gives is shut, or told nothing
 --   opening-told    an opening that is not refused gives the receiver that has been told nothing
 --   opens-left      a refused one gives a closed receiver
@@ -87,6 +88,20 @@ module _ (ac : Accord) (w : ℕ) (b : Start) where
       opens r (record { receiver = opened ac w (startOf b); why = Done }) (rw (h, le-leb 1 w k, le-leb w 64 l, s)) i
       (rw (h, le-leb 1 w k, le-leb w 64 l, s))
       (λ z. (record { agreed = h; some-window = k; small-window = l; good-start = start-good b s; few = omega arith; each = tt }, refl))
+
+  -- what the opening's function gives keeps the promise
+  pub opening-opens : Opens ac w b (record { receiver = opening ac w b .receiver; why = opening ac w b .why })
+  unfolding opening
+  opening-opens = go (isAccord ac) (leb 1 w) (leb w 64) (startFits b) refl refl refl refl
+    where
+      go : (i j k l : Bool) → isAccord ac ≡ i → leb 1 w ≡ j → leb w 64 ≡ k → startFits b ≡ l →
+          let o : Opening = cond i (cond (j && k) (cond l (record { receiver = opened ac w (startOf b); why = Done }) (notOpened BadStart)) (notOpened BadWindow)) (notOpened BadWidth) in
+          Opens ac w b (record { receiver = o .receiver; why = o .why })
+      go false j k l e f g h = opens-wide _ e refl
+      go true false k l e f g h = opens-window _ e (rw f) refl
+      go true true false l e f g h = opens-window _ e (rw (f, g)) refl
+      go true true true false e f g h = opens-start _ e (rw (f, g)) h refl
+      go true true true true e f g h = opens-done _ e (leb-true 1 w f) (leb-true w 64 g) h refl
 
   -- every opening gives a closed receiver, or one that has been told nothing yet
   pub opened-end : (opening ac w b .receiver ≡ shut) ⊎ (t : Told) × Fine t × (opening ac w b .receiver ≡ machineOf t)

@@ -3,3 +3,4 @@ pub mod Talk
 pub mod Clean
 pub mod Table
 pub mod Marked
+pub mod Library

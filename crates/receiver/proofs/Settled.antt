@@ -10,7 +10,7 @@ use Rattle.reasons.proofs.Apart.{given-one}
 use Rattle.told.specs.Piece.{Piece}
 use Rattle.receiver.specs.Promise.{Is, Hears, Finishes}
 
-is-settled : (ran : Ran) (out : List ℕ) (r s : Answer) (o p : List ℕ) → Is ran out r o → Is ran out s p → (r ≡ s) × (o ≡ p)
+pub is-settled : (ran : Ran) (out : List ℕ) (r s : Answer) (o p : List ℕ) → Is ran out r o → Is ran out s p → (r ≡ s) × (o ≡ p)
 is-settled ran out r s o p h k =
     let e : r .receiver ≡ s .receiver = h .receiver ∙ sym (k .receiver) in
     let f : r .taken ≡ s .taken = h .taken ∙ sym (k .taken) in

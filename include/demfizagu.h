@@ -54,10 +54,10 @@
  * An end lives in 64-bit words that the caller lends: at least demfizagu_sender_words() or demfizagu_receiver_words().
  * More do no harm and stay as they are. An opening makes a state from any words; nothing is allocated, and nothing need
  * be freed. A state may be copied to another place, and each copy then goes its own way. Its words are for the library
- * alone. A state that is too short, was not made by an opening of that end and of this version, or whose numbers are out
- * of range is read as closed: a state that an older library made too, for its words have another layout and say so.
- * Between an opening and a finish nothing but these calls should write to it: a state whose words were changed may be
- * read as closed, or as an end that heard something else, but no call then reads or writes outside its slices.
+ * alone. A state that is too short, that says it is the other end's or of another layout (an older library's), or whose
+ * numbers are out of range is read as closed. Any other words are answered as an open end: they are safe to pass, but what
+ * is then said means something only if an opening and calls made them. So between an opening and a finish nothing but
+ * these calls should write to a state.
  *
  * TOLD
  *

@@ -2,6 +2,7 @@
 --   isCoordinate z       z is a received coordinate
 --   InRange h            both coordinates of the received point h are
 --   BothInRange y        both points of the received symbol y are in range
+--   onLine c             where the point coordinate c stands
 --   difference r c       the signed difference of r from the point coordinate c
 --   square z             the square of a signed number
 --   distance h p         the squared distance of h from the point p
@@ -33,8 +34,11 @@ pub record BothInRange (y : Two Received) : Type 0 where
   pub second-in : InRange (y .second)
 
 -- "Point coordinate c stands at 128·c"
+abbrev pub onLine : ℤ → ℤ
+onLine c = pos 128 *ℤ c
+
 abbrev pub difference : ℤ → ℤ → ℤ
-difference r c = r -ℤ pos 128 *ℤ c
+difference r c = r -ℤ onLine c
 
 abbrev pub square : ℤ → ℕ
 square z = natAbs z * natAbs z

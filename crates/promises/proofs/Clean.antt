@@ -31,13 +31,13 @@ use Rattle.trellis.specs.Lists.{Every}
 use Rattle.trellis.specs.Measure.{Two, farOf}
 use Rattle.trellis.specs.Clean.{Hits, Exact}
 use Rattle.nearest.specs.declared.Received.{Received}
-use Rattle.nearest.specs.Line.{difference, square, distance, lineDistance, lineMeasure}
+use Rattle.nearest.specs.Line.{onLine, difference, square, distance, lineDistance, lineMeasure}
 use Rattle.sender.specs.declared.Sender.{Sender}
 use Rattle.sender.specs.Send.{after, four}
 use Rattle.sender.specs.Run as sender
 use Rattle.sender.proofs.Exactly.{one, done, refused-keeps, opened-with}
 use Rattle.told.specs.Piece.{symbolsOf}
-use Rattle.promises.specs.Clean.{onLine, allOnLine, heardAt, heardExactly, cleanly, floatsHeard, samplesAt}
+use Rattle.promises.specs.Clean.{allOnLine, heardAt, heardExactly, cleanly, floatsHeard, samplesAt}
 
 -- ---- distance 0
 

@@ -1,6 +1,4 @@
--- A clean line between the two ends: every point that the sender wrote is heard where it stands. From 01: "Point coordinate c stands at
--- 128·c". Lists are in the order of time.
---   onLine c              a point's coordinate as a received one
+-- A clean line between the two ends: every point that the sender wrote is heard where it stands. Lists are in the order of time.
 --   allOnLine ps          the same of all coordinates that a sender wrote
 --   heardExactly c        the received symbol at the two points of the symbol c
 --   cleanly k sent        what is heard, on a clean line of the accord k, of a fresh sender that accepted the words `sent`
@@ -20,11 +18,9 @@ use Rattle.points.specs.declared.Point.{Point}
 use Rattle.points.specs.Pair.{firstPoint, secondPoint}
 use Rattle.trellis.specs.Measure.{Two, mayStart}
 use Rattle.nearest.specs.declared.Received.{Received}
+use Rattle.nearest.specs.Line.{onLine}
 use Rattle.openings.specs.declared.Start.{Start}
 use Rattle.openings.specs.Given.{startOf}
-
-abbrev pub onLine : ℤ → ℤ
-onLine c = pos 128 *ℤ c
 
 abbrev pub allOnLine : List ℤ → List ℤ
 allOnLine ps = map onLine ps

@@ -3,4 +3,3 @@ pub mod Cases
 pub mod Exactly
 pub mod Settled
 pub mod Run
-pub mod Rows

@@ -2,8 +2,8 @@
 //
 // `open_sender` names what both ends agree on and gives a sender in state 0 with the turn 0. `send` takes the sender by value, writes the
 // four coordinates of the word's two points to the first four places of the lent output, and gives the sender back. A call
-// that is refused says why and leaves the sender and the output as they stood. A record that no opening and no call gave is
-// answered like a closed sender.
+// that is refused says why and leaves the sender and the output as they stood. A closed sender, and any record that is out of
+// range, is answered 9.
 use points::Accord;
 use points::Point;
 ghost use mathlib.Core.Path.{_≡_};

@@ -4,4 +4,3 @@ pub mod States
 pub mod Labels
 pub mod Symbols
 pub mod Printed
-pub mod Rows

@@ -21,7 +21,7 @@ use Rattle.wei.proofs.States.{before-below, between-below, carryI1-below, carry
 use Rattle.nearest.specs.declared.Received.{Received}
 use Rattle.nearest.specs.declared.Weighed.{Weighed}
 use Rattle.nearest.specs.Line.{lineChoice}
-use Rattle.nearest.specs.Found.{weighedOf, symbolFrom}
+use Rattle.nearest.specs.Found.{weighedOf, pickedFrom}
 use Rattle.nearest.proofs.Laws.{least-le, i3s-below, w1-below, w2-below, best-read}
 use Rattle.select.specs.Select.{limit, sixteen, arrive, winner, sumAt, fromAt, firstStep, followed, stepAt, rowOf}
 use Rattle.picks.specs.Picks.{byteAt, numbersOf, symbolBy}
@@ -60,7 +60,7 @@ step-from sums costs t h =
 -- ── symbols ──
 symbol-at : (ac : Accord) (y : Two Received) (a b c : ℕ) → isAccord ac ≡ true → a < 2 → b < 2 → c < 2 → let W = weighedOf ac y in let k = subsetOf a b c in
     symbolBy (ac .u) (getD (W .i3) k 0 % 2) (numbersOf (W .w1) (W .w2)) k ≡ lineChoice ac y a b c
-unfolding symbolBy symbolFrom
+unfolding symbolBy pickedFrom
 symbol-at ac y a b c small ha hb hc =
     let W : Weighed = weighedOf ac y in
     let k : ℕ = subsetOf a b c in
@@ -75,7 +75,7 @@ symbol-at ac y a b c small ha hb hc =
     let e₃ : i3 % 2 ≡ i3 = omega (arith, i3s-below ac y k) in
     let e₄ : byteAt (numbersOf (W .w1) (W .w2)) q ≡ getD (W .w1) q 0 = first-number (W .w1) (W .w2) (λ i. byte _ (w1-below ac y i)) (λ i. byte _ (w2-below ac y i)) q h in
     let e₅ : byteAt (numbersOf (W .w1) (W .w2)) (4 + l) ≡ getD (W .w2) l 0 = second-number (W .w1) (W .w2) (λ i. byte _ (w1-below ac y i)) (λ i. byte _ (w2-below ac y i)) l (second-below q a b) in
-    let z : symbolBy (ac .u) (i3 % 2) (numbersOf (W .w1) (W .w2)) k ≡ symbolFrom (W .i3) (W .w1) (W .w2) a b c = rw (e₀, e₁, e₂, e₃, e₄, e₅, mod-eq-of-lt (w1-below ac y q), mod-eq-of-lt (w2-below ac y l)) in
+    let z : symbolBy (ac .u) (i3 % 2) (numbersOf (W .w1) (W .w2)) k ≡ pickedFrom (W .i3) (W .w1) (W .w2) a b c = rw (e₀, e₁, e₂, e₃, e₄, e₅, mod-eq-of-lt (w1-below ac y q), mod-eq-of-lt (w2-below ac y l)) in
     z ∙ best-read ac y a b c ha hb hc
 
 -- the newest symbol of a step's subset

@@ -26,7 +26,7 @@ use Rattle.trellis.specs.Pick.{keepN, least, near, gapOf, typeSum, bestI3, best
 use Rattle.trellis.proofs.Pairs.{pairs-chooses}
 use Rattle.nearest.specs.declared.Received.{Received}
 use Rattle.nearest.specs.Line.{InRange, BothInRange, lineDistance, lineMeasure, lineChoice}
-use Rattle.nearest.specs.Found.{nearestOf, costOf, weighedOf, symbolFrom}
+use Rattle.nearest.specs.Found.{nearestOf, costOf, weighedOf, pickedFrom}
 use Rattle.nearest.proofs.Distances.{distance-below}
 use Rattle.nearest.proofs.Rows.{four-at, eight-at, four-each, eight-each}
 
@@ -112,8 +112,8 @@ module _ (k : Accord) (y : Two Received) where
     unfolding weighedOf
     costs-at = eight-at (costOf k y) y0 i1 i2 a b c
 
-    pub best-read : symbolFrom (weighedOf k y .i3) (weighedOf k y .w1) (weighedOf k y .w2) y0 i1 i2 ≡ lineChoice k y y0 i1 i2
-    unfolding symbolFrom weighedOf bestOf
+    pub best-read : pickedFrom (weighedOf k y .i3) (weighedOf k y .w1) (weighedOf k y .w2) y0 i1 i2 ≡ lineChoice k y y0 i1 i2
+    unfolding pickedFrom weighedOf bestOf
     best-read =
         let q = turnOf i2 (bestI3 (k .u) lineDistance y y0 i1 i2) in
         rw (eight-at (bestI3 (k .u) lineDistance y) y0 i1 i2 a b c)

@@ -7,7 +7,7 @@
 --   nearestOf k h     for each label the nearest number below 2^u, and its distance
 --   costOf k y        the distance of the best symbol of a subset
 --   weighedOf k y     for each subset that distance and the chosen I3'; for each label the nearest numbers
---   symbolFrom        the symbol of a subset, read off the rows of I3' and of the numbers
+--   pickedFrom        the symbol of a subset, read off the rows of I3' and of the numbers
 use Prim.Native.Nat.{ℕ}
 use mathlib.Core.List.{List, [], _∷_}
 use lib.IntN.{ℤ}
@@ -53,7 +53,7 @@ weighedOf k y =
     }
 
 -- of i3, w1 and w2 of `Weighed`, and of Y0, I1 and I2'
-unfoldable pub symbolFrom : List ℕ → List ℕ → List ℕ → ℕ → ℕ → ℕ → Symbol
-symbolFrom i3s w1s w2s y0 i1 i2 =
+unfoldable pub pickedFrom : List ℕ → List ℕ → List ℕ → ℕ → ℕ → ℕ → Symbol
+pickedFrom i3s w1s w2s y0 i1 i2 =
     let i3 = getD i3s (subsetOf y0 i1 i2) 0 in
     record { y0 = y0; i1 = i1; i2 = i2; i3 = i3; w1 = getD w1s (turnOf i2 i3) 0; w2 = getD w2s (secondLabel (turnOf i2 i3) y0 i1) 0 }

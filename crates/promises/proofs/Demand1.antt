@@ -54,8 +54,8 @@ pub sender-opens : (ac : Accord) (r : Sent) → sender-promise.Opens ac r → (k
 sender-opens ac r p k = (λ e. subst (table.SenderOpens ac) (sym (p .number) ∙ e) (sender-opening-case ac), λ h. p .number ∙ sender-opening-is ac k h)
 
 module _ (s : Sender) (n : ℕ) (out : List ℤ) (r : Sent) (o : List ℤ) (p : sender-promise.Sends s n out r o) where
-  pub sends : sender.End s → (k : ℕ) → (sender.numberOf (r .why) ≡ k) ↔ table.Sends s n out k
-  sends e k = (λ z. subst (table.Sends s n out) (sym (p .number) ∙ z) (sending-case s e n out), λ h. p .number ∙ sending-is s e n out k h)
+  pub sends : sender.End s → (k : ℕ) → (sender.numberOf (r .why) ≡ k) ↔ table.SendGives s n out k
+  sends e k = (λ z. subst (table.SendGives s n out) (sym (p .number) ∙ z) (sending-case s e n out), λ h. p .number ∙ sending-is s e n out k h)
 
   pub sends-left : (sender.numberOf (r .why) ≡ 0 → ⊥) → (r .sender ≡ s) × (o ≡ out)
   sends-left z = let k = refused-keeps s n out (λ e. z (p .number ∙ e)) in (p .sender ∙ k .0, p .output ∙ k .1)
@@ -69,34 +69,34 @@ module _ (ac : Accord) (w : ℕ) (b : Start) (r : Opened) (p : Opens ac w b r) w
 -- ---- a piece and a finish
 
 module _ (t : Told) (f : Fine t) (rx : Receiver) (m : rx ≡ machineOf t) (out : List ℕ) (r : Answer) (o : List ℕ) where
-  pub hears : (q : Piece) → Hears rx q out r o → (g : Reason) → (givenOf (r .why) ≡ g) ↔ table.Hears t q (length out) (r .taken) (r .written) g
+  pub hears : (q : Piece) → Hears rx q out r o → (g : Reason) → (givenOf (r .why) ≡ g) ↔ table.PieceGives t q (length out) (r .taken) (r .written) g
   hears q p g =
       let w = p .owed t f m in
-      let c : table.Hears t q (length out) (r .taken) (r .written) (givenOf (r .why)) =
+      let c : table.PieceGives t q (length out) (r .taken) (r .written) (givenOf (r .why)) =
       rw (w .given, w .taken, w .written) (piece-case t q (length out)) in
-      (λ e. subst (table.Hears t q (length out) (r .taken) (r .written)) e c, λ h. piece-one t q (length out) (r .taken) (r .written) (givenOf (r .why)) g c h)
+      (λ e. subst (table.PieceGives t q (length out) (r .taken) (r .written)) e c, λ h. piece-one t q (length out) (r .taken) (r .written) (givenOf (r .why)) g c h)
 
-  pub finishes : Finishes rx out r o → (k : ℕ) → (givenOf (r .why) .number ≡ k) ↔ table.Finishes t (length out) k
+  pub finishes : Finishes rx out r o → (k : ℕ) → (givenOf (r .why) .number ≡ k) ↔ table.FinishGives t (length out) k
   finishes p k =
       let e : givenOf (r .why) .number ≡ finishOwed t (length out) .reason .number = ap (λ (x : Reason). x .number) (p .owed t f m .given) in
-      (λ z. subst (table.Finishes t (length out)) (sym e ∙ z) (finish-case t (length out)), λ h. e ∙ finish-is t (length out) k h)
+      (λ z. subst (table.FinishGives t (length out)) (sym e ∙ z) (finish-case t (length out)), λ h. e ∙ finish-is t (length out) k h)
 
 -- no table of an open receiver has a 9
-said-open : (t : Told) (ys : List (Two Received)) (y : Two Received) (room : ℕ) (g : Reason) → table.Said t ys y room g → g .number ≡ 9 → ⊥
-said-open t ys y room g (table.Said.five i) e = omega arith
-said-open t ys y room g (table.Said.seven i j) e = omega arith
-said-open t ys y room g (table.Said.six i j k) e = omega arith
-said-open t ys y room g (table.Said.eight i j k l) e = omega arith
-said-open t ys y room g (table.Said.taken i j k l) e = omega arith
+said-open : (t : Told) (ys : List (Two Received)) (y : Two Received) (room : ℕ) (g : Reason) → table.SymbolGives t ys y room g → g .number ≡ 9 → ⊥
+said-open t ys y room g (table.SymbolGives.five i) e = omega arith
+said-open t ys y room g (table.SymbolGives.seven i j) e = omega arith
+said-open t ys y room g (table.SymbolGives.six i j k) e = omega arith
+said-open t ys y room g (table.SymbolGives.eight i j k l) e = omega arith
+said-open t ys y room g (table.SymbolGives.taken i j k l) e = omega arith
 
-hears-open : (t : Told) (q : Piece) (room m n : ℕ) (g : Reason) → table.Hears t q room m n g → g .number ≡ 9 → ⊥
-hears-open t q room m n g (table.Hears.ten a b c) e = omega arith
-hears-open t q room m n g (table.Hears.whole a b c) e = omega arith
-hears-open t q room m n g (table.Hears.stopped a y later d k g′ z s) e = said-open t (reverse (take m (q .symbols)) ++ t .heard) y (room - n) g s e
+hears-open : (t : Told) (q : Piece) (room m n : ℕ) (g : Reason) → table.PieceGives t q room m n g → g .number ≡ 9 → ⊥
+hears-open t q room m n g (table.PieceGives.ten a b c) e = omega arith
+hears-open t q room m n g (table.PieceGives.whole a b c) e = omega arith
+hears-open t q room m n g (table.PieceGives.stopped a y later d k g′ z s) e = said-open t (reverse (take m (q .symbols)) ++ t .heard) y (room - n) g s e
 
-finishes-open : (t : Told) (room k : ℕ) → table.Finishes t room k → k ≡ 9 → ⊥
-finishes-open t room k (table.Finishes.eight h) e = omega arith
-finishes-open t room k (table.Finishes.done h) e = omega arith
+finishes-open : (t : Told) (room k : ℕ) → table.FinishGives t room k → k ≡ 9 → ⊥
+finishes-open t room k (table.FinishGives.eight h) e = omega arith
+finishes-open t room k (table.FinishGives.done h) e = omega arith
 
 module _ (rx : Receiver) (e : End rx) (out : List ℕ) (r : Answer) (o : List ℕ) where
   pub hears-nine : (q : Piece) → Hears rx q out r o → (givenOf (r .why) .number ≡ 9) ↔ (rx .live ≡ false)
@@ -127,14 +127,14 @@ module _ (rx : Receiver) (e : End rx) (out : List ℕ) (r : Answer) (o : List �
 
 module _ (t : Told) (ys : List (Two Received)) (y : Two Received) (room : ℕ) where
   pub seven : length ys ≡ 4294967295 → BothInRange y → judgeSymbol t ys y room ≡ reason 7
-  seven e r = said-is t ys y room (reason 7) (table.Said.seven r (omega arith))
+  seven e r = said-is t ys y room (reason 7) (table.SymbolGives.seven r (omega arith))
 
   pub no-seven : length ys < 4294967295 → judgeSymbol t ys y room .number ≡ 7 → ⊥
   no-seven h = go (judgeSymbol t ys y room) (said-case t ys y room)
     where
-      go : (g : Reason) → table.Said t ys y room g → g .number ≡ 7 → ⊥
-      go g (table.Said.five a) e = omega arith
-      go g (table.Said.seven a b) e = omega arith
-      go g (table.Said.six a b c) e = omega arith
-      go g (table.Said.eight a b c d) e = omega arith
-      go g (table.Said.taken a b c d) e = omega arith
+      go : (g : Reason) → table.SymbolGives t ys y room g → g .number ≡ 7 → ⊥
+      go g (table.SymbolGives.five a) e = omega arith
+      go g (table.SymbolGives.seven a b) e = omega arith
+      go g (table.SymbolGives.six a b c) e = omega arith
+      go g (table.SymbolGives.eight a b c d) e = omega arith
+      go g (table.SymbolGives.taken a b c d) e = omega arith

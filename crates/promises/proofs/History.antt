@@ -49,7 +49,7 @@ fine-same t zs (y ∷ ys) f = (f .0, f .1, fine-same t zs ys (f .2))
 heard-one : (t : Told) (f : Fine t) (y : Two Received) → BothInRange y → length (t .heard) < 4294967295 → pendingAfter t (y ∷ t .heard) ≤ t .window →
     pieceOwed t (pieceOf (fourOf y)) 64 .told ≡ withHeard t (y ∷ t .heard)
 unfolding pieceOwed walk
-heard-one t f y r few h = rw (said-is t (t .heard) y 64 (reason 0) (table.Said.taken r few h (fresh-most t f y r few)))
+heard-one t f y r few h = rw (said-is t (t .heard) y 64 (reason 0) (table.SymbolGives.taken r few h (fresh-most t f y r few)))
 
 module _ (ac : Accord) (w : ℕ) (b : Start) where
   abbrev after : List (Two Received) → Told

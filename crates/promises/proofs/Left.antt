@@ -57,14 +57,14 @@ module _ (t : Told) (f : Fine t) (rx : Receiver) (m : rx ≡ machineOf t) (q : P
       no-words ys zs room n e (table.Takes.none ys′ room′) = refl
       no-words ys zs room n e (table.Takes.next ys′ zs′ y room′ n′ s k) = absurd (let l : _≡_ {A = ℕ} (length zs) 0 = ap length e in omega arith)
 
-      go : (g : Reason) → table.Hears t q (length out) (r .taken) (r .written) g → r .written ≡ 0
-      go g (table.Hears.ten a b c) = c
-      go g (table.Hears.whole a b k) = no-words (t .heard) (q .symbols) (length out) (r .written) (empty (q .symbols) (sym b ∙ z)) k
+      go : (g : Reason) → table.PieceGives t q (length out) (r .taken) (r .written) g → r .written ≡ 0
+      go g (table.PieceGives.ten a b c) = c
+      go g (table.PieceGives.whole a b k) = no-words (t .heard) (q .symbols) (length out) (r .written) (empty (q .symbols) (sym b ∙ z)) k
         where
           empty : (l : List (Two Received)) → length l ≡ 0 → l ≡ []
           empty [] e = refl
           empty (x ∷ l) e = absurd (omega arith)
-      go g (table.Hears.stopped a y later d k g′ z′ s) = no-words (t .heard) (take (r .taken) (q .symbols)) (length out) (r .written) (ap (λ (n : ℕ). take n (q .symbols)) z) k
+      go g (table.PieceGives.stopped a y later d k g′ z′ s) = no-words (t .heard) (take (r .taken) (q .symbols)) (length out) (r .written) (ap (λ (n : ℕ). take n (q .symbols)) z) k
 
 -- whatever the end, closed or told something
 pub hears-refused : (rx : Receiver) → End rx → (q : Piece) (out : List ℕ) (r : Answer) (o : List ℕ) → Hears rx q out r o → r .taken ≡ 0 → (r .receiver ≡ rx) × (r .written ≡ 0) × (o ≡ out)

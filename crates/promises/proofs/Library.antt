@@ -43,7 +43,7 @@ use Rattle.demfizagu.specs.Calls.{Call, toldOf, callOf, senderOpening, sendCall
 use Rattle.demfizagu.specs.Promise as library
 use Rattle.promises.specs.Talk as ends
 use Rattle.promises.specs.Table as table
-use Rattle.promises.specs.Library.{taken, written, Hears, opens, hears, refuses, short, copied, Ended}
+use Rattle.promises.specs.Library.{taken, written, LibraryHears, opens, hears, refuses, short, copied, LibraryEnded}
 use Rattle.promises.specs.Library as calls
 use Rattle.promises.proofs.Follows as follows
 use Rattle.promises.proofs.Demand1 as demand1
@@ -111,7 +111,7 @@ module _ (k : Accord) (w : ℕ) (b : Start) where
       go true q = absurd (omega (arith, q .number))
       go false q = subst (ends.Talk k w b [] []) (sym (q .reads)) (ends.opens (record { receiver = opening k w b .receiver; why = opening k w b .why }) (opening-opens k w b) (sym (q .number) ∙ z))
 
-  pub talks : (took : List (Two Received)) (ws state : List ℕ) → Hears k w b took ws state → ends.Talk k w b took ws (receiverIn state)
+  pub talks : (took : List (Two Received)) (ws state : List ℕ) → LibraryHears k w b took ws state → ends.Talk k w b took ws (receiverIn state)
   talks took ws state (opens before s n p z) = opened-talk before s n p z
   talks took ws state (hears {took = l} {ws = vs} {state = s} h piece out told long n s′ o told′ a) =
       let d = heard-by s out told long n s′ o told′ piece a in
@@ -126,7 +126,7 @@ module _ (k : Accord) (w : ℕ) (b : Start) where
   talks took ws state (short {state = s} h piece out told few n s′ o told′ a) = subst (ends.Talk k w b took ws) (sym (a .reads ∙ too-short s piece out told few)) (talks took ws s h)
   talks took ws state (copied {state = s} h other e) = subst (ends.Talk k w b took ws) (sym e) (talks took ws s h)
 
-  pub ended : (took : List (Two Received)) (ws : List ℕ) → Ended k w b took ws → ends.Ended k w b took ws
+  pub ended : (took : List (Two Received)) (ws : List ℕ) → LibraryEnded k w b took ws → ends.Ended k w b took ws
   ended took ws (calls.ends {ws = vs} {state = s} h out told long n s′ o told′ a z) =
       let d = ended-by s out told long n s′ o told′ a in
       let r = finishing (receiverIn s) (length out) in
@@ -167,34 +167,34 @@ module _ (k : Accord) where
       go true q = absurd (omega (arith, q .number))
       go false q = subst (run.Talk k [] []) (sym (q .reads)) (run.opens (record { sender = sender.opening k .sender; why = Done }) (opened-by k (sym (q .number) ∙ z)) refl)
 
-  pub sent : (ws : List ℕ) (ps : List ℤ) (state : List ℕ) → calls.Sends k ws ps state → run.Talk k ws ps (senderIn state)
+  pub sent : (ws : List ℕ) (ps : List ℤ) (state : List ℕ) → calls.LibrarySends k ws ps state → run.Talk k ws ps (senderIn state)
   unfolding sendCall
-  sent ws ps state (calls.Sends.opens before s n p z) = opened-sends before s n p z
-  sent ws ps state (calls.Sends.takes {ws = vs} {ps = qs} {state = s} h word n out o s′ a z) =
+  sent ws ps state (calls.LibrarySends.opens before s n p z) = opened-sends before s n p z
+  sent ws ps state (calls.LibrarySends.takes {ws = vs} {ps = qs} {state = s} h word n out o s′ a z) =
       let g = sender.sending (senderIn s) word out in
       rw (a .reads)
       (run.takes (sent vs qs s h) word out o (record { sender = g .sender; why = whyOf (g .number) }) (sent-by (senderIn s) word out o (a .out-is)) (sent-by (senderIn s) word out o (a .out-is) .number ∙ sym (a .number) ∙ z))
-  sent ws ps state (calls.Sends.refuses {state = s} h word n out o s′ a z) =
+  sent ws ps state (calls.LibrarySends.refuses {state = s} h word n out o s′ a z) =
       let g = sender.sending (senderIn s) word out in
       rw (a .reads)
       (run.refuses (sent ws ps s h) word out o (record { sender = g .sender; why = whyOf (g .number) }) (sent-by (senderIn s) word out o (a .out-is)) (λ e. z (a .number ∙ sym (sent-by (senderIn s) word out o (a .out-is) .number) ∙ e)))
-  sent ws ps state (calls.Sends.copied {state = s} h other e) = subst (run.Talk k ws ps) (sym e) (sent ws ps s h)
+  sent ws ps state (calls.LibrarySends.copied {state = s} h other e) = subst (run.Talk k ws ps) (sym e) (sent ws ps s h)
 
 -- ---- the demands
 
 module _ (k : Accord) (w : ℕ) (b : Start) (took : List (Two Received)) (ws : List ℕ) where
-  pub exact : (state : List ℕ) → Hears k w b took ws state → (l : List Symbol) → Longest (codeOf k (startOf b)) (reverse took) l → ws ≡ wordsOf k (startOf b) l
+  pub exact : (state : List ℕ) → LibraryHears k w b took ws state → (l : List Symbol) → Longest (codeOf k (startOf b)) (reverse took) l → ws ≡ wordsOf k (startOf b) l
   exact state h = demand3.exact k w b took ws (receiverIn state) (talks k w b took ws state h)
 
-  pub final : (state : List ℕ) → Hears k w b took ws state → (zs : List (Two Received)) (p : Path Symbol) → IsAnswer (codeOf k (startOf b)) (reverse (took ++ zs)) p → IsPrefix ws (wordsOf k (startOf b) (symbols p))
+  pub final : (state : List ℕ) → LibraryHears k w b took ws state → (zs : List (Two Received)) (p : Path Symbol) → IsAnswer (codeOf k (startOf b)) (reverse (took ++ zs)) p → IsPrefix ws (wordsOf k (startOf b) (symbols p))
   final state h = demand3.final k w b took ws (receiverIn state) (talks k w b took ws state h)
 
-  pub whole : Ended k w b took ws → (p : Path Symbol) → IsAnswer (codeOf k (startOf b)) (reverse took) p → ws ≡ wordsOf k (startOf b) (symbols p)
+  pub whole : LibraryEnded k w b took ws → (p : Path Symbol) → IsAnswer (codeOf k (startOf b)) (reverse took) p → ws ≡ wordsOf k (startOf b) (symbols p)
   whole e = demand3.whole k w b took ws (ended k w b took ws e)
 
   -- the number, the place in told[2], and the counts of a piece after such a run
-  pub numbers : (state : List ℕ) → Hears k w b took ws state → (piece : List ℤ) (out told : List ℕ) → 3 ≤ length told → (n : ℕ) (state′ o told′ : List ℕ) → library.Answers (hearCall state piece out told) n state′ o told′ →
-      table.Hears (follows.toldOf k w b took) (pieceOf piece) (length out) (taken told′) (written told′) (record { number = n; place = getD told′ 2 0 })
+  pub numbers : (state : List ℕ) → LibraryHears k w b took ws state → (piece : List ℤ) (out told : List ℕ) → 3 ≤ length told → (n : ℕ) (state′ o told′ : List ℕ) → library.Answers (hearCall state piece out told) n state′ o told′ →
+      table.PieceGives (follows.toldOf k w b took) (pieceOf piece) (length out) (taken told′) (written told′) (record { number = n; place = getD told′ 2 0 })
   numbers state h piece out told long n state′ o told′ a =
       let d = heard-by state out told long n state′ o told′ piece a in
       let r = hearing (receiverIn state) (pieceOf piece) (length out) in
@@ -203,5 +203,5 @@ module _ (k : Accord) (w : ℕ) (b : Start) (took : List (Two Received)) (ws : L
       (demand1.hears (follows.toldOf k w b took) (f .fine) (receiverIn state) (f .machine) out (answer r) o (pieceOf piece)
       (doors.hears (receiverIn state) (pieceOf piece) out (answer r) o (is-answer r out n state′ o told′ d)) (givenOf (r .why)) .0 refl)
 
-pub round-trip : (k : Accord) (w : ℕ) (b : Start) → StartsAtZero b → (words : List ℕ) (ps : List ℤ) (state ws : List ℕ) → calls.Sends k words ps state → Ended k w b (symbolsOf (allOnLine ps)) ws → ws ≡ words
+pub round-trip : (k : Accord) (w : ℕ) (b : Start) → StartsAtZero b → (words : List ℕ) (ps : List ℤ) (state ws : List ℕ) → calls.LibrarySends k words ps state → LibraryEnded k w b (symbolsOf (allOnLine ps)) ws → ws ≡ words
 round-trip k w b z words ps state ws s e = demand2.round-trip k w b z words ps (senderIn state) (sent k words ps state s) ws (ended k w b (symbolsOf (allOnLine ps)) ws e)

@@ -42,15 +42,15 @@ module _ (t : Told) (g : GoodStart (t .start)) where
     pub six : (judgeSymbol t ys y room .number ≡ 6) ↔ (t .window < length (y ∷ ys) - length l)
     six = (
       λ e. go (judgeSymbol t ys y room) (said-case t ys y room) e,
-      λ k. ap (λ (r : Reason). r .number) (said-is t ys y room (reason 6) (table.Said.six good few (omega (arith, pending-is)))),
+      λ k. ap (λ (r : Reason). r .number) (said-is t ys y room (reason 6) (table.SymbolGives.six good few (omega (arith, pending-is)))),
     )
       where
-        go : (r : Reason) → table.Said t ys y room r → r .number ≡ 6 → t .window < length (y ∷ ys) - length l
-        go r (table.Said.five a) e = absurd (omega arith)
-        go r (table.Said.seven a b) e = absurd (omega arith)
-        go r (table.Said.six a b c) e = omega (arith, pending-is)
-        go r (table.Said.eight a b c d) e = absurd (omega arith)
-        go r (table.Said.taken a b c d) e = absurd (omega arith)
+        go : (r : Reason) → table.SymbolGives t ys y room r → r .number ≡ 6 → t .window < length (y ∷ ys) - length l
+        go r (table.SymbolGives.five a) e = absurd (omega arith)
+        go r (table.SymbolGives.seven a b) e = absurd (omega arith)
+        go r (table.SymbolGives.six a b c) e = omega (arith, pending-is)
+        go r (table.SymbolGives.eight a b c d) e = absurd (omega arith)
+        go r (table.SymbolGives.taken a b c d) e = absurd (omega arith)
 
     -- 6 has passed too
     module _ (held : length (y ∷ ys) - length l ≤ t .window) (l₀ : List Symbol) (h₀ : Is ys l₀) where
@@ -60,12 +60,12 @@ module _ (t : Told) (g : GoodStart (t .start)) where
       pub eight : (judgeSymbol t ys y room .number ≡ 8) ↔ (room < length l - length l₀)
       eight = (
         λ e. go (judgeSymbol t ys y room) (said-case t ys y room) e,
-        λ k. ap (λ (r : Reason). r .number) (said-is t ys y room (reason 8) (table.Said.eight good few (omega (arith, pending-is)) (omega (arith, new-is)))),
+        λ k. ap (λ (r : Reason). r .number) (said-is t ys y room (reason 8) (table.SymbolGives.eight good few (omega (arith, pending-is)) (omega (arith, new-is)))),
       )
         where
-          go : (r : Reason) → table.Said t ys y room r → r .number ≡ 8 → room < length l - length l₀
-          go r (table.Said.five a) e = absurd (omega arith)
-          go r (table.Said.seven a b) e = absurd (omega arith)
-          go r (table.Said.six a b c) e = absurd (omega arith)
-          go r (table.Said.eight a b c d) e = omega (arith, new-is)
-          go r (table.Said.taken a b c d) e = absurd (omega arith)
+          go : (r : Reason) → table.SymbolGives t ys y room r → r .number ≡ 8 → room < length l - length l₀
+          go r (table.SymbolGives.five a) e = absurd (omega arith)
+          go r (table.SymbolGives.seven a b) e = absurd (omega arith)
+          go r (table.SymbolGives.six a b c) e = absurd (omega arith)
+          go r (table.SymbolGives.eight a b c d) e = omega (arith, new-is)
+          go r (table.SymbolGives.taken a b c d) e = absurd (omega arith)

@@ -65,21 +65,21 @@ module _ (s : Sender) (e : sender.End s) (n : ℕ) (out : List ℤ) where
   sound-live true l z = l
   sound-live false l z = absurd (let x : _≡_ {A = Bool} false true = sym (sender-shut s l) ∙ z in let y : _≡_ {A = ℕ} 0 1 = cc in omega arith)
 
-  pub sending-case : table.Sends s n out (sender.sending s n out .number)
+  pub sending-case : table.SendGives s n out (sender.sending s n out .number)
   sending-case = go (sender.sending s n out) (sending.outcome s n out)
     where
-      go : (g : sender.Given) → sending.Outcome s n out g → table.Sends s n out (g .number)
-      go g (sending.closed f) = table.Sends.nine (shut-live (s .live) refl f)
-      go g (sending.bad-word f w) = table.Sends.four (sound-live (s .live) refl f) w
-      go g (sending.no-room f w l) = table.Sends.eight (sound-live (s .live) refl f) w l
-      go g (sending.taken f w l) = table.Sends.done (sound-live (s .live) refl f) w l
+      go : (g : sender.Given) → sending.Outcome s n out g → table.SendGives s n out (g .number)
+      go g (sending.closed f) = table.SendGives.nine (shut-live (s .live) refl f)
+      go g (sending.bad-word f w) = table.SendGives.four (sound-live (s .live) refl f) w
+      go g (sending.no-room f w l) = table.SendGives.eight (sound-live (s .live) refl f) w l
+      go g (sending.taken f w l) = table.SendGives.done (sound-live (s .live) refl f) w l
 
-  pub sending-is : (k : ℕ) → table.Sends s n out k → sender.sending s n out .number ≡ k
+  pub sending-is : (k : ℕ) → table.SendGives s n out k → sender.sending s n out .number ≡ k
   unfolding sender.sending
-  sending-is k (table.Sends.nine l) = rw (live-sound false l)
-  sending-is k (table.Sends.four l w) = rw (live-sound true l, w)
-  sending-is k (table.Sends.eight l w r) = rw (live-sound true l, w, lt-leb 4 (length out) r)
-  sending-is k (table.Sends.done l w r) = rw (live-sound true l, w, le-leb 4 (length out) r)
+  sending-is k (table.SendGives.nine l) = rw (live-sound false l)
+  sending-is k (table.SendGives.four l w) = rw (live-sound true l, w)
+  sending-is k (table.SendGives.eight l w r) = rw (live-sound true l, w, lt-leb 4 (length out) r)
+  sending-is k (table.SendGives.done l w r) = rw (live-sound true l, w, le-leb 4 (length out) r)
 
 -- ---- the receiver's opening
 
@@ -110,42 +110,42 @@ module _ (ac : Accord) (w : ℕ) (b : Start) where
 -- ---- a symbol
 
 module _ (t : Told) (ys : List (Two Received)) (y : Two Received) (room : ℕ) where
-  pub said-case : table.Said t ys y room (judgeSymbol t ys y room)
+  pub said-case : table.SymbolGives t ys y room (judgeSymbol t ys y room)
   unfolding judgeSymbol
   said-case = go (ltb (faultOf y) 4) (leb 4294967295 (length ys)) (ltb (t .window) (pendingAfter t (y ∷ ys))) (ltb room (length (fresh (speakerOf t) ys y))) refl refl refl refl
     where
       go : (a b c d : Bool) → ltb (faultOf y) 4 ≡ a → leb 4294967295 (length ys) ≡ b → ltb (t .window) (pendingAfter t (y ∷ ys)) ≡ c → ltb room (length (fresh (speakerOf t) ys y)) ≡ d →
-          table.Said t ys y room (cond a (record { number = 5; place = faultOf y }) (cond b (reason 7) (cond c (reason 6) (cond d (reason 8) (reason 0)))))
-      go true b c d e f g h = table.Said.five (ltb-true (faultOf y) 4 e)
-      go false true c d e f g h = table.Said.seven (in-range y e) (leb-true 4294967295 (length ys) f)
-      go false false true d e f g h = table.Said.six (in-range y e) (leb-false 4294967295 (length ys) f) (ltb-true (t .window) (pendingAfter t (y ∷ ys)) g)
+          table.SymbolGives t ys y room (cond a (record { number = 5; place = faultOf y }) (cond b (reason 7) (cond c (reason 6) (cond d (reason 8) (reason 0)))))
+      go true b c d e f g h = table.SymbolGives.five (ltb-true (faultOf y) 4 e)
+      go false true c d e f g h = table.SymbolGives.seven (in-range y e) (leb-true 4294967295 (length ys) f)
+      go false false true d e f g h = table.SymbolGives.six (in-range y e) (leb-false 4294967295 (length ys) f) (ltb-true (t .window) (pendingAfter t (y ∷ ys)) g)
       go false false false true e f g h =
-          table.Said.eight (in-range y e) (leb-false 4294967295 (length ys) f) (ltb-false (t .window) (pendingAfter t (y ∷ ys)) g) (ltb-true room (length (fresh (speakerOf t) ys y)) h)
+          table.SymbolGives.eight (in-range y e) (leb-false 4294967295 (length ys) f) (ltb-false (t .window) (pendingAfter t (y ∷ ys)) g) (ltb-true room (length (fresh (speakerOf t) ys y)) h)
       go false false false false e f g h =
-          table.Said.taken (in-range y e) (leb-false 4294967295 (length ys) f) (ltb-false (t .window) (pendingAfter t (y ∷ ys)) g) (ltb-false room (length (fresh (speakerOf t) ys y)) h)
+          table.SymbolGives.taken (in-range y e) (leb-false 4294967295 (length ys) f) (ltb-false (t .window) (pendingAfter t (y ∷ ys)) g) (ltb-false room (length (fresh (speakerOf t) ys y)) h)
 
-  pub said-is : (g : Reason) → table.Said t ys y room g → judgeSymbol t ys y room ≡ g
+  pub said-is : (g : Reason) → table.SymbolGives t ys y room g → judgeSymbol t ys y room ≡ g
   unfolding judgeSymbol
-  said-is g (table.Said.five h) = rw (lt-ltb (faultOf y) 4 h)
-  said-is g (table.Said.seven r n) = rw (no-fault y r, le-leb 4294967295 (length ys) n)
-  said-is g (table.Said.six r n p) = rw (no-fault y r, lt-leb 4294967295 (length ys) n, lt-ltb (t .window) (pendingAfter t (y ∷ ys)) p)
-  said-is g (table.Said.eight r n p q) =
+  said-is g (table.SymbolGives.five h) = rw (lt-ltb (faultOf y) 4 h)
+  said-is g (table.SymbolGives.seven r n) = rw (no-fault y r, le-leb 4294967295 (length ys) n)
+  said-is g (table.SymbolGives.six r n p) = rw (no-fault y r, lt-leb 4294967295 (length ys) n, lt-ltb (t .window) (pendingAfter t (y ∷ ys)) p)
+  said-is g (table.SymbolGives.eight r n p q) =
       rw (no-fault y r, lt-leb 4294967295 (length ys) n, le-ltb (t .window) (pendingAfter t (y ∷ ys)) p, lt-ltb room (length (fresh (speakerOf t) ys y)) q)
-  said-is g (table.Said.taken r n p q) =
+  said-is g (table.SymbolGives.taken r n p q) =
       rw (no-fault y r, lt-leb 4294967295 (length ys) n, le-ltb (t .window) (pendingAfter t (y ∷ ys)) p, le-ltb room (length (fresh (speakerOf t) ys y)) q)
 
 -- ---- a piece
 
 -- a symbol is answered with 0 only if it is taken
-said-taken : (t : Told) (ys : List (Two Received)) (y : Two Received) (room : ℕ) → judgeSymbol t ys y room .number ≡ 0 → table.Said t ys y room (reason 0)
+said-taken : (t : Told) (ys : List (Two Received)) (y : Two Received) (room : ℕ) → judgeSymbol t ys y room .number ≡ 0 → table.SymbolGives t ys y room (reason 0)
 said-taken t ys y room z = go (judgeSymbol t ys y room) (said-case t ys y room) z
   where
-    go : (g : Reason) → table.Said t ys y room g → g .number ≡ 0 → table.Said t ys y room (reason 0)
-    go g (table.Said.five a) e = absurd (omega arith)
-    go g (table.Said.seven a b) e = absurd (omega arith)
-    go g (table.Said.six a b c) e = absurd (omega arith)
-    go g (table.Said.eight a b c d) e = absurd (omega arith)
-    go g (table.Said.taken a b c d) e = table.Said.taken a b c d
+    go : (g : Reason) → table.SymbolGives t ys y room g → g .number ≡ 0 → table.SymbolGives t ys y room (reason 0)
+    go g (table.SymbolGives.five a) e = absurd (omega arith)
+    go g (table.SymbolGives.seven a b) e = absurd (omega arith)
+    go g (table.SymbolGives.six a b c) e = absurd (omega arith)
+    go g (table.SymbolGives.eight a b c d) e = absurd (omega arith)
+    go g (table.SymbolGives.taken a b c d) e = table.SymbolGives.taken a b c d
 
 -- how the symbols zs went after ys: all taken, or up to the first that is refused
 data Went (t : Told) (ys zs : List (Two Received)) (room : ℕ) (e : Ended (speakerOf t) (judgeOf t)) : Type 0 where
@@ -183,25 +183,25 @@ heard-then t ys zs room =
     ∙ ap (λ (l : List (Two Received)). reverse (take (e .taken) zs) ++ l) (reverse-reverse ys)
 
 module _ (t : Told) (q : Piece) (room : ℕ) where
-  pub piece-case : let d = pieceOwed t q room in table.Hears t q room (d .taken) (length (d .words)) (d .reason)
+  pub piece-case : let d = pieceOwed t q room in table.PieceGives t q room (d .taken) (length (d .words)) (d .reason)
   unfolding pieceOwed
   piece-case = go (q .fits) refl
     where
       e : Ended (speakerOf t) (judgeOf t)
       e = endedOf t q room
 
-      walked : q .fits ≡ true → Went t (t .heard) (q .symbols) room e → table.Hears t q room (e .taken) (length (e .said)) (e .why)
-      walked z (all m w k) = subst (table.Hears t q room (e .taken) (length (e .said))) (sym w) (table.Hears.whole z m k)
+      walked : q .fits ≡ true → Went t (t .heard) (q .symbols) room e → table.PieceGives t q room (e .taken) (length (e .said)) (e .why)
+      walked z (all m w k) = subst (table.PieceGives t q room (e .taken) (length (e .said))) (sym w) (table.PieceGives.whole z m k)
       walked z (some y later d w n k) =
-          table.Hears.stopped z y later d k (e .why) n
-          (subst (table.Said t (reverse (take (e .taken) (q .symbols)) ++ t .heard) y (room - length (e .said))) (sym (w ∙ ap (λ (l : List (Two Received)). judgeSymbol t l y (room - length (e .said))) (heard-then t (t .heard) (q .symbols) room)))
+          table.PieceGives.stopped z y later d k (e .why) n
+          (subst (table.SymbolGives t (reverse (take (e .taken) (q .symbols)) ++ t .heard) y (room - length (e .said))) (sym (w ∙ ap (λ (l : List (Two Received)). judgeSymbol t l y (room - length (e .said))) (heard-then t (t .heard) (q .symbols) room)))
           (said-case t (reverse (take (e .taken) (q .symbols)) ++ t .heard) y (room - length (e .said))))
 
       go : (b : Bool) → q .fits ≡ b →
           let d : Owed = cond b (record { reason = e .why; taken = e .taken; words = e .said; told = withHeard t (e .heard) }) (record { reason = reason 10; taken = 0; words = []; told = t }) in
-          table.Hears t q room (d .taken) (length (d .words)) (d .reason)
+          table.PieceGives t q room (d .taken) (length (d .words)) (d .reason)
       go true e₀ = walked e₀ (went t (t .heard) (q .symbols) room)
-      go false e₀ = table.Hears.ten e₀ refl refl
+      go false e₀ = table.PieceGives.ten e₀ refl refl
 
 pub apart : (b : Bool) → b ≡ true → b ≡ false → ⊥
 apart b e f = let z : _≡_ {A = ℕ} 0 1 = cc in omega arith
@@ -214,16 +214,16 @@ abbrev headOr : Two Received → List (Two Received) → Two Received
 headOr d [] = d
 headOr d (x ∷ l) = x
 
-pub piece-one : (t : Told) (q : Piece) (room m n : ℕ) (g h : Reason) → table.Hears t q room m n g → table.Hears t q room m n h → g ≡ h
-piece-one t q room m n g h (table.Hears.ten a p k) (table.Hears.ten b r s) = refl
-piece-one t q room m n g h (table.Hears.ten a p k) (table.Hears.whole b r v) = absurd (apart (q .fits) b a)
-piece-one t q room m n g h (table.Hears.ten a p k) (table.Hears.stopped b y later d v₂ g′ z s) = absurd (apart (q .fits) b a)
-piece-one t q room m n g h (table.Hears.whole a p v) (table.Hears.ten b r s) = absurd (apart (q .fits) a b)
-piece-one t q room m n g h (table.Hears.whole a p v) (table.Hears.whole b r v₂) = refl
-piece-one t q room m n g h (table.Hears.whole a p v) (table.Hears.stopped b y later d v₂ g′ z s) = absurd (not-more (q .symbols) m y later p d)
-piece-one t q room m n g h (table.Hears.stopped a y later d v g′ z s) (table.Hears.ten b r k) = absurd (apart (q .fits) a b)
-piece-one t q room m n g h (table.Hears.stopped a y later d v g′ z s) (table.Hears.whole b r v₂) = absurd (not-more (q .symbols) m y later r d)
-piece-one t q room m n g h (table.Hears.stopped a y later d v g′ z s) (table.Hears.stopped b y₂ later₂ d₂ v₂ g₂ z₂ s₂) =
+pub piece-one : (t : Told) (q : Piece) (room m n : ℕ) (g h : Reason) → table.PieceGives t q room m n g → table.PieceGives t q room m n h → g ≡ h
+piece-one t q room m n g h (table.PieceGives.ten a p k) (table.PieceGives.ten b r s) = refl
+piece-one t q room m n g h (table.PieceGives.ten a p k) (table.PieceGives.whole b r v) = absurd (apart (q .fits) b a)
+piece-one t q room m n g h (table.PieceGives.ten a p k) (table.PieceGives.stopped b y later d v₂ g′ z s) = absurd (apart (q .fits) b a)
+piece-one t q room m n g h (table.PieceGives.whole a p v) (table.PieceGives.ten b r s) = absurd (apart (q .fits) a b)
+piece-one t q room m n g h (table.PieceGives.whole a p v) (table.PieceGives.whole b r v₂) = refl
+piece-one t q room m n g h (table.PieceGives.whole a p v) (table.PieceGives.stopped b y later d v₂ g′ z s) = absurd (not-more (q .symbols) m y later p d)
+piece-one t q room m n g h (table.PieceGives.stopped a y later d v g′ z s) (table.PieceGives.ten b r k) = absurd (apart (q .fits) a b)
+piece-one t q room m n g h (table.PieceGives.stopped a y later d v g′ z s) (table.PieceGives.whole b r v₂) = absurd (not-more (q .symbols) m y later r d)
+piece-one t q room m n g h (table.PieceGives.stopped a y later d v g′ z s) (table.PieceGives.stopped b y₂ later₂ d₂ v₂ g₂ z₂ s₂) =
     let ys = reverse (take m (q .symbols)) ++ t .heard in
     let e : y ≡ y₂ = ap (headOr y) (sym d ∙ d₂) in
     sym (said-is t ys y (room - n) g s) ∙ ap (λ (x : Two Received). judgeSymbol t ys x (room - n)) e ∙ said-is t ys y₂ (room - n) h s₂
@@ -231,17 +231,17 @@ piece-one t q room m n g h (table.Hears.stopped a y later d v g′ z s) (table.H
 -- ---- a finish
 
 module _ (t : Told) (room : ℕ) where
-  pub finish-case : table.Finishes t room (finishOwed t room .reason .number)
+  pub finish-case : table.FinishGives t room (finishOwed t room .reason .number)
   unfolding finishOwed
   finish-case = go (ltb room (length (rest (speakerOf t) (t .heard)))) refl
     where
       go : (b : Bool) → ltb room (length (rest (speakerOf t) (t .heard))) ≡ b →
           let d : FinishOwed = cond b (record { reason = reason 8; words = []; closes = false }) (record { reason = reason 0; words = rest (speakerOf t) (t .heard); closes = true }) in
-          table.Finishes t room (d .reason .number)
-      go true e = table.Finishes.eight (ltb-true room (length (rest (speakerOf t) (t .heard))) e)
-      go false e = table.Finishes.done (ltb-false room (length (rest (speakerOf t) (t .heard))) e)
+          table.FinishGives t room (d .reason .number)
+      go true e = table.FinishGives.eight (ltb-true room (length (rest (speakerOf t) (t .heard))) e)
+      go false e = table.FinishGives.done (ltb-false room (length (rest (speakerOf t) (t .heard))) e)
 
-  pub finish-is : (k : ℕ) → table.Finishes t room k → finishOwed t room .reason .number ≡ k
+  pub finish-is : (k : ℕ) → table.FinishGives t room k → finishOwed t room .reason .number ≡ k
   unfolding finishOwed
-  finish-is k (table.Finishes.eight h) = rw (lt-ltb room (length (rest (speakerOf t) (t .heard))) h)
-  finish-is k (table.Finishes.done h) = rw (le-ltb room (length (rest (speakerOf t) (t .heard))) h)
+  finish-is k (table.FinishGives.eight h) = rw (lt-ltb room (length (rest (speakerOf t) (t .heard))) h)
+  finish-is k (table.FinishGives.done h) = rw (le-ltb room (length (rest (speakerOf t) (t .heard))) h)

@@ -12,7 +12,7 @@ use Rattle.trellis.specs.Best.{Surv, absent}
 use Rattle.trellis.specs.Choose.{better, choose}
 use Rattle.trellis.specs.Search.{Search, Laws, range, answer}
 use Rattle.trellis.specs.Common.{lcp, lcps, live, common}
-use Rattle.trellis.specs.Speak.{speak, symbolsOf, spoken, answered}
+use Rattle.trellis.specs.Speak.{speak, symbolsIn, spoken, answered}
 use Rattle.trellis.specs.Measure.{Start, free, farOf, pairs, weiCode}
 use Rattle.trellis.specs.Allowed.{Allows}
 use Rattle.trellis.specs.IvEight.{Meets, bitsOf, labelBits}
@@ -44,7 +44,7 @@ laws r = wei-laws (r .width) (pairs Point gap) (bestOf (r .width) gap) (pairs-ch
 computed : Row → List (List ℕ)
 computed r =
     let best = row (S r) (reverse (r .received)) in
-    words (r .width) (r .start) (lcps sameSymbol (live (λ s. getD best s absent) (range 0 16))) ∷ words (r .width) (r .start) (symbolsOf (choose (λ s. getD best s absent) (range 0 16))) ∷ []
+    words (r .width) (r .start) (lcps sameSymbol (live (λ s. getD best s absent) (range 0 16))) ∷ words (r .width) (r .start) (symbolsIn (choose (λ s. getD best s absent) (range 0 16))) ∷ []
 
 written : Row → List (List ℕ)
 written r = r .spoken ∷ r .answer ∷ []
@@ -54,7 +54,7 @@ unfolding computed written spokenWords answerWords spoken answered
 computes r e =
     let ys = reverse (r .received) in
     let z₁ : words (r .width) (r .start) (common (S r) ys) ≡ r .spoken = ap (words (r .width) (r .start)) (common-row (S r) (laws r) ys) ∙ cc in
-    let z₂ : words (r .width) (r .start) (symbolsOf (answer (S r) ys)) ≡ r .answer = ap (λ (o : Surv _). words (r .width) (r .start) (symbolsOf o)) (answer-row (S r) (laws r) ys) ∙ cc in
+    let z₂ : words (r .width) (r .start) (symbolsIn (answer (S r) ys)) ≡ r .answer = ap (λ (o : Surv _). words (r .width) (r .start) (symbolsIn o)) (answer-row (S r) (laws r) ys) ∙ cc in
     (z₁, z₂)
 
 all-computed : map computed table ≡ map written table

@@ -440,6 +440,8 @@ impl<S: Search, M: Memory> Receiver<S, M> {
         r.open = true;
         r.u = u;
         r.window = window;
+        // 4 stands for a turn that is not known: before the first word of a free start
+        r.turn = if start < 16 { 0 } else { 4 };
         if start < 16 {
             r.sums = [UNREACHED; 16];
             r.sums[start as usize] = 0;
@@ -454,7 +456,8 @@ impl<S: Search, M: Memory> Receiver<S, M> {
             let oldest = (self.slot + 64 - self.pending + n) & 63;
             let word = self.memory.word(self.u, state, oldest, self.pending - 1 - n);
             let turn = word >> 1 & 3;
-            out[n] = word & !6 | ((turn + 4 - self.turn) & 3) << 1;
+            let turned_by = if self.turn == 4 { 0 } else { (turn + 4 - self.turn) & 3 };
+            out[n] = word & !6 | turned_by << 1;
             self.turn = turn;
         }
     }

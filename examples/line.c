@@ -18,7 +18,7 @@
 
 #include "demfizagu.h"
 
-enum { ROOM = 65, TOLD = 3, FREE_START = 16 };
+enum { ROOM = 65, TOLD = 3, FIRST_STATE = 0, FREE_START = 16 };
 
 /* A seeded generator of 32-bit numbers (the high half of a 64-bit one, SplitMix64). */
 static uint32_t draw(uint64_t *seed)
@@ -45,6 +45,7 @@ struct line {
     uint32_t u, window;
     uint32_t *sent;       /* the words sent */
     size_t said, wrong;   /* how many words were said, and how many of them were not the word sent */
+    int joined;           /* the next word is the first of a free start: its bits 1 and 2 are not known, and are zero */
 };
 
 static void stop(const char *what, uint32_t number)
@@ -57,7 +58,8 @@ static void stop(const char *what, uint32_t number)
 static void print_words(struct line *l, const char *when, size_t symbols, const uint32_t *words, uint64_t count)
 {
     for (uint64_t i = 0; i < count; i++) {
-        uint32_t sent = l->sent[l->said];
+        uint32_t sent = l->sent[l->said] & (l->joined ? ~(uint32_t)6 : ~(uint32_t)0);
+        l->joined = 0;
         printf("%s %zu: word %zu is %" PRIu32, when, symbols, l->said + 1, words[i]);
         if (words[i] != sent)
             printf(", and %" PRIu32 " was sent", sent);
@@ -100,9 +102,10 @@ static void hear(struct line *l, const int32_t heard[4], size_t symbols)
     uint64_t told[TOLD];
     uint32_t number = demfizagu_hear(l->receiver, l->receiver_words, heard, 4, words, ROOM, told, TOLD);
     if (number == DEMFIZAGU_FULL) {
-        printf("symbol %zu: the window is full; finish and open again (the next word's bits 1 and 2 may be wrong)\n",
+        printf("symbol %zu: the window is full; finish and join the line again (bits 1 and 2 of the next word stay zero)\n",
                symbols);
         finish(l, symbols - 1);
+        l->joined = 1;
         number = demfizagu_receiver_open(l->receiver, l->receiver_words, l->u, l->window, FREE_START);
         if (number == DEMFIZAGU_DONE)
             number = demfizagu_hear(l->receiver, l->receiver_words, heard, 4, words, ROOM, told, TOLD);
@@ -161,7 +164,8 @@ int main(int argc, char **argv)
     uint32_t number = demfizagu_sender_open(l.sender, l.sender_words, l.u);
     if (number != DEMFIZAGU_DONE)
         stop("opening the sender", number);
-    number = demfizagu_receiver_open(l.receiver, l.receiver_words, l.u, l.window, FREE_START);
+    /* heard from its first symbol, so the start is the one where a sender begins */
+    number = demfizagu_receiver_open(l.receiver, l.receiver_words, l.u, l.window, FIRST_STATE);
     if (number != DEMFIZAGU_DONE)
         stop("opening the receiver", number);
 

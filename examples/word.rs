@@ -7,7 +7,7 @@ extern "C" {
     fn demfizagu_receiver_words() -> usize;
     fn demfizagu_sender_open(state: *mut u64, state_len: usize, u: u32) -> u32;
     fn demfizagu_send(state: *mut u64, state_len: usize, word: u32, out: *mut i32, out_len: usize) -> u32;
-    fn demfizagu_receiver_open_plain(state: *mut u64, state_len: usize, u: u32) -> u32;
+    fn demfizagu_receiver_open(state: *mut u64, state_len: usize, u: u32, window: u32, start: u32) -> u32;
     fn demfizagu_hear(
         state: *mut u64,
         state_len: usize,
@@ -40,7 +40,7 @@ fn main() {
         let mut receiver = vec![0u64; demfizagu_receiver_words()];
         let (piece, mut out, mut told) = (points.map(|c| 128 * c), [0u32; 64], [0u64; 3]);
         let (state, len) = (receiver.as_mut_ptr(), receiver.len());
-        assert_eq!(demfizagu_receiver_open_plain(state, len, u), 0);
+        assert_eq!(demfizagu_receiver_open(state, len, u, 64, 0), 0);
         assert_eq!(demfizagu_hear(state, len, piece.as_ptr(), 4, out.as_mut_ptr(), 64, told.as_mut_ptr(), 3), 0);
         assert_eq!(demfizagu_finish(state, len, out.as_mut_ptr(), 64, told.as_mut_ptr(), 3), 0);
         println!("word {word} went out as {points:?} and came back as {:?}", &out[..told[1] as usize]);

@@ -124,7 +124,7 @@ fn load(state: &[u64]) -> Option<Held> {
         return None;
     }
     let [open, u, window, turn, taken, slot, pending] = state[1..8].try_into().unwrap();
-    let sound = open == 1 && u <= 8 && (1..=64).contains(&window) && turn < 4 && taken < 1 << 32;
+    let sound = open == 1 && u <= 8 && (1..=64).contains(&window) && turn <= 4 && taken < 1 << 32;
     if !sound || slot > 63 || pending > window || state[8..24].iter().any(|&sum| sum >= 1 << 63) {
         return None;
     }

@@ -72,9 +72,9 @@ pub fn symbol(map: &Map, y0: u32, i1: u32, turn: u32, w1: u32, w2: u32) -> Symbo
     Symbol { i1, turn, w1, w2, points: (map.point(first, w1), map.point(second, w2)) }
 }
 
-/// The word of a symbol that follows one with turn `before`.
-pub fn word_of(u: u32, before: u32, s: &Symbol) -> u32 {
-    let turned_by = (s.turn + 4 - before) % 4;
+/// The word of a symbol that follows one with turn `before`. Where that is not known bits 1 and 2 are zero (02, Wish 5).
+pub fn word_of(u: u32, before: Option<u32>, s: &Symbol) -> u32 {
+    let turned_by = before.map_or(0, |before| (s.turn + 4 - before) % 4);
     s.i1 | turned_by << 1 | s.w1 << 3 | s.w2 << (3 + u)
 }
 
@@ -194,8 +194,8 @@ pub struct Receiver {
     u: u32,
     window: u32,
     taken: u64,
-    /// The turn that the next released word is measured against.
-    turn: u32,
+    /// The turn that the next released word is measured against: none before the first word of a free start.
+    turn: Option<u32>,
     /// For each state the best sequence into it; none where it cannot be reached.
     best: Vec<Option<Reading>>,
 }
@@ -258,7 +258,7 @@ fn agreed(best: &[Option<Reading>]) -> usize {
 
 impl Receiver {
     pub fn closed() -> Receiver {
-        Receiver { open: false, u: 0, window: 0, taken: 0, turn: 0, best: vec![] }
+        Receiver { open: false, u: 0, window: 0, taken: 0, turn: None, best: vec![] }
     }
 
     pub fn open(u: u32, window: u32, start: u32) -> (u32, Receiver) {
@@ -276,7 +276,7 @@ impl Receiver {
         }
         let nothing = || Reading { sum: 0, pending: vec![] };
         let best = (0..16).map(|s| (start == FREE || start == s).then(nothing)).collect();
-        (0, Receiver { open: true, u, window, taken: 0, turn: 0, best })
+        (0, Receiver { open: true, u, window, taken: 0, turn: (start != FREE).then_some(0), best })
     }
 
     pub fn open_plain(u: u32) -> (u32, Receiver) {
@@ -320,7 +320,7 @@ impl Receiver {
     fn speak(&mut self, symbols: &[Symbol], out: &mut [u32]) {
         for (place, s) in out.iter_mut().zip(symbols) {
             *place = word_of(self.u, self.turn, s);
-            self.turn = s.turn;
+            self.turn = Some(s.turn);
         }
     }
 

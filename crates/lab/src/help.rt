@@ -9,7 +9,7 @@ A first session. Start `lab` and type the lines on the left; its answers stand o
 
   sender 0                      0             a sender of width 0, whose words are 0 to 7
   send 5 4                      0 -1 -1 1 1   word 5 is sent as the points (-1,-1) and (1,1)
-  receiver 0                    0             a receiver of the same width
+  receiver 0 64 at 0            0             a receiver of the same width, from the state where a sender starts
   piece 64 -120 -131 128 140    1 0 0         it hears them 128 times as large, a little off: 1 taken
   finish 64                     0 1 0 : 5     the line ends: 1 word, and it is 5
 
@@ -26,7 +26,8 @@ fn verbs(to: i32) -> bool {
 
   sender U                  opens a sender of width U, 0 to 8. Answer: N
   send W CAP                sends word W, below 2^(3+2U), into an output of CAP places. Answer: N, if 0 then x y x y
-  receiver U                opens a receiver with window 32 and a free start. Answer: N
+  receiver U                opens a receiver with window 32 and a free start: it may join a live line, and the first
+                            word then has bits 1 and 2 zero, for the turn before it is not known. Answer: N
   receiver U WINDOW free    the same with a window of 1 to 64 symbols that may wait undecided
   receiver U WINDOW at S    the same from the state S, 0 to 15; a sender starts at 0
   piece CAP C C C C ..      hears coordinates, four to a symbol, -8192 to 8192, into an output of CAP words

@@ -1,7 +1,8 @@
 -- DEMAND 2. "For every width, start and list of good symbols, the receiver's answer is the allowed sequence with the least sum, ties by
 -- 01's order; nothing else is. Round trip: a fresh sender's points for any list of accepted words, at 128 times their coordinates (and
 -- as floats through `samples`), into a fresh receiver of the same width with a free start or start 0 and any window, however cut into calls, none refused and the finish
--- done, come back as the words sent." And with no condition on refusals: "if the symbols taken are the first m of the sender's, the
+-- done, come back as the words sent." 02, Wish 5: "The clean round trip of demand 2 then excepts these two bits with a free start":
+-- `asHeard` (trellis/specs/Words) clears bits 1 and 2 of the first word there, and changes nothing with start 0. And with no condition on refusals: "if the symbols taken are the first m of the sender's, the
 -- words written so far begin the words sent, and with a finish that succeeds they are the first m."
 --
 -- `Talk u w b took ws rx` and `Ended u w b took ws` (specs/Talk) are any runs of calls on a receiver, cut as they may be and whichever
@@ -16,7 +17,7 @@
 --   as-floats     the sender's coordinates, each as an f32, are heard by the front end as the same coordinates, 128 times
 use mathlib.Core.Path.{_≡_, sym, ap, subst, _∙_}
 use mathlib.Core.Bool.{true}
-use mathlib.Core.List.{List, reverse, IsPrefix}
+use mathlib.Core.List.{List, _++_, reverse, IsPrefix}
 use Prim.Native.Nat.{ℕ}
 use native.Mathlib.Omega.{arith}
 use lib.IntN.{ℤ}
@@ -35,6 +36,8 @@ use Rattle.trellis.specs.Pick.{weiSearch}
 use Rattle.trellis.proofs.Answer.{answer-only}
 use Rattle.trellis.proofs.Onward.{some-answer}
 use Rattle.trellis.proofs.WeiLaws.{wei-laws, wei-onward}
+use Rattle.trellis.specs.Words.{asHeard}
+use Rattle.trellis.proofs.Words.{heard-take}
 use Rattle.trellis.proofs.Clean as trellis
 use Rattle.nearest.specs.declared.Received.{Received}
 use Rattle.nearest.proofs.Laws.{line-chooses}
@@ -83,15 +86,15 @@ any-cut ac v w b took ws vs k l = answers ac v b took ws k ∙ sym (answers ac w
 -- ---- a clean line
 
 module _ (ac : Accord) (w : ℕ) (b : Start) (z : StartsAtZero b) (sent : List ℕ) (e : Every (λ n. isWord (ac .u) n ≡ true) sent) where
-  clean-answer : Fine (toldOf ac w b (cleanly ac sent)) → speakerOf (toldOf ac w b (cleanly ac sent)) .answered (reverse (cleanly ac sent)) ≡ sent
+  clean-answer : Fine (toldOf ac w b (cleanly ac sent)) → speakerOf (toldOf ac w b (cleanly ac sent)) .answered (reverse (cleanly ac sent)) ≡ asHeard (startOf b) sent
   clean-answer f =
       trellis.round-trip (ac .u) (lineMeasure ac) (lineChoice ac) (line-chooses ac) (exact ac (f .agreed)) (startOf b) (f .good-start) 0 (omega arith) z (cleanly ac sent) sent e
       (hits ac (symbolsFrom (ac .u) 0 0 sent))
 
-  clean-ended : (ws : List ℕ) → Ended ac w b (cleanly ac sent) ws → ws ≡ sent
+  clean-ended : (ws : List ℕ) → Ended ac w b (cleanly ac sent) ws → ws ≡ asHeard (startOf b) sent
   clean-ended ws k = answers ac w b (cleanly ac sent) ws k ∙ clean-answer (ended-fine ac w b (cleanly ac sent) ws k)
 
-  clean-talk : (ws : List ℕ) (rx : Receiver) → Talk ac w b (cleanly ac sent) ws rx → IsPrefix ws sent
+  clean-talk : (ws : List ℕ) (rx : Receiver) → Talk ac w b (cleanly ac sent) ws rx → IsPrefix ws (asHeard (startOf b) sent)
   clean-talk ws rx k =
       let f = follows ac w b (cleanly ac sent) ws rx k in
       rw (f .said) (subst (IsPrefix (speakerOf (toldOf ac w b (cleanly ac sent)) .spoken (reverse (cleanly ac sent)))) (clean-answer (f .fine)) (speaks (toldOf ac w b (cleanly ac sent)) (f .fine) .within (reverse (cleanly ac sent))))
@@ -106,20 +109,20 @@ module _ (ac : Accord) (w : ℕ) (b : Start) (z : StartsAtZero b) (sent : List �
   words-sent : Every (λ n. isWord (ac .u) n ≡ true) sent
   words-sent = accepted ac sent ps s k
 
-  pub round-trip : (ws : List ℕ) → Ended ac w b (symbolsOf (allOnLine ps)) ws → ws ≡ sent
+  pub round-trip : (ws : List ℕ) → Ended ac w b (symbolsOf (allOnLine ps)) ws → ws ≡ asHeard (startOf b) sent
   round-trip ws h = clean-ended ac w b z sent words-sent ws (subst (λ (l : List (Two Received)). Ended ac w b l ws) (sent-cleanly ac sent ps s k) h)
 
   some-taken : (m : ℕ) → take m (symbolsOf (allOnLine ps)) ≡ cleanly ac (take m sent)
   some-taken m = ap (take m) (sent-cleanly ac sent ps s k) ∙ first-sent ac m sent
 
-  pub begins : (m : ℕ) (ws : List ℕ) (rx : Receiver) → Talk ac w b (take m (symbolsOf (allOnLine ps))) ws rx → IsPrefix ws sent
+  pub begins : (m : ℕ) (ws : List ℕ) (rx : Receiver) → Talk ac w b (take m (symbolsOf (allOnLine ps))) ws rx → IsPrefix ws (asHeard (startOf b) sent)
   begins m ws rx h =
-      prefix-trans ws (take m sent) sent
+      prefix-trans ws (asHeard (startOf b) (take m sent)) (asHeard (startOf b) sent)
       (clean-talk ac w b z (take m sent) (every-take (λ n. isWord (ac .u) n ≡ true) m sent words-sent) ws rx (subst (λ (l : List (Two Received)). Talk ac w b l ws rx) (some-taken m) h))
-      (drop m sent, take-append-drop m sent)
+      (drop m (asHeard (startOf b) sent), ap (λ (l : List ℕ). l ++ drop m (asHeard (startOf b) sent)) (heard-take (startOf b) m sent) ∙ take-append-drop m (asHeard (startOf b) sent))
 
-  pub first-back : (m : ℕ) (ws : List ℕ) → Ended ac w b (take m (symbolsOf (allOnLine ps))) ws → ws ≡ take m sent
-  first-back m ws h = clean-ended ac w b z (take m sent) (every-take (λ n. isWord (ac .u) n ≡ true) m sent words-sent) ws (subst (λ (l : List (Two Received)). Ended ac w b l ws) (some-taken m) h)
+  pub first-back : (m : ℕ) (ws : List ℕ) → Ended ac w b (take m (symbolsOf (allOnLine ps))) ws → ws ≡ take m (asHeard (startOf b) sent)
+  first-back m ws h = clean-ended ac w b z (take m sent) (every-take (λ n. isWord (ac .u) n ≡ true) m sent words-sent) ws (subst (λ (l : List (Two Received)). Ended ac w b l ws) (some-taken m) h) ∙ heard-take (startOf b) m sent
 
 pub as-floats : (ac : Accord) (sent : List ℕ) (ps : List ℤ) (s : Sender) → sender.Talk ac sent ps s → floatsHeard ps ≡ samplesAt (allOnLine ps)
 as-floats ac sent ps s k =

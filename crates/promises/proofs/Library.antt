@@ -18,6 +18,7 @@ use Rattle.points.specs.declared.Accord.{Accord}
 use Rattle.trellis.specs.Code.{Path, symbols}
 use Rattle.trellis.specs.Best.{Answer as IsAnswer, Longest}
 use Rattle.trellis.specs.Measure.{Two}
+use Rattle.trellis.specs.Words.{asHeard}
 use Rattle.nearest.specs.declared.Received.{Received}
 use Rattle.reasons.specs.Reason.{givenOf}
 use Rattle.told.specs.Told.{codeOf, wordsOf}
@@ -203,5 +204,5 @@ module _ (k : Accord) (w : ℕ) (b : Start) (took : List (Two Received)) (ws : L
       (demand1.hears (follows.toldOf k w b took) (f .fine) (receiverIn state) (f .machine) out (answer r) o (pieceOf piece)
       (doors.hears (receiverIn state) (pieceOf piece) out (answer r) o (is-answer r out n state′ o told′ d)) (givenOf (r .why)) .0 refl)
 
-pub round-trip : (k : Accord) (w : ℕ) (b : Start) → StartsAtZero b → (words : List ℕ) (ps : List ℤ) (state ws : List ℕ) → calls.LibrarySends k words ps state → LibraryEnded k w b (symbolsOf (allOnLine ps)) ws → ws ≡ words
+pub round-trip : (k : Accord) (w : ℕ) (b : Start) → StartsAtZero b → (words : List ℕ) (ps : List ℤ) (state ws : List ℕ) → calls.LibrarySends k words ps state → LibraryEnded k w b (symbolsOf (allOnLine ps)) ws → ws ≡ asHeard (startOf b) words
 round-trip k w b z words ps state ws s e = demand2.round-trip k w b z words ps (senderIn state) (sent k words ps state s) ws (ended k w b (symbolsOf (allOnLine ps)) ws e)

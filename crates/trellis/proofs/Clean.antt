@@ -16,14 +16,14 @@ use Rattle.trellis.specs.Best.{Answer}
 use Rattle.trellis.specs.Measure.{Start, mayStart, GoodStart, Measure, weiCode}
 use Rattle.trellis.specs.Same.{sameSymbol}
 use Rattle.trellis.specs.Pick.{Choice, Chooses, weiSearch}
-use Rattle.trellis.specs.Words.{words, wordsFrom}
+use Rattle.trellis.specs.Words.{words, asHeard}
 use Rattle.trellis.specs.Said.{answerWords}
 use Rattle.trellis.specs.Clean.{Hits, Exact}
 use Rattle.trellis.proofs.Common.{path-length}
 use Rattle.trellis.proofs.Onward.{some-answer}
 use Rattle.trellis.proofs.WeiLaws.{wei-laws, wei-onward}
 use Rattle.trellis.proofs.Paths.{from-drawn}
-use Rattle.trellis.proofs.Words.{symbols-allowed, words-back, first-turn}
+use Rattle.trellis.proofs.Words.{symbols-allowed, words-heard}
 use Rattle.trellis.proofs.Spoken.{answer-words}
 use Rattle.wei.specs.Word.{isWord}
 use Rattle.wei.specs.Symbol.{Symbol, AllowedFrom, symbolsFrom}
@@ -82,5 +82,5 @@ module _ (u : ℕ) (M : Measure) (H : Choice M) (C : Chooses u M H) (E : Exact u
       answer-words u M H C b g xs p A ∙ ap (words u b) (clean-answer u M b E s h t xs cs k a p A)
 
   -- the words of a sender that starts in s
-  pub round-trip : (xs : List Heard) (ns : List ℕ) → Every (λ n. isWord u n ≡ true) ns → Hits M xs (symbolsFrom u s 0 ns) → answerWords u M H b (reverse xs) ≡ ns
-  round-trip xs ns w k = clean-words xs (symbolsFrom u s 0 ns) k (symbols-allowed u s 0 ns) ∙ ap (λ (q : ℕ). wordsFrom u q (symbolsFrom u s 0 ns)) (first-turn b) ∙ words-back u s 0 ns (omega arith) w
+  pub round-trip : (xs : List Heard) (ns : List ℕ) → Every (λ n. isWord u n ≡ true) ns → Hits M xs (symbolsFrom u s 0 ns) → answerWords u M H b (reverse xs) ≡ asHeard b ns
+  round-trip xs ns w k = clean-words xs (symbolsFrom u s 0 ns) k (symbols-allowed u s 0 ns) ∙ words-heard u b s ns w

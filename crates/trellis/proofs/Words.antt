@@ -5,31 +5,41 @@
 --   symbols-allowed          the symbols of words are allowed from the sender's state
 --   words-back               words of the symbols of words
 --   symbols-back             symbols of the words of symbols
---   first-turn               the turn before the first symbol is the one with which a sender starts
+--   words-heard              the words of a sender, as they come back from a clean line; heard-take, a beginning of them
+--   first-turn               the turn before the first symbol is one, or is not known
 use mathlib.Core.Path.{_≡_, refl, sym, ap, ap₂, subst, _∙_}
-use mathlib.Core.Bool.{true}
+use mathlib.Core.Bool.{Bool, true, false, cond}
 use mathlib.Core.List.{List, [], _∷_, IsPrefix}
-use Prim.Native.Nat.{ℕ, _+_, _*_, _/_, _%_, _^_, _<_}
+use Prim.Native.Nat.{ℕ, zero, suc, _+_, _-_, _≤_, _*_, _/_, _%_, _^_, _<_}
 use native.Mathlib.Omega.{arith}
 use borrow.Author.Tests.{ltb-true}
+use lib.Dec.{eqb}
+use lib.ListN.{take}
 use Rattle.trellis.specs.Lists.{Every}
 use Rattle.trellis.specs.Speak.{speak}
 use Rattle.trellis.specs.Measure.{Start, free, named}
-use Rattle.trellis.specs.Words.{wordParts, word, turnAfter, wordsFrom, firstTurn}
+use Rattle.trellis.specs.Words.{wordParts, word, turnAfter, wordsFrom, firstTurn, words, cleared, asHeard}
 use Rattle.trellis.proofs.Speak.{speak-prefix}
 use Rattle.wei.specs.declared.word.Parts.{Parts}
 use Rattle.wei.specs.Word.{isWord, unpacked, packed, InRange}
-use Rattle.wei.specs.Label.{turnOf, turnOn, turnFrom}
+use Rattle.wei.specs.Label.{turnOf, turnOn, turnFrom, unknown, turnSince}
 use Rattle.wei.specs.State.{bitW4, nextState}
 use Rattle.wei.specs.Symbol.{Symbol, firstLabel, Valid, AllowedFrom, symbolOf, symbolsFrom}
 use Rattle.wei.proofs.Finite.{equal2, equal3}
 use Rattle.wei.proofs.Words.{pack-unpack, unpack-pack, parts-range, packed-below}
 
+since-below : (q l : ℕ) → turnSince q l < 4
+since-below q l = go (eqb q unknown)
+  where
+    go : (b : Bool) → cond b 0 (turnFrom q l) < 4
+    go true = omega arith
+    go false = omega arith
+
 module _ (u : ℕ) where
   -- ── one word ──
   parts-in : (q : ℕ) (c : Symbol) → Valid u c → InRange u (wordParts q c)
   unfolding wordParts
-  parts-in q c v = record { i1-below = v .i1-below; i2-below = omega arith; i3-below = omega arith; w1-below = v .w1-below; w2-below = v .w2-below }
+  parts-in q c v = record { i1-below = v .i1-below; i2-below = omega arith; i3-below = omega (arith, since-below q (firstLabel c)); w1-below = v .w1-below; w2-below = v .w2-below }
 
   pub word-is : (q : ℕ) (c : Symbol) → Valid u c → isWord u (word u q c) ≡ true
   unfolding word
@@ -41,14 +51,14 @@ module _ (u : ℕ) where
   word-parts q c v = unpack-pack u (wordParts q c) (parts-in q c v)
 
   -- ── one symbol of a word, and back ──
-  turn-forth : (q f : ℕ) → q < 4 → f < 4 → turnOn q (turnFrom q f % 2) (turnFrom q f / 2) ≡ f
-  turn-forth = equal2 4 4 (λ q f. turnOn q (turnFrom q f % 2) (turnFrom q f / 2)) (λ q f. f) tt
+  turn-forth : (q f : ℕ) → q < 4 → f < 4 → turnOn q (turnSince q f % 2) (turnSince q f / 2) ≡ f
+  turn-forth = equal2 4 4 (λ q f. turnOn q (turnSince q f % 2) (turnSince q f / 2)) (λ q f. f) tt
 
-  turn-low : (q i j : ℕ) → q < 4 → i < 2 → j < 2 → turnFrom q (turnOf (turnOn q i j % 2) (turnOn q i j / 2)) % 2 ≡ i
-  turn-low = equal3 4 2 2 (λ q i j. turnFrom q (turnOf (turnOn q i j % 2) (turnOn q i j / 2)) % 2) (λ q i j. i) tt
+  turn-low : (q i j : ℕ) → q < 4 → i < 2 → j < 2 → turnSince q (turnOf (turnOn q i j % 2) (turnOn q i j / 2)) % 2 ≡ i
+  turn-low = equal3 4 2 2 (λ q i j. turnSince q (turnOf (turnOn q i j % 2) (turnOn q i j / 2)) % 2) (λ q i j. i) tt
 
-  turn-high : (q i j : ℕ) → q < 4 → i < 2 → j < 2 → turnFrom q (turnOf (turnOn q i j % 2) (turnOn q i j / 2)) / 2 ≡ j
-  turn-high = equal3 4 2 2 (λ q i j. turnFrom q (turnOf (turnOn q i j % 2) (turnOn q i j / 2)) / 2) (λ q i j. j) tt
+  turn-high : (q i j : ℕ) → q < 4 → i < 2 → j < 2 → turnSince q (turnOf (turnOn q i j % 2) (turnOn q i j / 2)) / 2 ≡ j
+  turn-high = equal3 4 2 2 (λ q i j. turnSince q (turnOf (turnOn q i j % 2) (turnOn q i j / 2)) / 2) (λ q i j. j) tt
 
   label-below : (c : Symbol) → Valid u c → firstLabel c < 4
   label-below c v = omega (arith, v .i2-below, v .i3-below)
@@ -128,7 +138,33 @@ module _ (u : ℕ) where
       ap (λ (d : Symbol). d ∷ symbolsFrom u (nextState s (d .i1) (d .i2)) (firstLabel d) (wordsFrom u (firstLabel c) cs)) e
       ∙ ap (λ (l : List Symbol). c ∷ l) (symbols-back (nextState s (c .i1) (c .i2)) (firstLabel c) cs (label-below c (a .0 .valid)) (a .1))
 
--- a sender starts with the turn 0, and against 0 its first symbol is measured
-pub first-turn : (b : Start) → firstTurn b ≡ 0
-first-turn free = refl
-first-turn (named n) = refl
+-- ── a clean line ──
+module _ (u : ℕ) where
+  clear-parts : (n a b c d : ℕ) → a ≡ n % 2 → b ≡ n / 2 % 2 → c ≡ n / 4 % 2 → a + 2 * b + 4 * c + 8 * d ≡ n → a + 2 * 0 + 4 * 0 + 8 * d ≡ n - 2 * (n / 2 % 4)
+  clear-parts n a b c d e f g h = omega arith
+
+  word-cleared : (s q n : ℕ) → isWord u n ≡ true → word u unknown (symbolOf u s q n) ≡ cleared n
+  unfolding word wordParts symbolOf packed unpacked
+  word-cleared s q n t =
+      let p = unpacked u n in
+      clear-parts n (p .i1) (p .i2) (p .i3) (p .w1 + 2 ^ u * p .w2) refl refl refl (pack-unpack u n t)
+
+  -- the words of a sender that starts in s with the turn 0, as they come back
+  pub words-heard : (b : Start) (s : ℕ) (ns : List ℕ) → Every (λ n. isWord u n ≡ true) ns → words u b (symbolsFrom u s 0 ns) ≡ asHeard b ns
+  unfolding speak symbolsFrom
+  words-heard (named m) s ns w = words-back u s 0 ns (omega arith) w
+  words-heard free s [] w = refl
+  words-heard free s (n ∷ ns) w =
+      let c = symbolOf u s 0 n in
+      ap₂ (λ (x : ℕ) (l : List ℕ). x ∷ l) (word-cleared s 0 n (w .0)) (words-back u (nextState s (c .i1) (c .i2)) (firstLabel c) ns (label-below u c (symbol-valid u s 0 n)) (w .1))
+
+-- a beginning of what was sent comes back as a beginning
+pub heard-take : (b : Start) (m : ℕ) (ns : List ℕ) → asHeard b (take m ns) ≡ take m (asHeard b ns)
+heard-take (named k) m ns = refl
+heard-take free zero ns = refl
+heard-take free (suc m) [] = refl
+heard-take free (suc m) (n ∷ ns) = refl
+
+pub first-turn : (b : Start) → firstTurn b ≤ 4
+first-turn free = omega arith
+first-turn (named n) = omega arith

@@ -3,7 +3,7 @@
 --   type-rule       the table of types and the rule give the same pair
 --   turn-back       IV-5 undoes IV-4
 --   labels-apart    valid symbols with the same labels and numbers are equal
-use mathlib.Core.Path.{_≡_, sym, ap, ap₂, _∙_}
+use mathlib.Core.Path.{_≡_, sym, ap₂, _∙_}
 use Prim.Native.Nat.{ℕ, _+_, _-_, _*_, _/_, _%_, _<_}
 use native.Mathlib.Omega.{arith}
 use lib.ListN.{getD}

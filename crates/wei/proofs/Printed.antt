@@ -1,7 +1,7 @@
 -- Tables IV-2, IV-5 and IV-6 of 000 (specs/Tables) are what the rules give, each as one whole table.
 use mathlib.Core.Path.{_≡_, refl}
 use mathlib.Core.List.{List, [], _∷_, map}
-use Prim.Native.Nat.{ℕ, zero, suc, _+_, _*_, _/_, _%_}
+use Prim.Native.Nat.{ℕ, zero, suc, _/_, _%_}
 use lib.ListN.{getD}
 use Rattle.wei.specs.State.{nextState, before, carryI1, carryI2, between}
 use Rattle.wei.specs.Label.{turnOf, secondLabel}

@@ -3,11 +3,15 @@
 --   turnOf i2 i3            the turn q = 2·I3' + I2'
 --   turnOn q i2 i3          the turn after q, with the word's I2 and I3 (IV-4)
 --   turnFrom old new        the 2·I3 + I2 between two turns (IV-5)
+--   unknown                 a turn that is not known
+--   turnSince old new       the same, and 0 where the old turn is not known
 --   secondLabel q y0 i1     the second label; the first is q
 --   types                   000's sixteen types in the order of Y0 I1 I2' I3', two labels each
 --   typeOf                  the pair of labels by that table
 use Prim.Native.Nat.{ℕ, _+_, _*_, _-_, _%_}
+use mathlib.Core.Bool.{cond}
 use mathlib.Core.List.{List, [], _∷_}
+use lib.Dec.{eqb}
 use lib.ListN.{getD}
 use Rattle.wei.specs.declared.label.LabelPair.{LabelPair}
 
@@ -22,6 +26,14 @@ turnOn q i2 i3 = (q + turnOf i2 i3) % 4
 -- 000, IV-5: the difference modulo 4
 abbrev pub turnFrom : ℕ → ℕ → ℕ
 turnFrom old new = (new + 4 - old) % 4
+
+-- turns are 0 to 3; this stands for the turn before a line that was joined later, which nobody there knows (02, Wish 5)
+abbrev pub unknown : ℕ
+unknown = 4
+
+-- IV-5 where the turn before is known; where it is not nothing is claimed, and both bits are zero
+abbrev pub turnSince : ℕ → ℕ → ℕ
+turnSince old new = cond (eqb old unknown) 0 (turnFrom old new)
 
 -- "first q, second q + Y0 + 2·I1 modulo 4"
 unfoldable pub secondLabel : ℕ → ℕ → ℕ → ℕ

@@ -1,7 +1,7 @@
 // Labels A 0, C 1, B 2, D 3; the turn q = 2·I3' + I2'; the pair of labels of a symbol.
 ghost use mathlib.Core.Path.{_≡_};
-ghost use Prim.Native.Nat.{_<_};
-ghost use Rattle.wei.specs.Label.{turnOn, turnFrom, secondLabel, pairOf, typeOf};
+ghost use Prim.Native.Nat.{_≤_, _<_};
+ghost use Rattle.wei.specs.Label.{turnOn, turnSince, secondLabel, pairOf, typeOf};
 
 // The labels of a symbol's two points.
 pub struct LabelPair {
@@ -17,11 +17,17 @@ pub fn turn_on(q: u32, i2: u32, i3: u32) -> u32
     (q + 2 * i3 + i2) & 3
 }
 
-// The 2·I3 + I2 that takes the turn from old to new.
-pub fn turn_from(old: u32, new: u32) -> u32
-    requires { ⌜ (old < 4) × (new < 4) ⌝ }
-    ensures { λ r. ⌜ r ≡ turnFrom old new ⌝ }
+// The turn before a line that was joined later: nobody there knows it.
+pub const UNKNOWN: u32 = 4;
+
+// The 2·I3 + I2 between two turns (IV-5); 0 where the one before is not known.
+pub fn turn_since(old: u32, new: u32) -> u32
+    requires { ⌜ (old ≤ 4) × (new < 4) ⌝ }
+    ensures { λ r. ⌜ r ≡ turnSince old new ⌝ }
 {
+    if old == UNKNOWN {
+        return 0;
+    }
     (new + 4 - old) & 3
 }
 

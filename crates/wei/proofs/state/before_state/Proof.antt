@@ -1,5 +1,5 @@
 -- `state::before_state`: at all sixteen states and four places.
-use Prim.Native.Nat.{ℕ, _*_, _/_, _%_, _^_}
+use Prim.Native.Nat.{_*_, _/_, _%_, _^_}
 use lib.Bits.{bitOr}
 use Rattle.wei.specs.State.{before}
 use Rattle.wei.proofs.Finite.{equal2}

@@ -18,7 +18,7 @@
 
 #include "demfizagu.h"
 
-enum { ROOM = 65, TOLD = 3, FIRST_STATE = 0, FREE_START = 16 };
+enum { ROOM = 65, TOLD = 3, FIRST_STATE = 0 };
 
 /* A seeded generator of 32-bit numbers (the high half of a 64-bit one, SplitMix64). */
 static uint32_t draw(uint64_t *seed)
@@ -106,7 +106,7 @@ static void hear(struct line *l, const int32_t heard[4], size_t symbols)
                symbols);
         finish(l, symbols - 1);
         l->joined = 1;
-        number = demfizagu_receiver_open(l->receiver, l->receiver_words, l->u, l->window, FREE_START);
+        number = demfizagu_receiver_open(l->receiver, l->receiver_words, l->u, l->window, DEMFIZAGU_FREE);
         if (number == DEMFIZAGU_DONE)
             number = demfizagu_hear(l->receiver, l->receiver_words, heard, 4, words, ROOM, told, TOLD);
     }

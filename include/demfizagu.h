@@ -139,8 +139,9 @@ uint32_t demfizagu_send(uint64_t *state, size_t state_len, uint32_t word, int32_
  * the first symbol (0 for a sender just opened); DEMFIZAGU_FREE leaves it open.
  * Order: 8 if the state is too short (nothing is written), then 1, 2, 3.
  *
- * The first word's turn, its bits 1 and 2, is measured against 0 with either start: a receiver that joins a live line
- * cannot know the turn before it, and these two bits of its first word may be wrong.
+ * Bits 1 and 2 of a word say how far the points turned since the symbol before. With a named start the first word's are
+ * measured against 0, where a sender just opened begins. With DEMFIZAGU_FREE the turn before the first word is not known:
+ * its bits 1 and 2 are zero, and no later symbol mends them.
  */
 uint32_t demfizagu_receiver_open(uint64_t *state, size_t state_len, uint32_t u, uint32_t window, uint32_t start);
 

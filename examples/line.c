@@ -18,7 +18,7 @@
 
 #include "demfizagu.h"
 
-enum { ROOM = 65, TOLD = 3, FREE_START = 16 };
+enum { ROOM = 65, TOLD = 3 };
 
 /* A seeded generator of 32-bit numbers (the high half of a 64-bit one, SplitMix64). */
 static uint32_t draw(uint64_t *seed)
@@ -103,7 +103,7 @@ static void hear(struct line *l, const int32_t heard[4], size_t symbols)
         printf("symbol %zu: the window is full; finish and open again (the next word's bits 1 and 2 may be wrong)\n",
                symbols);
         finish(l, symbols - 1);
-        number = demfizagu_receiver_open(l->receiver, l->receiver_words, l->u, l->window, FREE_START);
+        number = demfizagu_receiver_open(l->receiver, l->receiver_words, l->u, l->window, DEMFIZAGU_FREE);
         if (number == DEMFIZAGU_DONE)
             number = demfizagu_hear(l->receiver, l->receiver_words, heard, 4, words, ROOM, told, TOLD);
     }
@@ -161,7 +161,7 @@ int main(int argc, char **argv)
     uint32_t number = demfizagu_sender_open(l.sender, l.sender_words, l.u);
     if (number != DEMFIZAGU_DONE)
         stop("opening the sender", number);
-    number = demfizagu_receiver_open(l.receiver, l.receiver_words, l.u, l.window, FREE_START);
+    number = demfizagu_receiver_open(l.receiver, l.receiver_words, l.u, l.window, DEMFIZAGU_FREE);
     if (number != DEMFIZAGU_DONE)
         stop("opening the receiver", number);
 

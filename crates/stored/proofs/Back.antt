@@ -126,8 +126,8 @@ joined a b c d e = simp append-assoc
 
 -- so a receiver's words are made of its front and of picks that stand already where they belong
 pub front-stored : (rx : Receiver) (l l₁ : List ℕ) {o : List ℕ} → FrontStored (rx .live) (rx .core) (rx .sums) (rx .planes) l₁ o
-    → length (rx .sums) ≡ 16 → length (rx .planes) ≡ 48 → length (rx .picks) ≡ 72 → drop picksAt l₁ ≡ rx .picks ++ drop receiverLength l → ReceiverStored rx l o
+    → length (rx .picks) ≡ 72 → drop picksAt l₁ ≡ rx .picks ++ drop receiverLength l → ReceiverStored rx l o
 unfolding wordsOfReceiver
-front-stored rx l l₁ f n₁ n₂ n₃ behind =
-    receiver-stored rx l (record { u = f .u-fits; taken = f .taken-fits; turn = f .turn-fits; sums = n₁; planes = n₂; picks = n₃ })
+front-stored rx l l₁ f sized behind =
+    receiver-stored rx l (record { u = f .u-fits; taken = f .taken-fits; turn = f .turn-fits; sums = f .sums-fit; planes = f .planes-fit; picks = sized })
     (f .words ∙ rw behind (joined (wordsOfCore (rx .live) (rx .core)) (rx .sums) (rx .planes) (rx .picks) (drop receiverLength l)))

@@ -10,7 +10,7 @@ use Prim.Native.Nat.{ℕ, _^_, _<_}
 use mathlib.Core.Path.{_≡_}
 use mathlib.Core.Bool.{Bool, true, cond}
 use mathlib.Core.List.{List, [], _∷_, _++_}
-use lib.ListN.{getD, take, drop}
+use lib.ListN.{getD, length, take, drop}
 use Rattle.points.specs.Agreed.{ofWidth}
 use Rattle.machine.specs.declared.Core.{Core}
 use Rattle.machine.specs.declared.Receiver.{Receiver}
@@ -75,12 +75,14 @@ pub record ReceiverStored (rx : Receiver) (l o : List ℕ) : Type 0 where
   pub words : o ≡ wordsOfReceiver rx ++ drop receiverLength l
   pub reads : receiverIn o ≡ readReceiver rx
 
--- the words l with all of a receiver but its picks in front; the numbers fit their fields
+-- the words l with all of a receiver but its picks in front; the numbers fit their fields, and the lists their places
 pub record FrontStored (live : Bool) (c : Core) (sums planes l o : List ℕ) : Type 0 where
   pub words : o ≡ (wordsOfCore live c ++ (sums ++ planes)) ++ drop picksAt l
   pub u-fits : c .accord .u < 2 ^ 32
   pub taken-fits : c .taken < 2 ^ 32
   pub turn-fits : c .turn < 2 ^ 32
+  pub sums-fit : length sums ≡ 16
+  pub planes-fit : length planes ≡ 48
 
 -- inside: the first seven words
 pub record CoreStored (live : Bool) (c : Core) (l o : List ℕ) : Type 0 where

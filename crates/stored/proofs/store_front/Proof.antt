@@ -81,6 +81,8 @@ returns c =
       u-fits = core .u-fits;
       taken-fits = core .taken-fits;
       turn-fits = core .turn-fits;
+      sums-fit = n₁;
+      planes-fit = n₂;
     }
 
 pub store-front-spec : {M : Type 1} → statement M

@@ -10,8 +10,8 @@ use Rattle.stored.proofs.Back.{front-stored}
 use Rattle.stored.proofs.store_receiver.Statement.{statement}
 use Rattle.stored.proofs.store_receiver.Tie as tie
 
-sized : (s : tie.Start) → (length (s .args .rx .sums) ≡ 16) × (length (s .args .rx .planes) ≡ 48) × (length (s .args .rx .picks) ≡ 72)
-sized s = (search needs, search needs, search needs)
+sized : (s : tie.Start) → length (s .args .rx .picks) ≡ 72
+sized s = search needs
 
 sub-copy : tie.Need-sub-copy
 sub-copy c = search needs
@@ -20,7 +20,7 @@ part-copy-start : tie.Need-part-copy-start
 part-copy-start c = search needs
 
 part-copy-end : tie.Need-part-copy-end
-part-copy-end c = let n = sized (c .before .before .before .before .before .before) .2 in omega arith
+part-copy-end c = let n = sized (c .before .before .before .before .before .before) in omega arith
 
 sub-copy-2 : tie.Need-sub-copy-2
 sub-copy-2 c = search needs
@@ -46,9 +46,9 @@ returns c =
     let s = c .before .before .before .before .before .before .before .before .before .before .before .before .before .before .before in
     let rx = s .args .rx in
     let l = now (s .args .words) in
-    let (n₁, n₂, n₃) = sized s in
-    let picks = all-copied (rx .picks) _ _ 72 (take-all 72 (rx .picks) (omega arith)) n₃ (d .copy .ensures) in
-    front-stored rx l _ (c .before .before .store-front .ensures) n₁ n₂ n₃ (rest-back l (rx .picks) 71 72 (omega (arith, s .pre)) picks)
+    let n = sized s in
+    let picks = all-copied (rx .picks) _ _ 72 (take-all 72 (rx .picks) (omega arith)) n (d .copy .ensures) in
+    front-stored rx l _ (c .before .before .store-front .ensures) n (rest-back l (rx .picks) 71 72 (omega (arith, s .pre)) picks)
 
 pub store-receiver-spec : {M : Type 1} → statement M
 store-receiver-spec =

@@ -15,7 +15,7 @@ use lib.Ieee.{Float}
 use lib.IntN.{ℤ, pos}
 use lib.ListN.{getD, length, set, take, drop, length-drop, length-append, drop-of-length-le, take-append-drop}
 use lib.Seq.{drop-cons, drop-drop, length-take-le, take-at, drop-at}
-use Rattle.stored.proofs.Lent.{stored, pair-stored}
+use Rattle.layout.proofs.Lent.{stored, pair-stored}
 use Rattle.samples.specs.declared.Pair.{Pair}
 use Rattle.samples.specs.Given.{GivenSample, sampleGiven}
 use Rattle.samples.specs.Heard.{heardSample}

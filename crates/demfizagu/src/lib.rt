@@ -5,12 +5,14 @@
 use openings::Opened;
 use openings::Start;
 use points::Accord;
+use reasons::Why;
 use samples::Pair;
 use samples::Sample;
-use stored::layout;
+use stored::holds_receiver;
+use stored::load_front;
 use stored::load_receiver;
 use stored::load_sender;
-use stored::store_parts;
+use stored::store_front;
 use stored::store_receiver;
 use stored::store_sender;
 ghost use mathlib.Core.Path.{_≡_};
@@ -19,11 +21,12 @@ ghost use Prim.Native.Nat.{_+_, _%_, _≤_};
 ghost use lib.IntN.{pos};
 ghost use lib.ListN.{length, set};
 ghost use Rattle.points.specs.Agreed.{ofWidth};
+ghost use Rattle.reasons.specs.Reason.{givenOf};
 ghost use Rattle.openings.specs.Given.{plainWindow};
 ghost use Rattle.samples.specs.Heard.{heardSample};
 ghost use Rattle.demfizagu.specs.Calls.{senderOpening, startAt, receiverOpening, sendCall, toldOf, hearCall, finishCall, pendingIn, openIn, sampleCall, converting, samplesCall};
 ghost use Rattle.demfizagu.specs.Promise.{Opens, OpensAs, Sends, Answers, HeardIs, Samples, ConvertsTo, Converts};
-ghost use Rattle.stored.specs.Layout.{senderLength, receiverLength};
+ghost use Rattle.layout.specs.Layout.{senderLength, receiverLength};
 ghost use Rattle.stored.specs.State.{senderIn, receiverIn};
 
 #[no_mangle]
@@ -124,7 +127,18 @@ fn tell(told: &mut [u64], taken: usize, written: usize, place: usize)
     told[2] = place as u64;
 }
 
-// The receiver is heard in its parts, so that a call copies it once. The state is written back where a symbol was taken.
+// What a call came to, in the first three places of `told`. Gives its number.
+fn answer(told: &mut [u64], taken: usize, written: usize, why: Why) -> u32
+    requires { ⌜ 3 ≤ length (now told) ⌝ }
+    ensures { λ r. ⌜ (r ≡ givenOf why .number) × (now (told .exit) ≡ toldOf taken written (givenOf why .place) (now (told .entry))) ⌝ }
+{
+    let place = reasons::place(why);
+    tell(told, taken, written, place as usize);
+    reasons::number(why)
+}
+
+// The receiver is heard in its parts: its picks, half of it, stay in the state, and the rest is copied out of it, and back where a
+// symbol was taken.
 #[no_mangle]
 pub extern "C" fn demfizagu_hear(
     state: &mut [u64],
@@ -137,22 +151,29 @@ pub extern "C" fn demfizagu_hear(
     if told.len() < 3 {
         return 8;
     }
-    let rx = load_receiver(state);
-    let live = rx.live;
-    let core = rx.core;
-    let mut sums = rx.sums;
-    let mut planes = rx.planes;
-    let mut picks = rx.picks;
-    let a = receiver::hear_lent(live, core, piece, &mut sums, &mut planes, &mut picks, out);
+    if !holds_receiver(state) {
+        return answer(told, 0, 0, Why::Closed);
+    }
+    let front = load_front(state);
+    let core = front.core;
+    let mut sums = front.sums;
+    let mut planes = front.planes;
+    let a = receiver::hear_lent(
+        true,
+        core,
+        piece,
+        &mut sums,
+        &mut planes,
+        &mut state[layout::PICKS..layout::RECEIVER_WORDS],
+        out,
+    );
     let why = a.why;
-    let n = reasons::number(why);
-    let place = reasons::place(why);
-    tell(told, a.taken, a.written, place as usize);
+    let n = answer(told, a.taken, a.written, why);
     if a.taken == 0 {
         return n;
     }
     let after = a.core;
-    store_parts(live, after, sums, planes, picks, state);
+    store_front(true, after, sums, planes, state);
     n
 }
 
@@ -166,9 +187,7 @@ pub extern "C" fn demfizagu_finish(state: &mut [u64], out: &mut [u32], told: &mu
     }
     let a = receiver::finish(load_receiver(state), out);
     let why = a.why;
-    let n = reasons::number(why);
-    let place = reasons::place(why);
-    tell(told, a.taken, a.written, place as usize);
+    let n = answer(told, a.taken, a.written, why);
     if n != 0 {
         return n;
     }

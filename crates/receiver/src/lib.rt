@@ -21,7 +21,7 @@ ghost use Rattle.machine.specs.Taken.{whole, TookIs};
 ghost use Rattle.told.specs.Told.{faultOf};
 ghost use Rattle.told.specs.Piece.{symbolsOf, symbolFrom, pieceOf};
 ghost use Rattle.receiver.specs.Doors.{symbolAt, running, hearing};
-ghost use Rattle.receiver.specs.Promise.{Is, partsOf, answerOf, Hears, Finishes};
+ghost use Rattle.receiver.specs.Promise.{Is, partsOf, lentLive, answerOf, Hears, Finishes};
 
 pub struct Answer {
     pub receiver: Receiver,
@@ -59,10 +59,10 @@ fn symbol(
     x3: i32,
     sums: &mut [u64; 16],
     planes: &mut [u64; 48],
-    picks: &mut [u64; 72],
+    picks: &mut [u64],
     out: &mut [u32],
 ) -> Took
-    requires { ⌜ (now t ≡ chartOf (core .accord)) × (sound (whole core (now sums) (now planes) (now picks)) ≡ true) ⌝ }
+    requires { ⌜ (now t ≡ chartOf (core .accord)) × (sound (whole core (now sums) (now planes) (now picks)) ≡ true) × (length (now picks) ≡ 72) ⌝ }
     ensures { λ r. ⌜ TookIs (symbolAt (whole core (now (sums .entry)) (now (planes .entry)) (now (picks .entry))) (symbolFrom x0 x1 x2 x3) (length (now (out .entry)))) r (now (sums .exit)) (now (planes .exit)) (now (picks .exit)) (now (out .entry)) (now (out .exit)) ⌝ }
 {
     let place = fault(x0, x1, x2, x3);
@@ -103,10 +103,10 @@ fn hear_symbols(
     samples: &[i32],
     sums: &mut [u64; 16],
     planes: &mut [u64; 48],
-    picks: &mut [u64; 72],
+    picks: &mut [u64],
     out: &mut [u32],
 ) -> Heard
-    requires { ⌜ (sound (whole start (now sums) (now planes) (now picks)) ≡ true) × (length (now samples) % 4 ≡ 0) ⌝ }
+    requires { ⌜ (sound (whole start (now sums) (now planes) (now picks)) ≡ true) × (length (now samples) % 4 ≡ 0) × (length (now picks) ≡ 72) ⌝ }
     ensures { λ r. ⌜ Is (running (symbolsOf (now (samples .entry))) (whole start (now (sums .entry)) (now (planes .entry)) (now (picks .entry))) 0 [] (length (now (out .entry)))) (now (out .entry)) (answerOf true r (now (sums .exit)) (now (planes .exit)) (now (picks .exit))) (now (out .exit)) ⌝ }
 {
     let accord = start.accord;
@@ -157,18 +157,22 @@ fn nothing_heard(core: Core, why: Why) -> Heard
     }
 }
 
-// A piece to a receiver in its parts, whose arrays are lent, for a caller that keeps them elsewhere: nothing is copied.
+// A piece to a receiver in its parts, whose lists are lent, for a caller that keeps them elsewhere: nothing is copied. The picks may be
+// a part of the caller's own words; where these are not 72, they are no receiver's, and the answer is that of a closed one.
 pub fn hear_lent(
     live: bool,
     core: Core,
     samples: &[i32],
     sums: &mut [u64; 16],
     planes: &mut [u64; 48],
-    picks: &mut [u64; 72],
+    picks: &mut [u64],
     out: &mut [u32],
 ) -> Heard
-    ensures { λ r. ⌜ Is (hearing (partsOf live core (now (sums .entry)) (now (planes .entry)) (now (picks .entry))) (pieceOf (now (samples .entry))) (length (now (out .entry)))) (now (out .entry)) (answerOf live r (now (sums .exit)) (now (planes .exit)) (now (picks .exit))) (now (out .exit)) ⌝ }
+    ensures { λ r. ⌜ Is (hearing (partsOf (lentLive live (now (picks .entry))) core (now (sums .entry)) (now (planes .entry)) (now (picks .entry))) (pieceOf (now (samples .entry))) (length (now (out .entry)))) (now (out .entry)) (answerOf (lentLive live (now (picks .entry))) r (now (sums .exit)) (now (planes .exit)) (now (picks .exit))) (now (out .exit)) ⌝ }
 {
+    if picks.len() != 72 {
+        return nothing_heard(core, Why::Closed);
+    }
     if !openings::parts_fit(live, core, sums) {
         return nothing_heard(core, Why::Closed);
     }

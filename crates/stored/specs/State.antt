@@ -1,16 +1,15 @@
 -- The ends' states in words of 64 bits: which record some words hold, and which words hold a record. That words which hold a record
 -- give it back is proved in proofs/Back.
---   holds size tag ws     whether the words ws can hold a record: enough of them, the tag, and numbers that fit their fields
 --   senderIn, receiverIn  the sender, the receiver that some words hold; a closed one where they hold none
 --   wordsOfSender, wordsOfReceiver    the words that hold a sender, a receiver
 --   readSender, readReceiver          what the words of a record read as
 --   SenderStored, ReceiverStored      a record was put into words, and they read as it
---   CoreStored                        a part of that
+--   frontIn, FrontStored              a receiver without its picks
+--   CoreStored                        the seven words of its numbers
 use Prim.Native.Nat.{ℕ, _^_, _<_}
 use mathlib.Core.Path.{_≡_}
-use mathlib.Core.Bool.{Bool, true, cond, _&&_}
+use mathlib.Core.Bool.{Bool, true, cond}
 use mathlib.Core.List.{List, [], _∷_, _++_}
-use lib.Dec.{eqb, leb, ltb}
 use lib.ListN.{getD, length, take, drop}
 use Rattle.points.specs.Agreed.{ofWidth}
 use Rattle.machine.specs.declared.Core.{Core}
@@ -18,19 +17,9 @@ use Rattle.machine.specs.declared.Receiver.{Receiver}
 use Rattle.machine.specs.Machine as machine
 use Rattle.sender.specs.declared.Sender.{Sender}
 use Rattle.sender.specs.Send as sending
-use Rattle.stored.specs.Layout.{senderTag, receiverTag, closedTag, senderLength, receiverLength, sumsAt, planesAt, picksAt}
-
-abbrev pub tagOf : Bool → ℕ → ℕ
-tagOf live tag = cond live tag closedTag
-
--- a number that fits 32 bits
-abbrev pub isHalf : ℕ → Bool
-isHalf n = ltb n (2 ^ 32)
-
--- so many words, this tag, and three numbers that fit their fields
-unfoldable pub holds : ℕ → ℕ → List ℕ → Bool
-holds size tag ws =
-    leb size (length ws) && (eqb (getD ws 0 0) tag && (isHalf (getD ws 1 0) && (isHalf (getD ws 2 0) && isHalf (getD ws 3 0))))
+use Rattle.layout.specs.Layout.{senderTag, receiverTag, senderLength, receiverLength, sumsAt, planesAt, picksAt}
+use Rattle.layout.specs.Tagged.{tagOf, holds}
+use Rattle.stored.specs.declared.Front.{Front}
 
 -- ---- a sender: the tag, the width, the turn, the state
 
@@ -46,6 +35,9 @@ wordsOfSender s = tagOf (s .live) senderTag ∷ s .accord .u ∷ s .turn ∷ s .
 abbrev pub coreIn : List ℕ → Core
 coreIn ws =
     record { accord = ofWidth (getD ws 1 0); taken = getD ws 2 0; turn = getD ws 3 0; window = getD ws 4 0; slot = getD ws 5 0; pending = getD ws 6 0 }
+
+abbrev pub frontIn : List ℕ → Front
+frontIn ws = record { core = coreIn ws; sums = take 16 (drop sumsAt ws); planes = take 48 (drop planesAt ws) }
 
 unfoldable pub receiverIn : List ℕ → Receiver
 receiverIn ws =
@@ -83,7 +75,16 @@ pub record ReceiverStored (rx : Receiver) (l o : List ℕ) : Type 0 where
   pub words : o ≡ wordsOfReceiver rx ++ drop receiverLength l
   pub reads : receiverIn o ≡ readReceiver rx
 
--- inside: the first seven words, where the numbers fit their fields
+-- the words l with all of a receiver but its picks in front; the numbers fit their fields, and the lists their places
+pub record FrontStored (live : Bool) (c : Core) (sums planes l o : List ℕ) : Type 0 where
+  pub words : o ≡ (wordsOfCore live c ++ (sums ++ planes)) ++ drop picksAt l
+  pub u-fits : c .accord .u < 2 ^ 32
+  pub taken-fits : c .taken < 2 ^ 32
+  pub turn-fits : c .turn < 2 ^ 32
+  pub sums-fit : length sums ≡ 16
+  pub planes-fit : length planes ≡ 48
+
+-- inside: the first seven words
 pub record CoreStored (live : Bool) (c : Core) (l o : List ℕ) : Type 0 where
   pub words : o ≡ wordsOfCore live c ++ drop 7 l
   pub u-fits : c .accord .u < 2 ^ 32

@@ -1,53 +1,23 @@
 // The ends' states in the words that a caller lends: which record they hold, and how a record goes into them. Where each part stands is
 // said in `layout`. Words that are too short, have another tag, or a number that does not fit its field, hold no end and are read as a
 // closed one: a state of an older layout too.
-pub mod layout;
-
 use machine::Core;
 use machine::Receiver;
 use points::Accord;
 use sender::Sender;
 ghost use mathlib.Core.Path.{_≡_};
 ghost use mathlib.Core.Bool.{true};
-ghost use mathlib.Core.List.{_++_};
 ghost use Prim.Native.Nat.{_≤_};
-ghost use lib.ListN.{length, drop};
-ghost use Rattle.receiver.specs.Promise.{partsOf};
-ghost use Rattle.stored.specs.Layout.{receiverTag, senderLength, receiverLength};
-ghost use Rattle.stored.specs.State.{tagOf, isHalf, holds, senderIn, SenderStored, coreIn, receiverIn, CoreStored, ReceiverStored};
-
-// Whether a word fits a field of 32 bits.
-fn is_half(w: u64) -> bool
-    ensures { λ r. ⌜ r ≡ isHalf w ⌝ }
-{
-    w < 4294967296
-}
-
-// Whether the words can hold a record of this size and tag: enough of them, and numbers that fit their fields.
-fn holds_record(words: &[u64], size: usize, tag: u64) -> bool
-    requires { ⌜ 4 ≤ size ⌝ }
-    ensures { λ r. ⌜ r ≡ holds size tag (now (words .entry)) ⌝ }
-{
-    if words.len() < size {
-        return false;
-    }
-    if words[layout::TAG] != tag {
-        return false;
-    }
-    if !is_half(words[1]) {
-        return false;
-    }
-    if !is_half(words[2]) {
-        return false;
-    }
-    is_half(words[3])
-}
+ghost use lib.ListN.{length};
+ghost use Rattle.layout.specs.Layout.{receiverTag, senderLength, receiverLength, picksAt};
+ghost use Rattle.layout.specs.Tagged.{holds};
+ghost use Rattle.stored.specs.State.{senderIn, SenderStored, coreIn, frontIn, receiverIn, CoreStored, FrontStored, ReceiverStored};
 
 // The sender that the words hold.
 pub fn load_sender(words: &[u64]) -> Sender
     ensures { λ r. ⌜ r ≡ senderIn (now (words .entry)) ⌝ }
 {
-    if !holds_record(words, layout::SENDER_WORDS, layout::SENDER) {
+    if !layout::holds_record(words, layout::SENDER_WORDS, layout::SENDER) {
         return sender::closed_sender();
     }
     let u = words[layout::WIDTH] as u32;
@@ -61,21 +31,12 @@ pub fn load_sender(words: &[u64]) -> Sender
     }
 }
 
-fn tag_of(live: bool, tag: u64) -> u64
-    ensures { λ r. ⌜ r ≡ tagOf live tag ⌝ }
-{
-    if live {
-        return tag;
-    }
-    0
-}
-
 // Puts a sender into its words.
 pub fn store_sender(s: Sender, words: &mut [u64])
     requires { ⌜ senderLength ≤ length (now words) ⌝ }
     ensures { λ _. ⌜ SenderStored s (now (words .entry)) (now (words .exit)) ⌝ }
 {
-    words[layout::TAG] = tag_of(s.live, layout::SENDER);
+    words[layout::TAG] = layout::tag_of(s.live, layout::SENDER);
     words[layout::WIDTH] = s.accord.u as u64;
     words[layout::SENDER_TURN] = s.turn as u64;
     words[layout::SENDER_STATE] = s.state as u64;
@@ -102,15 +63,33 @@ fn core_in(words: &[u64]) -> Core
     }
 }
 
-// Copies all of `from` to the front of `to`.
-fn copy(from: &[u64], to: &mut [u64])
-    requires { ⌜ length (now from) ≤ length (now to) ⌝ }
-    ensures { λ _. ⌜ now (to .exit) ≡ now (from .entry) ++ drop (length (now (from .entry))) (now (to .entry)) ⌝ }
+// Whether the words can hold a receiver.
+pub fn holds_receiver(words: &[u64]) -> bool
+    ensures { λ r. ⌜ r ≡ holds receiverLength receiverTag (now (words .entry)) ⌝ }
 {
-    let mut i: usize = 0;
-    while i < from.len() {
-        to[i] = from[i];
-        i += 1;
+    layout::holds_record(words, layout::RECEIVER_WORDS, layout::RECEIVER)
+}
+
+// A receiver without its picks: they are the half of it that a call may leave in the caller's words.
+pub struct Front {
+    pub core: Core,
+    pub sums: [u64; 16],
+    pub planes: [u64; 48],
+}
+
+// All but the picks of the receiver that the words hold.
+pub fn load_front(words: &[u64]) -> Front
+    requires { ⌜ holds receiverLength receiverTag (now words) ≡ true ⌝ }
+    ensures { λ r. ⌜ r ≡ frontIn (now (words .entry)) ⌝ }
+{
+    let mut sums = [0u64; 16];
+    let mut planes = [0u64; 48];
+    layout::copy(&words[layout::SUMS..layout::PLANES], &mut sums[0..]);
+    layout::copy(&words[layout::PLANES..layout::PICKS], &mut planes[0..]);
+    Front {
+        core: core_in(words),
+        sums: sums,
+        planes: planes,
     }
 }
 
@@ -118,21 +97,21 @@ fn copy(from: &[u64], to: &mut [u64])
 pub fn load_receiver(words: &[u64]) -> Receiver
     ensures { λ r. ⌜ r ≡ receiverIn (now (words .entry)) ⌝ }
 {
-    if !holds_record(words, layout::RECEIVER_WORDS, layout::RECEIVER) {
+    if !holds_receiver(words) {
         return openings::closed_receiver();
     }
-    let mut sums = [0u64; 16];
-    let mut planes = [0u64; 48];
+    let front = load_front(words);
+    let core = front.core;
+    let sums = front.sums;
+    let planes = front.planes;
     let mut picks = [0u64; 72];
-    copy(&words[layout::SUMS..layout::PLANES], &mut sums[0..]);
-    copy(&words[layout::PLANES..layout::PICKS], &mut planes[0..]);
-    copy(
+    layout::copy(
         &words[layout::PICKS..layout::RECEIVER_WORDS],
         &mut picks[0..],
     );
     Receiver {
         live: true,
-        core: core_in(words),
+        core: core,
         sums: sums,
         planes: planes,
         picks: picks,
@@ -143,7 +122,7 @@ fn store_core(live: bool, c: Core, words: &mut [u64])
     requires { ⌜ 7 ≤ length (now words) ⌝ }
     ensures { λ _. ⌜ CoreStored live c (now (words .entry)) (now (words .exit)) ⌝ }
 {
-    words[layout::TAG] = tag_of(live, layout::RECEIVER);
+    words[layout::TAG] = layout::tag_of(live, layout::RECEIVER);
     words[layout::WIDTH] = c.accord.u as u64;
     words[layout::TAKEN] = c.taken as u64;
     words[layout::TURN] = c.turn as u64;
@@ -152,22 +131,14 @@ fn store_core(live: bool, c: Core, words: &mut [u64])
     words[layout::PENDING] = c.pending as u64;
 }
 
-// Puts a receiver in its parts into its words.
-pub fn store_parts(
-    live: bool,
-    c: Core,
-    sums: [u64; 16],
-    planes: [u64; 48],
-    picks: [u64; 72],
-    words: &mut [u64],
-)
-    requires { ⌜ receiverLength ≤ length (now words) ⌝ }
-    ensures { λ _. ⌜ ReceiverStored (partsOf live c sums planes picks) (now (words .entry)) (now (words .exit)) ⌝ }
+// Puts all but its picks of a receiver into its words.
+pub fn store_front(live: bool, c: Core, sums: [u64; 16], planes: [u64; 48], words: &mut [u64])
+    requires { ⌜ picksAt ≤ length (now words) ⌝ }
+    ensures { λ _. ⌜ FrontStored live c sums planes (now (words .entry)) (now (words .exit)) ⌝ }
 {
     store_core(live, c, words);
-    copy(&sums[0..], &mut words[layout::SUMS..]);
-    copy(&planes[0..], &mut words[layout::PLANES..]);
-    copy(&picks[0..], &mut words[layout::PICKS..]);
+    layout::copy(&sums[0..], &mut words[layout::SUMS..]);
+    layout::copy(&planes[0..], &mut words[layout::PLANES..]);
 }
 
 // Puts a receiver into its words.
@@ -179,5 +150,6 @@ pub fn store_receiver(rx: Receiver, words: &mut [u64])
     let sums = rx.sums;
     let planes = rx.planes;
     let picks = rx.picks;
-    store_parts(rx.live, c, sums, planes, picks, words);
+    layout::copy(&picks[0..], &mut words[layout::PICKS..]);
+    store_front(rx.live, c, sums, planes, words);
 }

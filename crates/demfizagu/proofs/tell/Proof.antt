@@ -4,7 +4,7 @@ use native.Mathlib.Omega.{arith}
 use denote.Ref.{now}
 use lib.ListN.{length-set}
 use Rattle.demfizagu.specs.Calls.{toldOf}
-use Rattle.stored.proofs.Lent.{stored}
+use Rattle.layout.proofs.Lent.{stored}
 use borrow.Author.Needs.{needs}
 use Rattle.demfizagu.proofs.tell.Statement.{statement}
 use Rattle.demfizagu.proofs.tell.Tie as tie

@@ -1,8 +1,8 @@
 -- `core_in`: words that hold a receiver are long enough, and the three small numbers fit.
 use native.Mathlib.Omega.{arith}
 use denote.Ref.{now}
-use Rattle.stored.specs.Layout.{receiverLength, receiverTag}
-use Rattle.stored.proofs.Held.{Held, held}
+use Rattle.layout.specs.Layout.{receiverLength, receiverTag}
+use Rattle.layout.proofs.Held.{Held, held}
 use borrow.Author.Needs.{needs}
 use Rattle.stored.proofs.core_in.Statement.{statement}
 use Rattle.stored.proofs.core_in.Tie as tie

@@ -34,13 +34,13 @@ core-facts c e =
     let (e₀, r₀) = and-both (isAccord (c .accord)) _ e in
     let (e₁, r₁) = and-both (leb 1 (c .window)) _ r₀ in
     let (e₂, r₂) = and-both (leb (c .window) 64) _ r₁ in
-    let (e₃, r₃) = and-both (ltb (c .turn) 4) _ r₂ in
+    let (e₃, r₃) = and-both (leb (c .turn) 4) _ r₂ in
     let (e₄, e₅) = and-both (ltb (c .slot) 64) _ r₃ in
     record {
       agreed = e₀;
       some-window = leb-true 1 (c .window) e₁;
       small-window = leb-true (c .window) 64 e₂;
-      turn-below = ltb-true (c .turn) 4 e₃;
+      turn-below = leb-true (c .turn) 4 e₃;
       slot-below = ltb-true (c .slot) 64 e₄;
       held = leb-true (c .pending) (c .window) e₅;
     }
@@ -72,13 +72,13 @@ way-turned : (c : Core) (planes picks : List ℕ) (s : ℕ) → Every Turned (wa
 unfolding wayFrom symbolBy
 way-turned c planes picks s = map-turned (pendingAt c planes picks s) (λ j. omega arith) (range 0 (c .pending))
 
-turned-after : (q n : ℕ) (l : List Symbol) → q < 4 → Every Turned l → after turnAfter q (take n l) < 4
+turned-after : (q n : ℕ) (l : List Symbol) → q ≤ 4 → Every Turned l → after turnAfter q (take n l) ≤ 4
 unfolding after
 turned-after q zero l h v = h
 turned-after q (suc n) [] h v = h
-turned-after q (suc n) (c ∷ l) h v = turned-after (firstLabel c) n l (v .0) (v .1)
+turned-after q (suc n) (c ∷ l) h v = turned-after (firstLabel c) n l (omega (arith, v .0)) (v .1)
 
-released-turned : (rx : Receiver) (y : Two Received) → rx .core .turn < 4 → after turnAfter (rx .core .turn) (releasedOf rx y) < 4
+released-turned : (rx : Receiver) (y : Two Received) → rx .core .turn ≤ 4 → after turnAfter (rx .core .turn) (releasedOf rx y) ≤ 4
 unfolding releasedOf
 released-turned rx y h = turned-after (rx .core .turn) (agreedOf rx y) _ h (way-turned (rx .core) (rx .planes) (rx .picks) _)
 
@@ -91,7 +91,7 @@ sound-from rx l c s =
       c .agreed,
       le-leb 1 (rx .core .window) (c .some-window),
       le-leb (rx .core .window) 64 (c .small-window),
-      lt-ltb (rx .core .turn) 4 (c .turn-below),
+      le-leb (rx .core .turn) 4 (c .turn-below),
       lt-ltb (rx .core .slot) 64 (c .slot-below),
       le-leb (rx .core .pending) (rx .core .window) (c .held),
     )

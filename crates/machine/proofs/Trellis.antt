@@ -4,7 +4,7 @@
 --   pickOf ac y s t            the search's pick from s to t
 --   laws, onward               the search obeys its laws, and every list has an allowed sequence
 --   some-up                    some state is always reached
---   turn-below                 the turn after what is final is a label
+--   turn-below                 the turn after what is final is a label, or not known
 --   cost-at                    the cost of a step's subset is the distance of the pick between its two states
 use mathlib.Core.Path.{_≡_, sym, ap, subst, _∙_}
 use mathlib.Core.List.{List, [], _∷_, _++_, IsPrefix}
@@ -85,10 +85,10 @@ module _ (ac : Accord) (b : Start) (g : GoodStart b) where
           let z₂ : l ++ r ≡ m = cc in
           (subst (Valid (ac .u)) (sym z₁) (v .0), front l m (r, z₂) (v .1))
 
-  pub turn-below : (ys : List (Two Received)) → carried (searchOf ac b) turnAfter (firstTurn b) ys < 4
+  pub turn-below : (ys : List (Two Received)) → carried (searchOf ac b) turnAfter (firstTurn b) ys ≤ 4
   unfolding carried after
-  turn-below ys = go (firstTurn b) (common (searchOf ac b) ys) (common-valid ys) (omega (arith, first-turn b))
+  turn-below ys = go (firstTurn b) (common (searchOf ac b) ys) (common-valid ys) (first-turn b)
     where
-      go : (q : ℕ) (cs : List Symbol) → Every (Valid (ac .u)) cs → q < 4 → after turnAfter q cs < 4
+      go : (q : ℕ) (cs : List Symbol) → Every (Valid (ac .u)) cs → q ≤ 4 → after turnAfter q cs ≤ 4
       go q [] v h = h
       go q (c ∷ cs) v h = go (firstLabel c) cs (v .1) (omega (arith, v .0 .i2-below, v .0 .i3-below))

@@ -143,7 +143,7 @@ abbrev pub topSum : ℕ → ℕ
 topSum n = limit + n * 2 ^ 30
 
 unfoldable pub soundCore : Core → Bool
-soundCore c = isAccord (c .accord) && (leb 1 (c .window) && (leb (c .window) 64 && (ltb (c .turn) 4 && (ltb (c .slot) 64 && leb (c .pending) (c .window)))))
+soundCore c = isAccord (c .accord) && (leb 1 (c .window) && (leb (c .window) 64 && (leb (c .turn) 4 && (ltb (c .slot) 64 && leb (c .pending) (c .window)))))
 
 unfoldable pub sound : Receiver → Bool
 sound rx = rx .live && (soundCore (rx .core) && allUpTo (topSum (rx .core .taken)) (rx .sums))

@@ -26,7 +26,7 @@ pub record CoreFits (c : Core) : Type 0 where
   pub agreed : isAccord (c .accord) ≡ true
   pub some-window : 1 ≤ c .window
   pub small-window : c .window ≤ 64
-  pub turn-below : c .turn < 4
+  pub turn-below : c .turn ≤ 4
   pub slot-below : c .slot < 64
   pub held : c .pending ≤ c .window
 

@@ -66,12 +66,12 @@ fn fresh_sums(start: Start) -> [u64; 16]
     }
 }
 
-// The turn against which the first symbol is measured.
+// The turn against which the first symbol is measured: not known where the receiver may join a live line.
 fn first_turn(start: Start) -> u32
     ensures { λ r. ⌜ r ≡ firstTurn (startOf start) ⌝ }
 {
     match start {
-        Start::Free => 0,
+        Start::Free => wei::label::UNKNOWN,
         Start::At(_) => 0,
     }
 }
@@ -147,7 +147,7 @@ fn core_fits(c: Core) -> bool
     if c.window > 64 {
         return false;
     }
-    if c.turn > 3 {
+    if c.turn > 4 {
         return false;
     }
     if c.slot > 63 {

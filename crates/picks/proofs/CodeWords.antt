@@ -11,11 +11,11 @@ use lib.Bits.{bitAnd, and-mask}
 use lib.Pow.{pow-pos}
 use Rattle.wei.specs.declared.label.LabelPair.{LabelPair}
 use Rattle.wei.specs.declared.word.Parts.{Parts}
-use Rattle.wei.specs.Label.{turnFrom, secondLabel, pairOf}
+use Rattle.wei.specs.Label.{turnSince, secondLabel, pairOf}
 use Rattle.wei.specs.Word.{packed, InRange}
 use Rattle.wei.specs.Symbol.{Symbol, firstLabel, Valid}
 use Rattle.wei.proofs.Words.{masked}
-use Rattle.wei.proofs.Labels.{second-below}
+use Rattle.wei.proofs.Labels.{second-below, since-below}
 use Rattle.trellis.specs.Words.{wordParts, word}
 use Rattle.picks.specs.Picks.{byteAt, symbolBy, saidOf}
 
@@ -60,7 +60,7 @@ module _ (u turn i3 n k : ℕ) (l : LabelPair) (hu : u ≤ 8) (h3 : i3 < 2)
   unfolding symbolBy
   i1-is = bit-of (k / 2)
 
-  module _ (x y d : ℕ) (ex : x ≡ byteAt n (l .first)) (ey : y ≡ byteAt n (4 + l .second)) (turned : d ≡ turnFrom turn (l .first)) where
+  module _ (x y d : ℕ) (ex : x ≡ byteAt n (l .first)) (ey : y ≡ byteAt n (4 + l .second)) (turned : d ≡ turnSince turn (l .first)) where
     w1-is : bitAnd x (1 * 2 ^ u % 2 ^ 32 - 1) ≡ c .w1
     unfolding symbolBy
     w1-is = masked x u hu ∙ ap (λ (m : ℕ). m % 2 ^ u) (ex ∙ ap (byteAt n) first-is)
@@ -78,13 +78,13 @@ module _ (u turn i3 n k : ℕ) (l : LabelPair) (hu : u ≤ 8) (h3 : i3 < 2)
         record {
           i1-below = bit-below (k / 2);
           i2-below = bit-below d;
-          i3-below = omega arith;
+          i3-below = omega (arith, turned, since-below turn (l .first));
           w1-below = rw w1-is (v .w1-below);
           w2-below = rw w2-is (v .w2-below);
         }
 
-    turn-is : d ≡ turnFrom turn (firstLabel c)
-    turn-is = turned ∙ ap (turnFrom turn) first-is
+    turn-is : d ≡ turnSince turn (firstLabel c)
+    turn-is = turned ∙ ap (turnSince turn) first-is
 
     parts-are : parts ≡ wordParts turn c
     unfolding wordParts

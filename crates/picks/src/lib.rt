@@ -75,7 +75,7 @@ fn type_at(picks: &[u64], k: usize, age: usize) -> u32
 
 // The word of the symbol of subset k with that I3' and its numbers in a word, after the turn before.
 fn word_by(u: u32, turn: u32, i3: u32, numbers: u64, k: usize) -> Said
-    requires { ⌜ (u ≤ 8) × (turn < 4) × (i3 < 2) × (k < 8) ⌝ }
+    requires { ⌜ (u ≤ 8) × (turn ≤ 4) × (i3 < 2) × (k < 8) ⌝ }
     ensures { λ r. ⌜ r ≡ saidOf u turn (symbolBy u i3 numbers k) ⌝ }
 {
     let b = k as u32;
@@ -84,7 +84,7 @@ fn word_by(u: u32, turn: u32, i3: u32, numbers: u64, k: usize) -> Said
     let w1 = number_at(numbers, l.first);
     let w2 = number_at(numbers, 4 + l.second);
     let mask = (1u32 << u) - 1;
-    let d = wei::label::turn_from(turn, l.first);
+    let d = wei::label::turn_since(turn, l.first);
     let word = wei::word::pack(
         u,
         Parts {
@@ -103,7 +103,7 @@ fn word_by(u: u32, turn: u32, i3: u32, numbers: u64, k: usize) -> Said
 
 // The word of the symbol of subset k in a slot, so many symbols before the newest, after the turn before.
 pub fn word_in(u: u32, turn: u32, picks: &[u64], slot: usize, age: usize, k: usize) -> Said
-    requires { ⌜ (u ≤ 8) × (turn < 4) × (slot < 64) × (age < 64) × (k < 8) × (length (now picks) ≡ 72) ⌝ }
+    requires { ⌜ (u ≤ 8) × (turn ≤ 4) × (slot < 64) × (age < 64) × (k < 8) × (length (now picks) ≡ 72) ⌝ }
     ensures { λ r. ⌜ r ≡ saidOf u turn (symbolIn u (now (picks .entry)) slot age k) ⌝ }
 {
     let i3 = type_at(picks, k, age);

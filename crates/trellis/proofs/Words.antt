@@ -8,12 +8,11 @@
 --   words-heard              the words of a sender, as they come back from a clean line; heard-take, a beginning of them
 --   first-turn               the turn before the first symbol is one, or is not known
 use mathlib.Core.Path.{_≡_, refl, sym, ap, ap₂, subst, _∙_}
-use mathlib.Core.Bool.{Bool, true, false, cond}
+use mathlib.Core.Bool.{true}
 use mathlib.Core.List.{List, [], _∷_, IsPrefix}
 use Prim.Native.Nat.{ℕ, zero, suc, _+_, _-_, _≤_, _*_, _/_, _%_, _^_, _<_}
 use native.Mathlib.Omega.{arith}
 use borrow.Author.Tests.{ltb-true}
-use lib.Dec.{eqb}
 use lib.ListN.{take}
 use Rattle.trellis.specs.Lists.{Every}
 use Rattle.trellis.specs.Speak.{speak}
@@ -22,18 +21,12 @@ use Rattle.trellis.specs.Words.{wordParts, word, turnAfter, wordsFrom, f
 use Rattle.trellis.proofs.Speak.{speak-prefix}
 use Rattle.wei.specs.declared.word.Parts.{Parts}
 use Rattle.wei.specs.Word.{isWord, unpacked, packed, InRange}
-use Rattle.wei.specs.Label.{turnOf, turnOn, turnFrom, unknown, turnSince}
+use Rattle.wei.specs.Label.{turnOf, turnOn, unknown, turnSince}
 use Rattle.wei.specs.State.{bitW4, nextState}
 use Rattle.wei.specs.Symbol.{Symbol, firstLabel, Valid, AllowedFrom, symbolOf, symbolsFrom}
 use Rattle.wei.proofs.Finite.{equal2, equal3}
+use Rattle.wei.proofs.Labels.{since-below}
 use Rattle.wei.proofs.Words.{pack-unpack, unpack-pack, parts-range, packed-below}
-
-since-below : (q l : ℕ) → turnSince q l < 4
-since-below q l = go (eqb q unknown)
-  where
-    go : (b : Bool) → cond b 0 (turnFrom q l) < 4
-    go true = omega arith
-    go false = omega arith
 
 module _ (u : ℕ) where
   -- ── one word ──

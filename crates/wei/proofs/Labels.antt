@@ -2,12 +2,15 @@
 -- points fix its bits.
 --   type-rule       the table of types and the rule give the same pair
 --   turn-back       IV-5 undoes IV-4
+--   since-below     what is said of the turn is below 4
 --   labels-apart    valid symbols with the same labels and numbers are equal
 use mathlib.Core.Path.{_≡_, sym, ap₂, _∙_}
+use mathlib.Core.Bool.{Bool, true, false, cond}
 use Prim.Native.Nat.{ℕ, _+_, _-_, _*_, _/_, _%_, _<_}
 use native.Mathlib.Omega.{arith}
+use lib.Dec.{eqb}
 use lib.ListN.{getD}
-use Rattle.wei.specs.Label.{turnOf, turnOn, turnFrom, secondLabel, pairOf, types, typeRow, typeOf}
+use Rattle.wei.specs.Label.{turnOf, turnOn, turnFrom, unknown, turnSince, secondLabel, pairOf, types, typeRow, typeOf}
 use Rattle.wei.specs.Symbol.{Symbol, firstLabel, lastLabel, Valid}
 use Rattle.wei.proofs.Finite.{equal3, equal4}
 
@@ -52,3 +55,11 @@ labels-apart u v c d p q e₁ e₂ e₃ e₄ =
     let z₂ : c .i2 ≡ d .i2 = omega (arith, e₁, p .i2-below, q .i2-below) in
     let z₃ : c .i3 ≡ d .i3 = omega (arith, e₁, p .i2-below, q .i2-below) in
     λ i. record { y0 = z₀ i; i1 = z₁ i; i2 = z₂ i; i3 = z₃ i; w1 = e₃ i; w2 = e₄ i }
+
+-- what a word says of the turn has two bits
+pub since-below : (q l : ℕ) → turnSince q l < 4
+since-below q l = go (eqb q unknown)
+  where
+    go : (b : Bool) → cond b 0 (turnFrom q l) < 4
+    go true = omega arith
+    go false = omega arith

@@ -1,5 +1,5 @@
 -- `write_words`: the words and the turn so far are those of the symbols passed.
-use Prim.Native.Nat.{ℕ, _≤_, _<_, _+_, _-_}
+use Prim.Native.Nat.{ℕ, _≤_, _+_, _-_}
 use mathlib.Core.Path.{_≡_, refl, ap, _∙_}
 use mathlib.Core.List.{_++_}
 use native.Mathlib.Omega.{arith}
@@ -17,7 +17,7 @@ abbrev Inv-loop : tie.InvT-loop
 Inv-loop core planes picks s n out₀ oldest turn₀ j₀ out turn j =
     (j ≤ n)
     × (length out ≡ length out₀)
-    × (turn < 4)
+    × (turn ≤ 4)
     × (turn ≡ after turnAfter (core .turn) (take j (wayFrom core planes picks s)))
     × (out ≡ wordsFrom (core .accord .u) (core .turn) (take j (wayFrom core planes picks s)) ++ drop j out₀)
 
@@ -72,7 +72,7 @@ loop-again c =
     let is = c .word-in .ensures ∙ ap (λ (x : ℕ). saidOf (a .core .accord .u) (at .loop .turn) (symbolIn (a .core .accord .u) (a .picks .now) (slotOf (a .core) (at .loop .j)) age x)) (c .before .subset-at .ensures .0) in (
       omega arith,
       simp length-set (at .loop .inv .1),
-      turn-below (a .core) (a .planes .now) (a .picks .now) (a .out .now) (at .loop .out) (a .s) (a .n) (at .loop .j) (at .loop .turn) (p .2) more (c .word-in .result) is,
+      omega (arith, turn-below (a .core) (a .planes .now) (a .picks .now) (a .out .now) (at .loop .out) (a .s) (a .n) (at .loop .j) (at .loop .turn) (p .2) more (c .word-in .result) is),
       turn-more (a .core) (a .planes .now) (a .picks .now) (a .out .now) (at .loop .out) (a .s) (a .n) (at .loop .j) (at .loop .turn) (p .2) more (c .word-in .result) is (at .loop .inv .3),
       words-more (a .core) (a .planes .now) (a .picks .now) (a .out .now) (at .loop .out) (a .s) (a .n) (at .loop .j) (at .loop .turn) (p .2) more (c .word-in .result) is (at .loop .inv .3) (p .3) (at .loop .inv .4),
     )

@@ -35,19 +35,19 @@ returns-3 c = let e = c .before .before .before .before in rw (fits e, le-leb 1 
 
 returns-4 : tie.Need-returns-4
 unfolding soundCore
-returns-4 c = let e = c .before .before .before .before .before .before in rw (fits e, le-leb 1 (k e .window) (omega arith), le-leb (k e .window) 64 (omega arith), le-ltb (k e .turn) 4 (omega arith))
+returns-4 c = let e = c .before .before .before .before .before .before in rw (fits e, le-leb 1 (k e .window) (omega arith), le-leb (k e .window) 64 (omega arith), lt-leb (k e .turn) 4 (omega arith))
 
 returns-5 : tie.Need-returns-5
 unfolding soundCore
 returns-5 c =
     let e = c .before .before .before .before .before .before .before .before in
-    rw (fits e, le-leb 1 (k e .window) (omega arith), le-leb (k e .window) 64 (omega arith), lt-ltb (k e .turn) 4 (omega arith), le-ltb (k e .slot) 64 (omega arith))
+    rw (fits e, le-leb 1 (k e .window) (omega arith), le-leb (k e .window) 64 (omega arith), le-leb (k e .turn) 4 (omega arith), le-ltb (k e .slot) 64 (omega arith))
 
 returns-6 : tie.Need-returns-6
 unfolding soundCore
 returns-6 c =
     let e = c .before .before .before .before .before .before .before .before .before in
-    rw (fits e, le-leb 1 (k e .window) (omega arith), le-leb (k e .window) 64 (omega arith), lt-ltb (k e .turn) 4 (omega arith), lt-ltb (k e .slot) 64 (omega arith))
+    rw (fits e, le-leb 1 (k e .window) (omega arith), le-leb (k e .window) 64 (omega arith), le-leb (k e .turn) 4 (omega arith), lt-ltb (k e .slot) 64 (omega arith))
 
 pub core-fits-spec : {M : Type 1} → statement M
 core-fits-spec = tie.close (tie.spec is-accord-requires returns returns-2 returns-3 returns-4 returns-5 returns-6)

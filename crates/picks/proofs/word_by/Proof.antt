@@ -41,8 +41,8 @@ shl-mask c = search needs
 sub-mask : tie.Need-sub-mask
 sub-mask c = let s = c .before .before .before .before in omega (arith, bit-at (s .args .u) (s .pre .0), pow-pos (s .args .u))
 
-turn-from-requires : tie.Need-turn-from-requires
-turn-from-requires c κs = (c .before .before .before .before .pre .1, first (c .before .before .before))
+turn-since-requires : tie.Need-turn-since-requires
+turn-since-requires c κs = (c .before .before .before .before .pre .1, first (c .before .before .before))
 
 pack-requires : tie.Need-pack-requires
 pack-requires c κs =
@@ -50,7 +50,7 @@ pack-requires c κs =
     let w = n .before .before .before in
     let s = w .before in
     let a = s .args in
-    (s .pre .0, pack-in (a .u) (a .turn) (a .i3) (a .numbers) (a .k) (w .labels .result) (s .pre .0) (s .pre .2) (w .labels .ensures) (n .before .before .number-at .result) (n .number-at2 .result) (c .turn-from .result) (n .before .before .number-at .ensures) (n .number-at2 .ensures) (c .turn-from .ensures))
+    (s .pre .0, pack-in (a .u) (a .turn) (a .i3) (a .numbers) (a .k) (w .labels .result) (s .pre .0) (s .pre .2) (w .labels .ensures) (n .before .before .number-at .result) (n .number-at2 .result) (c .turn-since .result) (n .before .before .number-at .ensures) (n .number-at2 .ensures) (c .turn-since .ensures))
 
 returns : tie.Need-returns
 returns c =
@@ -59,7 +59,7 @@ returns c =
     let w = n .before .before .before in
     let s = w .before in
     let a = s .args in
-    said (a .u) (a .turn) (a .i3) (a .numbers) (a .k) (w .labels .result) (s .pre .0) (s .pre .2) (w .labels .ensures) (n .before .before .number-at .result) (n .number-at2 .result) (t .turn-from .result) (n .before .before .number-at .ensures) (n .number-at2 .ensures) (t .turn-from .ensures) (c .pack .result) (c .pack .ensures)
+    said (a .u) (a .turn) (a .i3) (a .numbers) (a .k) (w .labels .result) (s .pre .0) (s .pre .2) (w .labels .ensures) (n .before .before .number-at .result) (n .number-at2 .result) (t .turn-since .result) (n .before .before .number-at .ensures) (n .number-at2 .ensures) (t .turn-since .ensures) (c .pack .result) (c .pack .ensures)
 
 pub word-by-spec : {M : Type 1} → statement M
 word-by-spec =
@@ -74,6 +74,6 @@ word-by-spec =
     number-at-requires-2
     shl-mask
     sub-mask
-    turn-from-requires
+    turn-since-requires
     pack-requires
     returns)

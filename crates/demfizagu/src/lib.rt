@@ -2,17 +2,17 @@
 //
 // Each function reads the state, calls the door that it wraps, and writes the state back where it changed. A state is read as closed
 // where it is too short, its tag is another, or the record in it is not sound (crate stored).
+use front::holds_receiver;
+use front::load_front;
+use front::store_front;
 use openings::Opened;
 use openings::Start;
 use points::Accord;
 use reasons::Why;
 use samples::Pair;
 use samples::Sample;
-use stored::holds_receiver;
-use stored::load_front;
 use stored::load_receiver;
 use stored::load_sender;
-use stored::store_front;
 use stored::store_receiver;
 use stored::store_sender;
 ghost use mathlib.Core.Path.{_≡_};
@@ -154,10 +154,10 @@ pub extern "C" fn demfizagu_hear(
     if !holds_receiver(state) {
         return answer(told, 0, 0, Why::Closed);
     }
-    let front = load_front(state);
-    let core = front.core;
-    let mut sums = front.sums;
-    let mut planes = front.planes;
+    let copied = load_front(state);
+    let core = copied.core;
+    let mut sums = copied.sums;
+    let mut planes = copied.planes;
     let a = receiver::hear_lent(
         true,
         core,

@@ -8,9 +8,9 @@ use borrow.Author.Needs.{needs}
 use lib.ListN.{length, drop, length-append}
 use lib.Seq.{take-all}
 use Rattle.layout.proofs.Lent.{placed, all-copied}
-use Rattle.stored.specs.State.{wordsOfCore}
-use Rattle.stored.proofs.store_front.Statement.{statement}
-use Rattle.stored.proofs.store_front.Tie as tie
+use Rattle.front.specs.Words.{wordsOfCore}
+use Rattle.front.proofs.store_front.Statement.{statement}
+use Rattle.front.proofs.store_front.Tie as tie
 
 sized : (s : tie.Start) → (length (s .args .t3) ≡ 16) × (length (s .args .t4) ≡ 48)
 sized s = (search needs, search needs)

@@ -8,8 +8,8 @@ use lib.ListN.{length-replicate}
 use Rattle.layout.specs.Layout.{receiverLength, receiverTag}
 use Rattle.layout.proofs.Held.{Held, held}
 use Rattle.layout.proofs.Lent.{part-loaded}
-use Rattle.stored.proofs.load_front.Statement.{statement}
-use Rattle.stored.proofs.load_front.Tie as tie
+use Rattle.front.proofs.load_front.Statement.{statement}
+use Rattle.front.proofs.load_front.Tie as tie
 
 known : (s : tie.Start) → Held receiverLength receiverTag (now (s .args .words))
 known s = held receiverLength receiverTag (now (s .args .words)) (s .pre)

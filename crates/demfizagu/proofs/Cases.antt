@@ -27,7 +27,8 @@ use Rattle.receiver.specs.Doors.{Ran, hearing, finishing}
 use Rattle.receiver.specs.Promise as receives
 use Rattle.stored.specs.Layout.{senderLength, senderTag, receiverLength, receiverTag}
 use Rattle.stored.specs.State.{holds, senderIn, wordsOfSender, receiverIn, wordsOfReceiver, readSender, readReceiver, SenderStored, ReceiverStored}
-use Rattle.demfizagu.specs.Calls.{pendingIn, senderOpening, receiverOpening, sendCall, toldOf, callOf, hearCall, finishCall}
+use Rattle.converted.specs.Counts.{toldOf}
+use Rattle.demfizagu.specs.Calls.{pendingIn, senderOpening, receiverOpening, sendCall, callOf, hearCall, finishCall}
 use Rattle.demfizagu.specs.Promise.{Opens, Sends, Answers}
 use Rattle.stored.proofs.Held.{held}
 use Rattle.demfizagu.proofs.Ends.{sender-opening-reads, sending-keeps, sending-reads, receiver-opening-reads, hearing-keeps, hearing-reads, finishing-keeps, finishing-reads}

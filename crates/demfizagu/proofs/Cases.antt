@@ -23,7 +23,7 @@ use Rattle.reasons.specs.Reason.{Reason, givenOf}
 use Rattle.openings.specs.declared.Start.{Start}
 use Rattle.openings.specs.declared.Opened.{Opened}
 use Rattle.openings.specs.Opening as openings
-use Rattle.told.specs.Piece.{Piece, pieceOf}
+use Rattle.told.specs.Piece.{pieceOf}
 use Rattle.receiver.specs.declared.Answer.{Answer}
 use Rattle.receiver.specs.declared.Heard.{Heard}
 use Rattle.receiver.specs.Doors.{Ran, hearing, finishing}
@@ -32,7 +32,8 @@ use Rattle.receiver.proofs.Doors.{hear-closed, lent-live}
 use Rattle.layout.specs.Layout.{senderLength, senderTag, receiverLength, receiverTag, picksAt}
 use Rattle.layout.specs.Tagged.{holds}
 use Rattle.stored.specs.State.{senderIn, wordsOfSender, receiverIn, wordsOfReceiver, readSender, readReceiver, SenderStored, ReceiverStored}
-use Rattle.demfizagu.specs.Calls.{pendingIn, senderOpening, receiverOpening, sendCall, toldOf, callOf, hearCall, finishCall}
+use Rattle.converted.specs.Counts.{toldOf}
+use Rattle.demfizagu.specs.Calls.{pendingIn, senderOpening, receiverOpening, sendCall, callOf, hearCall, finishCall}
 use Rattle.demfizagu.specs.Promise.{Opens, Sends, Answers}
 use Rattle.layout.proofs.Held.{held}
 use Rattle.layout.proofs.Lent.{part-back}

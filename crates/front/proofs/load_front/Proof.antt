@@ -1,5 +1,4 @@
 -- `load_front`: two parts from their places, and the numbers.
-use mathlib.Core.Path.{_≡_}
 use Prim.Native.Nat.{ℕ}
 use native.Mathlib.Omega.{arith}
 use denote.Ref.{now}

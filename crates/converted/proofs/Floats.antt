@@ -5,8 +5,8 @@
 --   stop-fault, stop-room, end      the three ways it ends
 use mathlib.Core.Path.{_≡_, refl, sym, ap, subst, _∙_}
 use mathlib.Core.Bool.{true}
-use mathlib.Core.List.{List, [], _∷_, _++_, append-assoc}
-use Prim.Native.Nat.{ℕ, suc, _+_, _-_, _%_, _≤_, _<_}
+use mathlib.Core.List.{List, [], _∷_, _++_}
+use Prim.Native.Nat.{ℕ, suc, _+_, _%_, _≤_, _<_}
 use native.Mathlib.Numerals.{add-one}
 use native.Mathlib.Omega.{arith}
 use borrow.Author.Tests.{lt-ltb, le-ltb, le-leb, lt-leb, eq-eqb, ne-eqb}
@@ -14,14 +14,14 @@ use lib.Dec.{eqb}
 use lib.Ieee.{Float}
 use lib.IntN.{ℤ, pos}
 use lib.ListN.{getD, length, set, take, drop, length-drop, length-append, drop-of-length-le, take-append-drop}
-use lib.Seq.{drop-cons, drop-drop, length-take-le, take-at, drop-at}
-use Rattle.layout.proofs.Lent.{stored, pair-stored}
+use lib.Seq.{drop-cons, drop-drop, length-take-le, take-at, drop-at, sets-eq}
 use Rattle.samples.specs.declared.Pair.{Pair}
 use Rattle.samples.specs.Given.{GivenSample, sampleGiven}
 use Rattle.samples.specs.Heard.{heardSample}
-use Rattle.demfizagu.specs.declared.Heard.{Heard}
-use Rattle.demfizagu.specs.Calls.{toldOf, sampleCall, Conversion, converting, samplesCall}
-use Rattle.demfizagu.specs.Promise.{HeardIs, Samples, ConvertsTo, Converts}
+use Rattle.converted.specs.declared.Heard.{Heard}
+use Rattle.converted.specs.Counts.{toldOf}
+use Rattle.converted.specs.Calls.{sampleCall, Conversion, converting, samplesCall}
+use Rattle.converted.specs.Promise.{HeardIs, Samples, ConvertsTo, Converts}
 
 -- ---- one sample
 
@@ -35,7 +35,7 @@ module _ (x y : Float) (out : List ℤ) where
 
   pub sample-by : (r : Heard) (o : List ℤ) → 3 ≤ length out → HeardIs (heardSample x y) r → o ≡ set (set (set out 0 (r .x)) 1 (r .y)) 2 (pos (r .place)) → Samples (sampleCall x y out) (r .number) o
   unfolding sampleCall
-  sample-by r o h is f = rw (le-ltb (length out) 3 h) (record { number = is .number; out-is = f ∙ stored (r .x ∷ r .y ∷ pos (r .place) ∷ []) out h ∙ rw (is .x-is, is .y-is, is .place) })
+  sample-by r o h is f = rw (le-ltb (length out) 3 h) (record { number = is .number; out-is = f ∙ sets-eq (r .x ∷ r .y ∷ pos (r .place) ∷ []) out 0 h ∙ rw (is .x-is, is .y-is, is .place) })
 
 -- ---- a list of samples
 
@@ -97,7 +97,7 @@ module _ (fs : List Float) (out₀ out : List ℤ) (i : ℕ) (is : Going fs out�
     go-on o h k e =
         let n = is .long in
         let m = next in
-        let front : o ≡ (take i out ++ (r .x ∷ r .y ∷ [])) ++ drop (i + 2) out = e ∙ pair-stored out i (r .x) (r .y) k ∙ sym (append-assoc (take i out) (r .x ∷ r .y ∷ []) (drop (i + 2) out)) in
+        let front : o ≡ (take i out ++ (r .x ∷ r .y ∷ [])) ++ drop (i + 2) out = e ∙ rw (add-one i) (sets-eq (r .x ∷ r .y ∷ []) out i k) in
         let size : length (take i out ++ (r .x ∷ r .y ∷ [])) ≡ i + 2 = length-append (take i out) (r .x ∷ r .y ∷ []) ∙ rw written in
         let after : drop (i + 2) out ≡ drop (i + 2) out₀ = sym (drop-drop 2 i out) ∙ ap (λ l. drop 2 l) (is .rest) ∙ drop-drop 2 i out₀ in
         record {
@@ -113,7 +113,7 @@ module _ (fs : List Float) (out₀ out : List ℤ) (i : ℕ) (is : Going fs out�
               (ap (λ l. converting (drop (i + 2) fs) l (length out₀)) (sym (ap (λ l. take (i + 2) l) front ∙ take-at (take i out ++ (r .x ∷ r .y ∷ [])) (drop (i + 2) out) (i + 2) size)));
         }
 
--- ---- the exported function
+-- ---- the whole call
 
 module _ (fs : List Float) (out : List ℤ) (told : List ℕ) where
   pub samples-short : length told < 3 → Converts (samplesCall fs out told) 8 out told

@@ -1,9 +1,9 @@
--- `demfizagu_samples`: told too short, an odd length, or how the list went.
+-- `convert_list`: told too short, an odd length, or how the list went.
 use denote.Ref.{now}
-use Rattle.demfizagu.proofs.Floats.{samples-short, samples-odd, samples-done}
+use Rattle.converted.proofs.Floats.{samples-short, samples-odd, samples-done}
 use borrow.Author.Needs.{needs}
-use Rattle.demfizagu.proofs.demfizagu_samples.Statement.{statement}
-use Rattle.demfizagu.proofs.demfizagu_samples.Tie as tie
+use Rattle.converted.proofs.convert_list.Statement.{statement}
+use Rattle.converted.proofs.convert_list.Tie as tie
 
 returns : tie.Need-returns
 returns c = let s = c .before .before .before in samples-short (now (s .args .floats)) (now (s .args .out)) (now (s .args .told)) (c .if1 .taken)
@@ -32,8 +32,8 @@ same-length-3 c = search needs
 returns-3 : tie.Need-returns-3
 returns-3 c = let s = c .before .before .before .before .before .before .before .before .before .before .before in samples-done (now (s .args .floats)) (now (s .args .out)) (now (s .args .told)) _ _ _ _ _ (c .before .before .before .before .before .before .before .before .if1 .left) (c .before .before .before .before .before .before .before .if2 .left) (c .before .before .before .before .before .convert .ensures) (c .before .before .tell2 .ensures)
 
-pub demfizagu-samples-spec : {M : Type 1} → statement M
-demfizagu-samples-spec =
+pub convert-list-spec : {M : Type 1} → statement M
+convert-list-spec =
     tie.close
     (tie.spec
     returns

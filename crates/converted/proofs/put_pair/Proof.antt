@@ -2,8 +2,8 @@
 use native.Mathlib.Omega.{arith}
 use lib.ListN.{length-set}
 use borrow.Author.Needs.{needs}
-use Rattle.demfizagu.proofs.put_pair.Statement.{statement}
-use Rattle.demfizagu.proofs.put_pair.Tie as tie
+use Rattle.converted.proofs.put_pair.Statement.{statement}
+use Rattle.converted.proofs.put_pair.Tie as tie
 
 mul-a : tie.Need-mul-a
 mul-a c = search needs

@@ -2,10 +2,10 @@
 use mathlib.Core.Path.{refl}
 use mir.Syntax.{w32}
 use mir.ValLaws.{toZ-ofZ}
-use Rattle.demfizagu.proofs.Floats.{heard-pair}
+use Rattle.converted.proofs.Floats.{heard-pair}
 use borrow.Author.Needs.{needs}
-use Rattle.demfizagu.proofs.hear_floats.Statement.{statement}
-use Rattle.demfizagu.proofs.hear_floats.Tie as tie
+use Rattle.converted.proofs.hear_floats.Statement.{statement}
+use Rattle.converted.proofs.hear_floats.Tie as tie
 
 hear-sample-requires : tie.Need-hear-sample-requires
 hear-sample-requires c κs = search needs

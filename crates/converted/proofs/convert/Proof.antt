@@ -4,9 +4,9 @@ use Prim.Native.Nat.{_-_}
 use native.Mathlib.Omega.{arith}
 use denote.Ref.{now}
 use lib.ListN.{length}
-use Rattle.demfizagu.proofs.Floats.{Going, start, end, stop-fault, stop-room, go-on}
-use Rattle.demfizagu.proofs.convert.Statement.{statement}
-use Rattle.demfizagu.proofs.convert.Tie as tie
+use Rattle.converted.proofs.Floats.{Going, start, end, stop-fault, stop-room, go-on}
+use Rattle.converted.proofs.convert.Statement.{statement}
+use Rattle.converted.proofs.convert.Tie as tie
 
 abbrev Inv-loop : tie.InvT-loop
 Inv-loop floats out₀ i₀ out i = Going floats out₀ out i

@@ -5,8 +5,8 @@ use mir.Syntax.{w32}
 use mir.ValLaws.{toZ-pos}
 use lib.ListN.{length-set}
 use borrow.Author.Needs.{needs}
-use Rattle.demfizagu.proofs.put_three.Statement.{statement}
-use Rattle.demfizagu.proofs.put_three.Tie as tie
+use Rattle.converted.proofs.put_three.Statement.{statement}
+use Rattle.converted.proofs.put_three.Tie as tie
 
 slice-set-from-a : tie.Need-slice-set-from-a
 slice-set-from-a c = search needs

@@ -3,11 +3,11 @@ use mathlib.Core.List.{[], _∷_}
 use native.Mathlib.Omega.{arith}
 use denote.Ref.{now}
 use lib.ListN.{length-set}
-use Rattle.demfizagu.specs.Calls.{toldOf}
-use Rattle.layout.proofs.Lent.{stored}
+use Rattle.converted.specs.Counts.{toldOf}
+use lib.Seq.{sets-eq}
 use borrow.Author.Needs.{needs}
-use Rattle.demfizagu.proofs.tell.Statement.{statement}
-use Rattle.demfizagu.proofs.tell.Tie as tie
+use Rattle.converted.proofs.tell.Statement.{statement}
+use Rattle.converted.proofs.tell.Tie as tie
 
 slice-write-told : tie.Need-slice-write-told
 slice-write-told c = search needs
@@ -23,7 +23,7 @@ same-length c = search needs
 
 returns : tie.Need-returns
 unfolding toldOf
-returns c = stored (c .args .taken ∷ c .args .written ∷ c .args .place ∷ []) (now (c .args .told)) (c .pre)
+returns c = sets-eq (c .args .taken ∷ c .args .written ∷ c .args .place ∷ []) (now (c .args .told)) 0 (c .pre)
 
 pub tell-spec : {M : Type 1} → statement M
 tell-spec =

@@ -1,9 +1,9 @@
--- `demfizagu_sample`: too short, or what the door gave.
+-- `convert_sample`: too short, or what the door gave.
 use denote.Ref.{now}
-use Rattle.demfizagu.proofs.Floats.{sample-short, sample-by}
+use Rattle.converted.proofs.Floats.{sample-short, sample-by}
 use borrow.Author.Needs.{needs}
-use Rattle.demfizagu.proofs.demfizagu_sample.Statement.{statement}
-use Rattle.demfizagu.proofs.demfizagu_sample.Tie as tie
+use Rattle.converted.proofs.convert_sample.Statement.{statement}
+use Rattle.converted.proofs.convert_sample.Tie as tie
 
 returns : tie.Need-returns
 returns c = let s = c .before in sample-short (s .args .x) (s .args .y) (now (s .args .out)) (c .if1 .taken)
@@ -20,6 +20,6 @@ same-length c = search needs
 returns-2 : tie.Need-returns-2
 returns-2 c = let s = c .before .before .before .before .before in sample-by (s .args .x) (s .args .y) (now (s .args .out)) (c .before .before .before .hear-floats .result) _ (c .before .before .before .before .if1 .left) (c .before .before .before .hear-floats .ensures) (c .before .put-three .ensures)
 
-pub demfizagu-sample-spec : {M : Type 1} → statement M
-demfizagu-sample-spec =
+pub convert-sample-spec : {M : Type 1} → statement M
+convert-sample-spec =
     tie.close (tie.spec returns hear-floats-requires put-three-requires same-length returns-2)

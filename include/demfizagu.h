@@ -144,7 +144,10 @@ uint32_t demfizagu_send(uint64_t *state, size_t state_len, uint32_t word, int32_
  */
 uint32_t demfizagu_receiver_open(uint64_t *state, size_t state_len, uint32_t u, uint32_t window, uint32_t start);
 
-/* The same with window 64 and a free start. */
+/*
+ * The same with window 32 and a free start. Who reads a whole transmission and must not hear a 6 among its first 64 symbols
+ * names a window of 64: with a window of w none of the first w good symbols is answered with a 6.
+ */
 uint32_t demfizagu_receiver_open_plain(uint64_t *state, size_t state_len, uint32_t u);
 
 /*

@@ -23,7 +23,7 @@ use Rattle.reasons.specs.Reason.{Reason, givenOf}
 use Rattle.openings.specs.declared.Start.{Start}
 use Rattle.openings.specs.declared.Opened.{Opened}
 use Rattle.openings.specs.Opening as openings
-use Rattle.told.specs.Piece.{Piece, pieceOf}
+use Rattle.told.specs.Piece.{pieceOf}
 use Rattle.receiver.specs.declared.Answer.{Answer}
 use Rattle.receiver.specs.declared.Heard.{Heard}
 use Rattle.receiver.specs.Doors.{Ran, hearing, finishing}
@@ -31,12 +31,14 @@ use Rattle.receiver.specs.Promise as receives
 use Rattle.receiver.proofs.Doors.{hear-closed, lent-live}
 use Rattle.layout.specs.Layout.{senderLength, senderTag, receiverLength, receiverTag, picksAt}
 use Rattle.layout.specs.Tagged.{holds}
-use Rattle.stored.specs.State.{senderIn, wordsOfSender, frontIn, receiverIn, wordsOfReceiver, readSender, readReceiver, SenderStored, FrontStored, ReceiverStored}
-use Rattle.demfizagu.specs.Calls.{pendingIn, senderOpening, receiverOpening, sendCall, toldOf, callOf, hearCall, finishCall}
+use Rattle.stored.specs.State.{senderIn, wordsOfSender, receiverIn, wordsOfReceiver, readSender, readReceiver, SenderStored, ReceiverStored}
+use Rattle.converted.specs.Counts.{toldOf}
+use Rattle.demfizagu.specs.Calls.{pendingIn, senderOpening, receiverOpening, sendCall, callOf, hearCall, finishCall}
 use Rattle.demfizagu.specs.Promise.{Opens, Sends, Answers}
 use Rattle.layout.proofs.Held.{held}
 use Rattle.layout.proofs.Lent.{part-back}
-use Rattle.stored.specs.declared.Front.{Front}
+use Rattle.front.specs.declared.Copied.{Copied}
+use Rattle.front.specs.Words.{copiedIn, FrontStored}
 use Rattle.stored.proofs.Back.{front-stored}
 use Rattle.demfizagu.proofs.Ends.{sender-opening-reads, sending-keeps, sending-reads, receiver-opening-reads, hearing-keeps, hearing-reads, finishing-keeps, finishing-reads}
 
@@ -203,14 +205,14 @@ module _ (state : List ℕ) (piece : List ℤ) (out told : List ℕ) (yes : hold
   unfolding receiverIn
   picks-at = rw yes
 
-  front-is : (f : Front) → f ≡ frontIn state → receives.partsOf true (f .core) (f .sums) (f .planes) picks₀ ≡ receiverIn state
+  front-is : (f : Copied) → f ≡ copiedIn state → receives.partsOf true (f .core) (f .sums) (f .planes) picks₀ ≡ receiverIn state
   unfolding receiverIn
-  front-is f e = rw yes (ap (λ (x : Front). receives.partsOf true (x .core) (x .sums) (x .planes) picks₀) e)
+  front-is f e = rw yes (ap (λ (x : Copied). receives.partsOf true (x .core) (x .sums) (x .planes) picks₀) e)
 
   all-there : length picks₀ ≡ 72
   all-there = length-take-le 72 (drop picksAt state) (rw length-drop (omega (arith, held receiverLength receiverTag state yes .long)))
 
-  module _ (f : Front) (loaded : f ≡ frontIn state) (h : Heard) (sums planes picks o : List ℕ)
+  module _ (f : Copied) (loaded : f ≡ copiedIn state) (h : Heard) (sums planes picks o : List ℕ)
       (was : receives.Is (hearing (receives.partsOf (receives.lentLive true picks₀) (f .core) (f .sums) (f .planes) picks₀) (pieceOf piece) (length out)) out (receives.answerOf (receives.lentLive true picks₀) h sums planes picks) o)
       (enough : 3 ≤ length told) (t : List ℕ) (n : ℕ) (number : n ≡ givenOf (h .why) .number) (tells : t ≡ toldOf (h .taken) (h .written) (givenOf (h .why) .place) told) where
     abbrev a : Answer

@@ -1,4 +1,3 @@
 pub mod Ends
 pub mod Cases
-pub mod Floats
 pub mod Settled

@@ -1,23 +1,19 @@
 -- What each exported function does, as a function of all that it is lent: the number it gives, the lent memory after it, and the end
 -- that the state then reads as. Each is
--- the door that it wraps, between reading the state and writing it back; the doors' own definitions say the rest.
+-- the door that it wraps, between reading the state and writing it back; the doors' own definitions say the rest. What the samples do is
+-- in converted/specs/Calls.
 --   Opening, senderOpening, receiverOpening    an opening: 8 where the state is too short, else the door's number and its end
 --   Sending, sendCall          a word sent
 --   Call, hearCall, finishCall a piece heard, a finish: 8 where `told` is too short, else what the receiver's machine says
---   toldOf a b p told          `told` with its first three places written
 --   pendingIn, openIn          what is pending in a state; 1 if the state is an open end of either kind, else 0
---   Sampling, sampleCall       one sample
---   Converted, converting, samplesCall    a list of coordinates, sample by sample up to the first that is refused
-use Prim.Native.Nat.{ℕ, _+_, _%_}
+use Prim.Native.Nat.{ℕ}
 use mathlib.Core.Bool.{Bool, cond, _||_}
-use mathlib.Core.List.{List, [], _∷_, _++_}
-use mathlib.Core.Option.{Option, none, some}
-use lib.Dec.{eqb, leb, ltb}
-use lib.Ieee.{Float}
-use lib.IntN.{ℤ, pos}
+use mathlib.Core.List.{List, _++_}
+use lib.Dec.{eqb, ltb}
+use lib.IntN.{ℤ}
 use lib.ListN.{length, drop}
 use Rattle.points.specs.declared.Accord.{Accord}
-use Rattle.samples.specs.Heard.{heardSample}
+use Rattle.converted.specs.Counts.{toldOf}
 use Rattle.sender.specs.declared.Sender.{Sender}
 use Rattle.sender.specs.Send as sender
 use Rattle.machine.specs.declared.Receiver.{Receiver}
@@ -84,9 +80,6 @@ pub record Call : Type 0 where
   pub out : List ℕ
   pub told : List ℕ
 
-unfoldable pub toldOf : ℕ → ℕ → ℕ → List ℕ → List ℕ
-toldOf a b p told = a ∷ b ∷ p ∷ drop 3 told
-
 -- what the machine did, told to the caller; the state is written where it changed
 abbrev pub callOf : Bool → doors.Ran → List ℕ → List ℕ → List ℕ → Call
 callOf changed r state out told =
@@ -121,55 +114,3 @@ pendingIn state = let rx = receiverIn state in cond (machine.sound rx) (rx .core
 
 unfoldable pub openIn : List ℕ → ℕ
 openIn state = cond (machine.sound (receiverIn state) || sender.sound (senderIn state)) 1 0
-
--- ---- samples
-
-abbrev pub placeOr0 : Option ℕ → ℕ
-placeOr0 none = 0
-placeOr0 (some p) = p
-
-pub record Sampling : Type 0 where
-  pub number : ℕ
-  pub out : List ℤ
-
-unfoldable pub sampleCall : Float → Float → List ℤ → Sampling
-sampleCall x y out =
-    let g = heardSample x y in
-    cond (ltb (length out) 3)
-    (record { number = 8; out = out })
-    (record { number = g .number; out = g .x ∷ g .y ∷ pos (placeOr0 (g .place)) ∷ drop 3 out })
-
-pub record Conversion : Type 0 where
-  pub number : ℕ
-  pub written : List ℤ
-  pub place : ℕ
-
--- "then sample by sample 5, 8 (no room for its two numbers)"; zs are the coordinates written so far
-unfoldable pub converting : List Float → List ℤ → ℕ → Conversion
-converting (x ∷ y ∷ fs) zs room =
-    let g = heardSample x y in
-    cond (eqb (g .number) 0)
-    (cond (leb (length zs + 2) room)
-    (converting fs (zs ++ (g .x ∷ g .y ∷ [])) room)
-    (record { number = 8; written = zs; place = 0 }))
-    (record { number = 5; written = zs; place = length zs + placeOr0 (g .place) })
-converting (x ∷ []) zs room = record { number = 0; written = zs; place = 0 }
-converting [] zs room = record { number = 0; written = zs; place = 0 }
-
-pub record SamplesCall : Type 0 where
-  pub number : ℕ
-  pub out : List ℤ
-  pub told : List ℕ
-
-unfoldable pub samplesCall : List Float → List ℤ → List ℕ → SamplesCall
-samplesCall floats out told =
-    let c = converting floats [] (length out) in
-    cond (ltb (length told) 3)
-    (record { number = 8; out = out; told = told })
-    (cond (eqb (length floats % 2) 0)
-    (record {
-      number = c .number;
-      out = c .written ++ drop (length (c .written)) out;
-      told = toldOf (length (c .written)) (length (c .written)) (c .place) told;
-    })
-    (record { number = 10; out = out; told = toldOf 0 0 0 told }))

@@ -1,21 +1,18 @@
 -- The promises of the exported functions: the number given and all lent memory after the call are those of specs/Calls, for every
 -- input, and the state then reads as the end that the door gave. As each is an equation, any two results are equal.
---   Opens, Sends, Answers, Samples, Converts    one for each family of functions: openings; sending; hearing and finishing; one
---                                               sample; a list of them
---   OpensAs                                     what an opening gave, put into a state
+--   Opens, Sends, Answers    one for each family of functions: openings; sending; hearing and finishing. Those of samples are in
+--                            converted/specs/Promise
+--   OpensAs                  what an opening gave, put into a state
 use Prim.Native.Nat.{ℕ}
 use mathlib.Core.Path.{_≡_}
-use mathlib.Core.List.{List, _++_}
+use mathlib.Core.List.{List}
 use lib.IntN.{ℤ}
-use lib.ListN.{length, drop}
 use Rattle.points.specs.declared.Accord.{Accord}
 use Rattle.openings.specs.declared.Start.{Start}
 use Rattle.openings.specs.declared.Opened.{Opened}
 use Rattle.openings.specs.Opening as opening
-use Rattle.samples.specs.Given.{GivenSample}
-use Rattle.demfizagu.specs.declared.Heard.{Heard}
 use Rattle.stored.specs.State.{senderIn, receiverIn}
-use Rattle.demfizagu.specs.Calls.{Opening, receiverOpening, Sending, Call, placeOr0, Sampling, Conversion, SamplesCall}
+use Rattle.demfizagu.specs.Calls.{Opening, receiverOpening, Sending, Call}
 
 pub record Opens {End : Type 0} (read : List ℕ → End) (c : Opening End) (n : ℕ) (state : List ℕ) : Type 0 where
   pub number : n ≡ c .number
@@ -36,28 +33,5 @@ pub record Answers (c : Call) (n : ℕ) (state out told : List ℕ) : Type 0 whe
   pub number : n ≡ c .number
   pub state-is : state ≡ c .state
   pub reads : receiverIn state ≡ c .receiver
-  pub out-is : out ≡ c .out
-  pub told-is : told ≡ c .told
-
--- what was heard of a sample, in the code's own record
-pub record HeardIs (g : GivenSample) (r : Heard) : Type 0 where
-  pub number : r .number ≡ g .number
-  pub x-is : r .x ≡ g .x
-  pub y-is : r .y ≡ g .y
-  pub place : r .place ≡ placeOr0 (g .place)
-
-pub record Samples (c : Sampling) (n : ℕ) (out : List ℤ) : Type 0 where
-  pub number : n ≡ c .number
-  pub out-is : out ≡ c .out
-
--- inside the last: what the loop over the samples leaves
-pub record ConvertsTo (c : Conversion) (out : List ℤ) (n w p : ℕ) (o : List ℤ) : Type 0 where
-  pub number : n ≡ c .number
-  pub written : w ≡ length (c .written)
-  pub place : p ≡ c .place
-  pub out-is : o ≡ c .written ++ drop (length (c .written)) out
-
-pub record Converts (c : SamplesCall) (n : ℕ) (out : List ℤ) (told : List ℕ) : Type 0 where
-  pub number : n ≡ c .number
   pub out-is : out ≡ c .out
   pub told-is : told ≡ c .told

@@ -1,6 +1,5 @@
 -- Lists that a loop fills from the front, and the rest of a list while it is lent to a call.
 --   stored                        stores one after the other
---   pair-stored                   two stores anywhere
 --   copied-more, copied-length    one more of the elements of ws in the front of a list that was l₀
 --   placed                        what a call wrote at the front of the rest that it was lent
 --   lent, back                    the rest of a list from a on, as it is lent, and the list when the rest has come back
@@ -17,9 +16,6 @@ use lib.Seq.{take-suc, drop-cons, drop-drop, take-all, take-at, drop-at, length-
 module _ {A : Type 0} where
   pub stored : (vs l : List A) → length vs ≤ length l → sets l 0 vs ≡ vs ++ drop (length vs) l
   stored vs l h = let e : 0 + length vs ≡ length vs = omega arith in sets-eq vs l 0 (omega arith) ∙ rw e
-
-  pub pair-stored : (l : List A) (i : ℕ) (a b : A) → i + 2 ≤ length l → set (set l i a) (i + 1) b ≡ take i l ++ (a ∷ b ∷ drop (i + 2) l)
-  pair-stored l i a b h = rw (add-one i) (sets-eq (a ∷ b ∷ []) l i h ∙ append-assoc (take i l) (a ∷ b ∷ []) (drop (i + 2) l))
 
   module _ (ws l₀ l : List A) (i : ℕ) (d : A) (is : l ≡ take i ws ++ drop i l₀) where
     pub copied-length : i ≤ length ws → i ≤ length l₀ → length l ≡ length l₀

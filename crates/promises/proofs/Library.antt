@@ -40,7 +40,8 @@ use Rattle.sender.specs.Run as run
 use Rattle.sender.proofs.Exactly as exactly
 use Rattle.layout.specs.Layout.{senderLength, receiverLength}
 use Rattle.stored.specs.State.{senderIn, wordsOfSender, receiverIn, wordsOfReceiver}
-use Rattle.demfizagu.specs.Calls.{Call, toldOf, callOf, senderOpening, sendCall, receiverOpening, hearCall, finishCall}
+use Rattle.converted.specs.Counts.{toldOf}
+use Rattle.demfizagu.specs.Calls.{Call, callOf, senderOpening, sendCall, receiverOpening, hearCall, finishCall}
 use Rattle.demfizagu.specs.Promise as library
 use Rattle.promises.specs.Talk as ends
 use Rattle.promises.specs.Table as table

@@ -1,12 +1,12 @@
 -- What the doors owe: from what the machine does to a record, what the promises say for whatever the receiver has been told.
 --   hears      a result that is the machine's keeps the promise of `hear`
 --   finishes   and that of `finish`
---   lent-live, lent-none, hears-lent   whether lent parts are live, and the promise of `hear` from that of `hear_lent`
+--   lent-live, lent-none, lent-all, hears-lent   whether lent parts are live, and the promise of `hear` from that of `hear_lent`
 use mathlib.Core.Path.{_≡_, refl, sym, ap, ap₂, subst, _∙_}
 use mathlib.Core.Bool.{Bool, true, false, cond, _&&_}
 use mathlib.Core.List.{List, [], _++_}
 use Prim.Native.Nat.{ℕ, _+_, _<_, _≤_}
-use borrow.Author.Tests.{eq-eqb, ne-eqb, lt-ltb, le-ltb}
+use borrow.Author.Tests.{eq-eqb, ne-eqb, eqb-true, lt-ltb, le-ltb}
 use native.Mathlib.Nat.{sub-zero}
 use native.Mathlib.Omega.{arith}
 use lib.Dec.{ltb}
@@ -18,6 +18,7 @@ use Rattle.machine.specs.declared.Receiver.{Receiver}
 use Rattle.reasons.specs.declared.Why.the-variants.{Done, NoRoom, Closed, Uneven}
 use Rattle.machine.specs.Machine.{shut, lastWords, sound, wayFrom, machineOf}
 use Rattle.sums.specs.Sums.{endOf}
+use Rattle.sums.proofs.UpTo.{and-both}
 use Rattle.told.specs.Told.{Told, speakerOf, Fine, withHeard}
 use Rattle.reasons.specs.Reason.{reason, givenOf}
 use Rattle.machine.proofs.Owed.{machine-same, sound-told, last-told, rest-many}
@@ -157,6 +158,9 @@ module _ (live : Bool) (picks : List ℕ) where
     go : (b : Bool) → (b && false) ≡ false
     go true = refl
     go false = refl
+
+  pub lent-all : lentLive live picks ≡ true → length picks ≡ 72
+  lent-all e = eqb-true (length picks) 72 (and-both live _ e .1)
 
 -- a receiver that lends its own picks
 pub hears-lent : (rx : Receiver) (p : Piece) (out : List ℕ) (h : Heard) (sums planes picks o : List ℕ) → length (rx .picks) ≡ 72

@@ -11,12 +11,13 @@ use nearest::Chart;
 use nearest::Received;
 use reasons::Why;
 ghost use mathlib.Core.Path.{_≡_};
-ghost use mathlib.Core.Bool.{true};
+ghost use mathlib.Core.Bool.{true, _&&_};
 ghost use mathlib.Core.List.{[]};
 ghost use Prim.Native.Nat.{_%_};
 ghost use lib.ListN.{length};
 ghost use Rattle.nearest.specs.Found.{chartOf, heardAs};
-ghost use Rattle.machine.specs.Machine.{core, sound};
+ghost use Rattle.machine.specs.Machine.{core, topSum, soundCore, sound};
+ghost use Rattle.sums.specs.Sums.{allUpTo};
 ghost use Rattle.machine.specs.Taken.{whole, TookIs};
 ghost use Rattle.told.specs.Told.{faultOf};
 ghost use Rattle.told.specs.Piece.{symbolsOf, symbolFrom, pieceOf};
@@ -157,6 +158,16 @@ fn nothing_heard(core: Core, why: Why) -> Heard
     }
 }
 
+// Whether parts that are lent are those of an open receiver in range.
+fn lent_fit(live: bool, core: Core, sums: &[u64; 16], picks: &[u64]) -> bool
+    ensures { λ r. ⌜ r ≡ (lentLive live (now (picks .entry)) && (soundCore core && allUpTo (topSum (core .taken)) (now (sums .entry)))) ⌝ }
+{
+    if picks.len() != 72 {
+        return false;
+    }
+    openings::parts_fit(live, core, sums)
+}
+
 // A piece to a receiver in its parts, whose lists are lent, for a caller that keeps them elsewhere: nothing is copied. The picks may be
 // a part of the caller's own words; where these are not 72, they are no receiver's, and the answer is that of a closed one.
 pub fn hear_lent(
@@ -170,10 +181,7 @@ pub fn hear_lent(
 ) -> Heard
     ensures { λ r. ⌜ Is (hearing (partsOf (lentLive live (now (picks .entry))) core (now (sums .entry)) (now (planes .entry)) (now (picks .entry))) (pieceOf (now (samples .entry))) (length (now (out .entry)))) (now (out .entry)) (answerOf (lentLive live (now (picks .entry))) r (now (sums .exit)) (now (planes .exit)) (now (picks .exit))) (now (out .exit)) ⌝ }
 {
-    if picks.len() != 72 {
-        return nothing_heard(core, Why::Closed);
-    }
-    if !openings::parts_fit(live, core, sums) {
+    if !lent_fit(live, core, sums, picks) {
         return nothing_heard(core, Why::Closed);
     }
     if samples.len() % 4 != 0 {

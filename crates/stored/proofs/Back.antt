@@ -17,7 +17,8 @@ use Rattle.machine.specs.declared.Receiver.{Receiver}
 use Rattle.machine.specs.Machine as machine
 use Rattle.layout.specs.Layout.{receiverTag, senderLength, receiverLength, picksAt}
 use Rattle.layout.specs.Tagged.{holds}
-use Rattle.stored.specs.State.{senderIn, wordsOfSender, coreIn, receiverIn, wordsOfCore, wordsOfReceiver, readSender, readReceiver, SenderStored, FrontStored, ReceiverStored}
+use Rattle.stored.specs.State.{senderIn, wordsOfSender, receiverIn, wordsOfReceiver, readSender, readReceiver, SenderStored, ReceiverStored}
+use Rattle.front.specs.Words.{coreIn, wordsOfCore, FrontStored}
 
 -- ---- a sender
 

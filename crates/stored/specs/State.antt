@@ -4,22 +4,19 @@
 --   wordsOfSender, wordsOfReceiver    the words that hold a sender, a receiver
 --   readSender, readReceiver          what the words of a record read as
 --   SenderStored, ReceiverStored      a record was put into words, and they read as it
---   frontIn, FrontStored              a receiver without its picks
---   CoreStored                        the seven words of its numbers
-use Prim.Native.Nat.{ℕ, _^_, _<_}
+use Prim.Native.Nat.{ℕ}
 use mathlib.Core.Path.{_≡_}
-use mathlib.Core.Bool.{Bool, true, cond}
+use mathlib.Core.Bool.{true, cond}
 use mathlib.Core.List.{List, [], _∷_, _++_}
-use lib.ListN.{getD, length, take, drop}
+use lib.ListN.{getD, take, drop}
 use Rattle.points.specs.Agreed.{ofWidth}
-use Rattle.machine.specs.declared.Core.{Core}
 use Rattle.machine.specs.declared.Receiver.{Receiver}
 use Rattle.machine.specs.Machine as machine
 use Rattle.sender.specs.declared.Sender.{Sender}
 use Rattle.sender.specs.Send as sending
 use Rattle.layout.specs.Layout.{senderTag, receiverTag, senderLength, receiverLength, sumsAt, planesAt, picksAt}
 use Rattle.layout.specs.Tagged.{tagOf, holds}
-use Rattle.stored.specs.declared.Front.{Front}
+use Rattle.front.specs.Words.{coreIn, wordsOfCore}
 
 -- ---- a sender: the tag, the width, the turn, the state
 
@@ -32,13 +29,6 @@ wordsOfSender s = tagOf (s .live) senderTag ∷ s .accord .u ∷ s .turn ∷ s .
 
 -- ---- a receiver: the tag, six numbers, sixteen sums, 48 registers and 72 words of picks
 
-abbrev pub coreIn : List ℕ → Core
-coreIn ws =
-    record { accord = ofWidth (getD ws 1 0); taken = getD ws 2 0; turn = getD ws 3 0; window = getD ws 4 0; slot = getD ws 5 0; pending = getD ws 6 0 }
-
-abbrev pub frontIn : List ℕ → Front
-frontIn ws = record { core = coreIn ws; sums = take 16 (drop sumsAt ws); planes = take 48 (drop planesAt ws) }
-
 unfoldable pub receiverIn : List ℕ → Receiver
 receiverIn ws =
     cond (holds receiverLength receiverTag ws)
@@ -50,9 +40,6 @@ receiverIn ws =
       picks = take 72 (drop picksAt ws);
     })
     machine.shut
-
-abbrev pub wordsOfCore : Bool → Core → List ℕ
-wordsOfCore live c = tagOf live receiverTag ∷ c .accord .u ∷ c .taken ∷ c .turn ∷ c .window ∷ c .slot ∷ c .pending ∷ []
 
 unfoldable pub wordsOfReceiver : Receiver → List ℕ
 wordsOfReceiver rx = wordsOfCore (rx .live) (rx .core) ++ (rx .sums ++ (rx .planes ++ rx .picks))
@@ -74,19 +61,3 @@ pub record SenderStored (s : Sender) (l o : List ℕ) : Type 0 where
 pub record ReceiverStored (rx : Receiver) (l o : List ℕ) : Type 0 where
   pub words : o ≡ wordsOfReceiver rx ++ drop receiverLength l
   pub reads : receiverIn o ≡ readReceiver rx
-
--- the words l with all of a receiver but its picks in front; the numbers fit their fields, and the lists their places
-pub record FrontStored (live : Bool) (c : Core) (sums planes l o : List ℕ) : Type 0 where
-  pub words : o ≡ (wordsOfCore live c ++ (sums ++ planes)) ++ drop picksAt l
-  pub u-fits : c .accord .u < 2 ^ 32
-  pub taken-fits : c .taken < 2 ^ 32
-  pub turn-fits : c .turn < 2 ^ 32
-  pub sums-fit : length sums ≡ 16
-  pub planes-fit : length planes ≡ 48
-
--- inside: the first seven words
-pub record CoreStored (live : Bool) (c : Core) (l o : List ℕ) : Type 0 where
-  pub words : o ≡ wordsOfCore live c ++ drop 7 l
-  pub u-fits : c .accord .u < 2 ^ 32
-  pub taken-fits : c .taken < 2 ^ 32
-  pub turn-fits : c .turn < 2 ^ 32

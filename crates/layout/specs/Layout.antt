@@ -9,7 +9,7 @@ abbrev pub senderTag : ℕ
 senderTag = 0x64656d6674780001
 
 abbrev pub receiverTag : ℕ
-receiverTag = 0x64656d6672780002
+receiverTag = 0x64656d6672780003
 
 abbrev pub closedTag : ℕ
 closedTag = 0

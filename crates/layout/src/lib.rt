@@ -9,7 +9,7 @@ ghost use Rattle.layout.specs.Tagged.{tagOf, isHalf, holds};
 // Word 0 says what the state is: the letters "demf", "tx" or "rx", and the number of the layout. A closed end has 0 there.
 pub const SENDER: u64 = 0x6465_6d66_7478_0001;
 
-pub const RECEIVER: u64 = 0x6465_6d66_7278_0002;
+pub const RECEIVER: u64 = 0x6465_6d66_7278_0003;
 
 // Both ends: the tag, then the width.
 pub const TAG: usize = 0;

@@ -2,12 +2,13 @@
  * A line from words to points to noise to words. Each word is printed with the symbol at which it became final; the finish
  * then gives the rest.
  *
- *     line [WIDTH [NOISE [SEED [WORDS]]]]
+ *     line [WIDTH [NOISE [SEED [WORDS [WINDOW]]]]]
  *     line help
  *
  * WIDTH is 0 to 8 (2 if not said). NOISE is the deviation of the noise in hundredths of the unit of the points, which
  * stand 2 apart in each coordinate (25). SEED starts the generator of words and noise (1). WORDS is how many are sent (20).
- * The same four numbers print the same lines everywhere. What is no such number is refused, with exit status 2.
+ * WINDOW is how many symbols may wait undecided, 1 to 64 (64: this program reads a whole line, as the records clerk does).
+ * The same five numbers print the same lines everywhere. What is no such number is refused, with exit status 2.
  */
 #include <errno.h>
 #include <inttypes.h>
@@ -41,7 +42,7 @@ static float noise(uint64_t *seed)
 struct line {
     uint64_t *sender, *receiver;
     size_t sender_words, receiver_words;
-    uint32_t u;
+    uint32_t u, window;
     uint32_t *sent;       /* the words sent */
     size_t said, wrong;   /* how many words were said, and how many of them were not the word sent */
 };
@@ -102,7 +103,7 @@ static void hear(struct line *l, const int32_t heard[4], size_t symbols)
         printf("symbol %zu: the window is full; finish and open again (the next word's bits 1 and 2 may be wrong)\n",
                symbols);
         finish(l, symbols - 1);
-        number = demfizagu_receiver_open_plain(l->receiver, l->receiver_words, l->u);
+        number = demfizagu_receiver_open(l->receiver, l->receiver_words, l->u, l->window, DEMFIZAGU_FREE);
         if (number == DEMFIZAGU_DONE)
             number = demfizagu_hear(l->receiver, l->receiver_words, heard, 4, words, ROOM, told, TOLD);
     }
@@ -111,7 +112,9 @@ static void hear(struct line *l, const int32_t heard[4], size_t symbols)
     print_words(l, "symbol", symbols, words, told[1]);
 }
 
-#define USAGE "usage: line [WIDTH [NOISE [SEED [WORDS]]]]    WIDTH 0 to 8, NOISE in hundredths of the points' unit\n"
+#define USAGE \
+    "usage: line [WIDTH [NOISE [SEED [WORDS [WINDOW]]]]]\n" \
+    "WIDTH 0 to 8 (2), NOISE in hundredths of the points' unit (25), WINDOW 1 to 64 (64)\n"
 
 /* The n-th argument, a decimal number of at most `most`; `otherwise` where there is none. */
 static uint64_t argument(int argc, char **argv, int n, const char *name, uint64_t otherwise, uint64_t most)
@@ -134,8 +137,8 @@ int main(int argc, char **argv)
         fputs(USAGE, stdout);
         return 0;
     }
-    if (argc > 5) {
-        fprintf(stderr, "line: one word too many: %s\n" USAGE, argv[5]);
+    if (argc > 6) {
+        fprintf(stderr, "line: one word too many: %s\n" USAGE, argv[6]);
         return 2;
     }
     struct line l = {0};
@@ -143,6 +146,7 @@ int main(int argc, char **argv)
     float deviation = (float)argument(argc, argv, 2, "NOISE", 25, 100000) / 100.0f;
     uint64_t seed = argument(argc, argv, 3, "SEED", 1, UINT64_MAX);
     size_t count = (size_t)argument(argc, argv, 4, "WORDS", 20, 100000000);
+    l.window = (uint32_t)argument(argc, argv, 5, "WINDOW", 64, 64);
 
     if (demfizagu_version() != DEMFIZAGU_VERSION)
         stop("the library is of another version", demfizagu_version());
@@ -157,7 +161,7 @@ int main(int argc, char **argv)
     uint32_t number = demfizagu_sender_open(l.sender, l.sender_words, l.u);
     if (number != DEMFIZAGU_DONE)
         stop("opening the sender", number);
-    number = demfizagu_receiver_open_plain(l.receiver, l.receiver_words, l.u);
+    number = demfizagu_receiver_open(l.receiver, l.receiver_words, l.u, l.window, DEMFIZAGU_FREE);
     if (number != DEMFIZAGU_DONE)
         stop("opening the receiver", number);
 

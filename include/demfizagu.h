@@ -41,8 +41,8 @@
  *   - the words of a state are used by one thread at a time. Different states are independent: the library has no other
  *     memory;
  *   - the program is for the kind of machine that the archive was made for: it holds no other code;
- *   - the stack has room: a call of demfizagu_hear takes less than 3 kilobytes, every other call less than 2, and the first
- *     call of a program some 3 more where the loader resolves memcpy at its first use;
+ *   - the stack has room: a call takes less than 2.5 kilobytes, and the first call of a program some 3 more where the loader
+ *     resolves memcpy at its first use;
  *   - for demfizagu_sample and demfizagu_samples, the thread's floating-point environment is the default one. They are exact
  *     only there: under another rounding mode they give other numbers, and where exceptions trap a call may raise the
  *     signal. Denormals that are flushed to zero make no difference.
@@ -144,7 +144,10 @@ uint32_t demfizagu_send(uint64_t *state, size_t state_len, uint32_t word, int32_
  */
 uint32_t demfizagu_receiver_open(uint64_t *state, size_t state_len, uint32_t u, uint32_t window, uint32_t start);
 
-/* The same with window 64 and a free start. */
+/*
+ * The same with window 32 and a free start. Who reads a whole transmission and must not hear a 6 among its first 64 symbols
+ * names a window of 64: with a window of w none of the first w good symbols is answered with a 6.
+ */
 uint32_t demfizagu_receiver_open_plain(uint64_t *state, size_t state_len, uint32_t u);
 
 /*

@@ -249,7 +249,7 @@ pub unsafe extern "C" fn demfizagu_receiver_open(
 
 #[no_mangle]
 pub unsafe extern "C" fn demfizagu_receiver_open_plain(state: *mut u64, state_len: usize, u: u32) -> u32 {
-    demfizagu_receiver_open(state, state_len, u, 64, 16)
+    demfizagu_receiver_open(state, state_len, u, 32, 16)
 }
 
 #[no_mangle]

@@ -280,7 +280,7 @@ impl Receiver {
     }
 
     pub fn open_plain(u: u32) -> (u32, Receiver) {
-        Receiver::open(u, 64, FREE)
+        Receiver::open(u, 32, FREE)
     }
 
     pub fn is_open(&self) -> bool {

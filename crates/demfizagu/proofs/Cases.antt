@@ -8,7 +8,8 @@ use native.Mathlib.Omega.{arith}
 use borrow.Author.Tests.{lt-ltb, le-ltb, eq-eqb, ne-eqb}
 use lib.Dec.{eqb, ltb}
 use lib.IntN.{ℤ}
-use lib.ListN.{length, drop}
+use lib.ListN.{length, take, drop, length-drop, length-append, take-append-drop}
+use lib.Seq.{length-take-le}
 use Rattle.points.specs.declared.Accord.{Accord}
 use Rattle.machine.proofs.Sound.{sound-core}
 use Rattle.sender.specs.declared.Sender.{Sender}
@@ -17,20 +18,28 @@ use Rattle.sender.specs.Send as sender
 use Rattle.sender.specs.Promise as sends
 use Rattle.machine.specs.declared.Receiver.{Receiver}
 use Rattle.machine.specs.Machine.{shut, sound}
+use Rattle.reasons.specs.declared.Why.the-variants.{Closed}
 use Rattle.reasons.specs.Reason.{Reason, givenOf}
 use Rattle.openings.specs.declared.Start.{Start}
 use Rattle.openings.specs.declared.Opened.{Opened}
 use Rattle.openings.specs.Opening as openings
-use Rattle.told.specs.Piece.{Piece, pieceOf}
+use Rattle.told.specs.Piece.{pieceOf}
 use Rattle.receiver.specs.declared.Answer.{Answer}
+use Rattle.receiver.specs.declared.Heard.{Heard}
 use Rattle.receiver.specs.Doors.{Ran, hearing, finishing}
 use Rattle.receiver.specs.Promise as receives
-use Rattle.stored.specs.Layout.{senderLength, senderTag, receiverLength, receiverTag}
-use Rattle.stored.specs.State.{holds, senderIn, wordsOfSender, receiverIn, wordsOfReceiver, readSender, readReceiver, SenderStored, ReceiverStored}
+use Rattle.receiver.proofs.Doors.{hear-closed, lent-live}
+use Rattle.layout.specs.Layout.{senderLength, senderTag, receiverLength, receiverTag, picksAt}
+use Rattle.layout.specs.Tagged.{holds}
+use Rattle.stored.specs.State.{senderIn, wordsOfSender, receiverIn, wordsOfReceiver, readSender, readReceiver, SenderStored, ReceiverStored}
 use Rattle.converted.specs.Counts.{toldOf}
 use Rattle.demfizagu.specs.Calls.{pendingIn, senderOpening, receiverOpening, sendCall, callOf, hearCall, finishCall}
 use Rattle.demfizagu.specs.Promise.{Opens, Sends, Answers}
-use Rattle.stored.proofs.Held.{held}
+use Rattle.layout.proofs.Held.{held}
+use Rattle.layout.proofs.Lent.{part-back}
+use Rattle.front.specs.declared.Copied.{Copied}
+use Rattle.front.specs.Words.{copiedIn, FrontStored}
+use Rattle.stored.proofs.Back.{front-stored}
 use Rattle.demfizagu.proofs.Ends.{sender-opening-reads, sending-keeps, sending-reads, receiver-opening-reads, hearing-keeps, hearing-reads, finishing-keeps, finishing-reads}
 
 differ : false ≡ true → ⊥
@@ -58,13 +67,6 @@ sent-open s n out e = go (sender.sound s) refl where
   go : (b : Bool) → sender.sound s ≡ b → sender.sound s ≡ true
   go true h = h
   go false h = absurd (let z : _≡_ {A = ℕ} 9 0 = rw h at e in omega arith)
-
-pub heard-open : (rx : Receiver) (p : Piece) (room : ℕ) → (hearing rx p room .taken ≡ 0 → ⊥) → sound rx ≡ true
-unfolding hearing
-heard-open rx p room e = go (sound rx) refl where
-  go : (b : Bool) → sound rx ≡ b → sound rx ≡ true
-  go true h = h
-  go false h = absurd (e (rw h))
 
 pub finished-open : (rx : Receiver) (room : ℕ) → givenOf (finishing rx room .why) .number ≡ 0 → sound rx ≡ true
 unfolding finishing
@@ -160,31 +162,81 @@ module _ (state : List ℕ) (piece : List ℤ) (out told : List ℕ) where
   unfolding hearCall
   hear-short h = rw (lt-ltb (length told) 3 h) (record { number = refl; state-is = refl; reads = refl; out-is = refl; told-is = refl })
 
-  module _ (enough : 3 ≤ length told) (rx : Receiver) (loaded : rx ≡ receiverIn state) (a : Answer) (o t : List ℕ) (n : ℕ) (was : receives.Is (hearing rx (pieceOf piece) (length out)) out a o) (number : n ≡ givenOf (a .why) .number)
+  module _ (enough : 3 ≤ length told) (a : Answer) (o t : List ℕ) (n : ℕ) (is : receives.Is (hearing (receiverIn state) (pieceOf piece) (length out)) out a o) (number : n ≡ givenOf (a .why) .number)
       (tells : t ≡ toldOf (a .taken) (a .written) (givenOf (a .why) .place) told) where
     ran : Ran
     ran = hearing (receiverIn state) (pieceOf piece) (length out)
 
-    is : receives.Is ran out a o
-    unfolding ran
-    is = subst (λ (q : Receiver). receives.Is (hearing q (pieceOf piece) (length out)) out a o) loaded was
-
     pub hear-kept : a .taken ≡ 0 → Answers (hearCall state piece out told) n state o t
-    unfolding hearCall ran is
+    unfolding hearCall ran
     hear-kept h =
         rw (le-ltb (length told) 3 enough)
         (answered-kept ran state out told a o t n is number tells (ltb 0 (ran .taken)) (rw (sym (is .taken) ∙ h)) (hearing-keeps (receiverIn state) (pieceOf piece) (length out) (sym (is .taken) ∙ h)))
 
     pub hear-written : (l : List ℕ) → (a .taken ≡ 0 → ⊥) → ReceiverStored (a .receiver) state l → Answers (hearCall state piece out told) n l o t
-    unfolding hearCall ran is
+    unfolding hearCall ran
     hear-written l h f =
         let e = is .taken in
         rw (le-ltb (length told) 3 enough)
         (answered-written ran state out told a o t n is number tells (ltb 0 (ran .taken)) l (lt-ltb 0 (ran .taken) (omega arith)) f (hearing-reads (receiverIn state) (pieceOf piece) (length out) (λ z. h (e ∙ z))))
 
-    pub hear-long : (a .taken ≡ 0 → ⊥) → receiverLength ≤ length state
-    unfolding ran is
-    hear-long h = receiver-long state (heard-open (receiverIn state) (pieceOf piece) (length out) (λ z. h (is .taken ∙ z)))
+  -- a state that holds no receiver
+  pub hear-none : holds receiverLength receiverTag state ≡ false → 3 ≤ length told → (t : List ℕ) (n : ℕ) → n ≡ 9 → t ≡ toldOf 0 0 0 told → Answers (hearCall state piece out told) n state out t
+  unfolding receiverIn sound shut
+  hear-none none enough t n number tells =
+      hear-kept enough (record { receiver = receiverIn state; taken = 0; written = 0; why = Closed }) out t n (hear-closed (receiverIn state) out (pieceOf piece) (rw none)) number tells refl
+
+-- a piece to a receiver whose picks were lent in their place in the state
+module _ (state : List ℕ) (piece : List ℤ) (out told : List ℕ) (yes : holds receiverLength receiverTag state ≡ true) where
+  abbrev picks₀ : List ℕ
+  picks₀ = take 72 (drop picksAt state)
+
+  -- the state once they have come back
+  abbrev around : List ℕ → List ℕ
+  around picks = take picksAt state ++ (picks ++ drop 72 (drop picksAt state))
+
+  long : picksAt ≤ length state
+  long = omega (arith, held receiverLength receiverTag state yes .long)
+
+  pub around-long : (picks : List ℕ) → picksAt ≤ length (around picks)
+  around-long picks = rw (length-append (take picksAt state), length-take-le picksAt state long) (omega arith)
+
+  picks-at : receiverIn state .picks ≡ picks₀
+  unfolding receiverIn
+  picks-at = rw yes
+
+  front-is : (f : Copied) → f ≡ copiedIn state → receives.partsOf true (f .core) (f .sums) (f .planes) picks₀ ≡ receiverIn state
+  unfolding receiverIn
+  front-is f e = rw yes (ap (λ (x : Copied). receives.partsOf true (x .core) (x .sums) (x .planes) picks₀) e)
+
+  all-there : length picks₀ ≡ 72
+  all-there = length-take-le 72 (drop picksAt state) (rw length-drop (omega (arith, held receiverLength receiverTag state yes .long)))
+
+  module _ (f : Copied) (loaded : f ≡ copiedIn state) (h : Heard) (sums planes picks o : List ℕ)
+      (was : receives.Is (hearing (receives.partsOf (receives.lentLive true picks₀) (f .core) (f .sums) (f .planes) picks₀) (pieceOf piece) (length out)) out (receives.answerOf (receives.lentLive true picks₀) h sums planes picks) o)
+      (enough : 3 ≤ length told) (t : List ℕ) (n : ℕ) (number : n ≡ givenOf (h .why) .number) (tells : t ≡ toldOf (h .taken) (h .written) (givenOf (h .why) .place) told) where
+    abbrev a : Answer
+    a = receives.answerOf true h sums planes picks
+
+    is : receives.Is (hearing (receiverIn state) (pieceOf piece) (length out)) out a o
+    is =
+        subst (λ (rx : Receiver). receives.Is (hearing rx (pieceOf piece) (length out)) out a o) (front-is f loaded)
+        (subst (λ (b : Bool). receives.Is (hearing (receives.partsOf b (f .core) (f .sums) (f .planes) picks₀) (pieceOf piece) (length out)) out (receives.answerOf b h sums planes picks) o) (lent-live true picks₀ all-there) was)
+
+    -- where nothing was taken they come back as they were
+    unchanged : h .taken ≡ 0 → around picks ≡ state
+    unchanged none =
+        let kept : picks ≡ picks₀ = ap (λ (rx : Receiver). rx .picks) (is .receiver ∙ hearing-keeps (receiverIn state) (pieceOf piece) (length out) (sym (is .taken) ∙ none)) ∙ picks-at in
+        rw (kept, take-append-drop 72 (drop picksAt state)) (take-append-drop picksAt state)
+
+    pub lent-kept : h .taken ≡ 0 → Answers (hearCall state piece out told) n (around picks) o t
+    lent-kept none = rw (unchanged none) (hear-kept state piece out told enough a o t n is number tells none)
+
+    -- where a symbol was taken they stand behind what is written back
+    pub lent-written : (l : List ℕ) → length picks ≡ 72 → (h .taken ≡ 0 → ⊥) → FrontStored true (h .core) sums planes (around picks) l →
+        Answers (hearCall state piece out told) n l o t
+    lent-written l sized some s =
+        hear-written state piece out told enough a o t n is number tells l some (front-stored (a .receiver) state (around picks) s sized (part-back state picks picksAt 72 long))
 
 module _ (state out told : List ℕ) where
   pub finish-short : length told < 3 → Answers (finishCall state out told) 8 state out told

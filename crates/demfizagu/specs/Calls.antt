@@ -24,7 +24,7 @@ use Rattle.openings.specs.declared.Start.the-variants.{Free, At}
 use Rattle.openings.specs.Opening.{opening}
 use Rattle.told.specs.Piece.{pieceOf}
 use Rattle.receiver.specs.Doors as doors
-use Rattle.stored.specs.Layout.{senderLength, receiverLength}
+use Rattle.layout.specs.Layout.{senderLength, receiverLength}
 use Rattle.stored.specs.State.{senderIn, wordsOfSender, receiverIn, wordsOfReceiver}
 
 -- ---- openings

@@ -3,23 +3,29 @@
 // Each function reads the state, calls the door that it wraps, and writes the state back where it changed. A state is read as closed
 // where it is too short, its tag is another, or the record in it is not sound (crate stored).
 use converted::tell;
+use front::holds_receiver;
+use front::load_front;
+use front::store_front;
 use openings::Opened;
 use openings::Start;
 use points::Accord;
-use stored::layout;
+use reasons::Why;
 use stored::load_receiver;
 use stored::load_sender;
-use stored::store_parts;
 use stored::store_receiver;
 use stored::store_sender;
 ghost use mathlib.Core.Path.{_≡_};
+ghost use Prim.Native.Nat.{_≤_};
+ghost use lib.ListN.{length};
 ghost use Rattle.points.specs.Agreed.{ofWidth};
+ghost use Rattle.reasons.specs.Reason.{givenOf};
 ghost use Rattle.openings.specs.Given.{plainWindow};
+ghost use Rattle.converted.specs.Counts.{toldOf};
 ghost use Rattle.converted.specs.Calls.{sampleCall, samplesCall};
 ghost use Rattle.converted.specs.Promise.{Samples, Converts};
 ghost use Rattle.demfizagu.specs.Calls.{senderOpening, startAt, receiverOpening, sendCall, hearCall, finishCall, pendingIn, openIn};
 ghost use Rattle.demfizagu.specs.Promise.{Opens, OpensAs, Sends, Answers};
-ghost use Rattle.stored.specs.Layout.{senderLength, receiverLength};
+ghost use Rattle.layout.specs.Layout.{senderLength, receiverLength};
 ghost use Rattle.stored.specs.State.{senderIn, receiverIn};
 
 #[no_mangle]
@@ -110,7 +116,18 @@ pub extern "C" fn demfizagu_receiver_open_plain(state: &mut [u64], u: u32) -> u3
     opened(state, openings::open_plain(Accord { u: u }))
 }
 
-// The receiver is heard in its parts, so that a call copies it once. The state is written back where a symbol was taken.
+// What a call came to, in the first three places of `told`. Gives its number.
+fn answer(told: &mut [u64], taken: usize, written: usize, why: Why) -> u32
+    requires { ⌜ 3 ≤ length (now told) ⌝ }
+    ensures { λ r. ⌜ (r ≡ givenOf why .number) × (now (told .exit) ≡ toldOf taken written (givenOf why .place) (now (told .entry))) ⌝ }
+{
+    let place = reasons::place(why);
+    tell(told, taken, written, place as usize);
+    reasons::number(why)
+}
+
+// The receiver is heard in its parts: its picks, half of it, stay in the state, and the rest is copied out of it, and back where a
+// symbol was taken.
 #[no_mangle]
 pub extern "C" fn demfizagu_hear(
     state: &mut [u64],
@@ -123,22 +140,29 @@ pub extern "C" fn demfizagu_hear(
     if told.len() < 3 {
         return 8;
     }
-    let rx = load_receiver(state);
-    let live = rx.live;
-    let core = rx.core;
-    let mut sums = rx.sums;
-    let mut planes = rx.planes;
-    let mut picks = rx.picks;
-    let a = receiver::hear_lent(live, core, piece, &mut sums, &mut planes, &mut picks, out);
+    if !holds_receiver(state) {
+        return answer(told, 0, 0, Why::Closed);
+    }
+    let copied = load_front(state);
+    let core = copied.core;
+    let mut sums = copied.sums;
+    let mut planes = copied.planes;
+    let a = receiver::hear_lent(
+        true,
+        core,
+        piece,
+        &mut sums,
+        &mut planes,
+        &mut state[layout::PICKS..layout::RECEIVER_WORDS],
+        out,
+    );
     let why = a.why;
-    let n = reasons::number(why);
-    let place = reasons::place(why);
-    tell(told, a.taken, a.written, place as usize);
+    let n = answer(told, a.taken, a.written, why);
     if a.taken == 0 {
         return n;
     }
     let after = a.core;
-    store_parts(live, after, sums, planes, picks, state);
+    store_front(true, after, sums, planes, state);
     n
 }
 
@@ -152,9 +176,7 @@ pub extern "C" fn demfizagu_finish(state: &mut [u64], out: &mut [u32], told: &mu
     }
     let a = receiver::finish(load_receiver(state), out);
     let why = a.why;
-    let n = reasons::number(why);
-    let place = reasons::place(why);
-    tell(told, a.taken, a.written, place as usize);
+    let n = answer(told, a.taken, a.written, why);
     if n != 0 {
         return n;
     }

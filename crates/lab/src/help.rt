@@ -26,7 +26,7 @@ fn verbs(to: i32) -> bool {
 
   sender U                  opens a sender of width U, 0 to 8. Answer: N
   send W CAP                sends word W, below 2^(3+2U), into an output of CAP places. Answer: N, if 0 then x y x y
-  receiver U                opens a receiver with window 64 and a free start. Answer: N
+  receiver U                opens a receiver with window 32 and a free start. Answer: N
   receiver U WINDOW free    the same with a window of 1 to 64 symbols that may wait undecided
   receiver U WINDOW at S    the same from the state S, 0 to 15; a sender starts at 0
   piece CAP C C C C ..      hears coordinates, four to a symbol, -8192 to 8192, into an output of CAP words

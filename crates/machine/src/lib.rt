@@ -63,12 +63,12 @@ pub struct Outlook {
 pub fn write_words(
     core: Core,
     planes: &[u64; 48],
-    picks: &[u64; 72],
+    picks: &[u64],
     s: usize,
     n: usize,
     out: &mut [u32],
 ) -> u32
-    requires { ⌜ CoreFits core × (s < 16) × (n ≤ core .pending) × (n ≤ length (now out)) ⌝ }
+    requires { ⌜ CoreFits core × (s < 16) × (n ≤ core .pending) × (n ≤ length (now out)) × (length (now picks) ≡ 72) ⌝ }
     ensures { λ r. ⌜ r ≡ after turnAfter (core .turn) (take n (wayFrom core (now (planes .entry)) (now (picks .entry)) s)) ⌝ }
     ensures { λ _. ⌜ now (out .exit) ≡ wordsFrom (core .accord .u) (core .turn) (take n (wayFrom core (now (planes .entry)) (now (picks .entry)) s)) ++ drop n (now (out .entry)) ⌝ }
 {
@@ -154,13 +154,13 @@ pub fn take_symbol(
     core: Core,
     sums: &mut [u64; 16],
     planes: &mut [u64; 48],
-    picks: &mut [u64; 72],
+    picks: &mut [u64],
     first: Received,
     second: Received,
     out: &mut [u32],
 ) -> Took
     requires { ⌜ (now t ≡ chartOf (core .accord)) × InRange first × InRange second ⌝ }
-    requires { ⌜ Ready core (now sums) ⌝ }
+    requires { ⌜ Ready core (now sums) × (length (now picks) ≡ 72) ⌝ }
     ensures { λ r. ⌜ TookIs (taking (whole core (now (sums .entry)) (now (planes .entry)) (now (picks .entry))) (heardAs first second) (length (now (out .entry)))) r (now (sums .exit)) (now (planes .exit)) (now (picks .exit)) (now (out .entry)) (now (out .exit)) ⌝ }
 {
     if core.taken == 4294967295 {

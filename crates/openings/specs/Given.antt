@@ -1,5 +1,5 @@
 -- What an opening names: the start as the theory has it, and the window of the plain opening.
---   plainWindow    "The plain opening names only u; it has window 64 and a free start"
+--   plainWindow    02, Wish 9: "The plain opening now has window 32"
 --   startOf b      the start that an opening names
 --   startFits b    it is free, or names one of the sixteen states
 use Prim.Native.Nat.{ℕ}
@@ -10,7 +10,7 @@ use Rattle.openings.specs.declared.Start.{Start}
 use Rattle.openings.specs.declared.Start.the-variants.{Free, At}
 
 abbrev pub plainWindow : ℕ
-plainWindow = 64
+plainWindow = 32
 
 abbrev pub startOf : Start → measure.Start
 startOf Free = measure.free

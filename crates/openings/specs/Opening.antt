@@ -38,7 +38,7 @@ opening k w b =
     (cond (leb 1 w && leb w 64) (cond (startFits b) (record { receiver = opened k w (startOf b); why = Done }) (notOpened BadStart)) (notOpened BadWindow))
     (notOpened BadWidth)
 
--- "The plain opening names only u; it has window 64 and a free start"
+-- "The plain opening names only u; it has window 32 and a free start" (02, Wish 9)
 abbrev pub plainOpening : Accord → Opening
 plainOpening k = opening k plainWindow Free
 

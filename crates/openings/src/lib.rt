@@ -123,8 +123,8 @@ pub fn open_receiver(accord: Accord, window: u32, start: Start) -> Opened
     }
 }
 
-// The window of the plain opening.
-pub const PLAIN_WINDOW: u32 = 64;
+// The window of the plain opening: a named one may have up to 64.
+pub const PLAIN_WINDOW: u32 = 32;
 
 // The plain opening names only what both ends agree on: its start is free.
 pub fn open_plain(accord: Accord) -> Opened

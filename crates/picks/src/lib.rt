@@ -6,6 +6,7 @@
 use wei::word::Parts;
 ghost use mathlib.Core.Path.{_≡_};
 ghost use Prim.Native.Nat.{_+_, _*_, _^_, _≤_, _<_};
+ghost use lib.ListN.{length};
 ghost use Rattle.picks.specs.Picks.{byteAt, numbersOf, typeAt, symbolBy, symbolIn, longer, keptIn, saidOf};
 
 // A word, and the turn after it.
@@ -44,12 +45,10 @@ fn longer_by(register: u64, bit: u8) -> u64
 }
 
 // Keeps a symbol: I3' of each subset as the newest bit of its register, and the numbers in their slot.
-pub fn keep(picks: &mut [u64; 72], slot: usize, i3: [u8; 8], numbers: u64)
-    requires { ⌜ slot < 64 ⌝ }
+pub fn keep(picks: &mut [u64], slot: usize, i3: [u8; 8], numbers: u64)
+    requires { ⌜ (slot < 64) × (length (now picks) ≡ 72) ⌝ }
     ensures { λ _. ⌜ now (picks .exit) ≡ keptIn (now (picks .entry)) slot i3 numbers ⌝ }
 {
-    // as a slice the array shows its length
-    let all: &[u64] = picks;
     let mut k: usize = 0;
     while k < 8 {
         picks[k] = longer_by(picks[k], i3[k] % 2);
@@ -67,8 +66,8 @@ fn number_at(numbers: u64, place: u32) -> u32
 }
 
 // I3' of the subset k, so many symbols before the newest.
-fn type_at(picks: &[u64; 72], k: usize, age: usize) -> u32
-    requires { ⌜ (k < 8) × (age < 64) ⌝ }
+fn type_at(picks: &[u64], k: usize, age: usize) -> u32
+    requires { ⌜ (k < 8) × (age < 64) × (length (now picks) ≡ 72) ⌝ }
     ensures { λ r. ⌜ (r ≡ typeAt (now (picks .entry)) k age) × (r < 2) ⌝ }
 {
     ((picks[k] >> age) % 2) as u32
@@ -103,8 +102,8 @@ fn word_by(u: u32, turn: u32, i3: u32, numbers: u64, k: usize) -> Said
 }
 
 // The word of the symbol of subset k in a slot, so many symbols before the newest, after the turn before.
-pub fn word_in(u: u32, turn: u32, picks: &[u64; 72], slot: usize, age: usize, k: usize) -> Said
-    requires { ⌜ (u ≤ 8) × (turn < 4) × (slot < 64) × (age < 64) × (k < 8) ⌝ }
+pub fn word_in(u: u32, turn: u32, picks: &[u64], slot: usize, age: usize, k: usize) -> Said
+    requires { ⌜ (u ≤ 8) × (turn < 4) × (slot < 64) × (age < 64) × (k < 8) × (length (now picks) ≡ 72) ⌝ }
     ensures { λ r. ⌜ r ≡ saidOf u turn (symbolIn u (now (picks .entry)) slot age k) ⌝ }
 {
     let i3 = type_at(picks, k, age);

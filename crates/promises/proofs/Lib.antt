@@ -4,6 +4,7 @@ pub mod Demand2
 pub mod Demand3
 pub mod Meant
 pub mod Left
+pub mod Windows
 pub mod Library
 -- what they lean on
 pub mod Ends

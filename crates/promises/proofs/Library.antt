@@ -37,7 +37,7 @@ use Rattle.sender.specs.Send as sender
 use Rattle.sender.specs.Promise as sends
 use Rattle.sender.specs.Run as run
 use Rattle.sender.proofs.Exactly as exactly
-use Rattle.stored.specs.Layout.{senderLength, receiverLength}
+use Rattle.layout.specs.Layout.{senderLength, receiverLength}
 use Rattle.stored.specs.State.{senderIn, wordsOfSender, receiverIn, wordsOfReceiver}
 use Rattle.converted.specs.Counts.{toldOf}
 use Rattle.demfizagu.specs.Calls.{Call, callOf, senderOpening, sendCall, receiverOpening, hearCall, finishCall}

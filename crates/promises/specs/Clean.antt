@@ -8,7 +8,7 @@
 use Prim.Native.Nat.{ℕ}
 use mathlib.Core.List.{List, [], _∷_, map}
 use lib.Dec.{T}
-use lib.IntN.{ℤ, pos, _*ℤ_}
+use lib.IntN.{ℤ}
 use lib.Ieee.{binary32, ofInt}
 use Rattle.points.specs.declared.Accord.{Accord}
 use Rattle.samples.specs.Given.{GivenSample, bothDone}

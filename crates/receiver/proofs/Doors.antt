@@ -1,11 +1,12 @@
 -- What the doors owe: from what the machine does to a record, what the promises say for whatever the receiver has been told.
 --   hears      a result that is the machine's keeps the promise of `hear`
 --   finishes   and that of `finish`
+--   lent-live, lent-none, lent-all, hears-lent   whether lent parts are live, and the promise of `hear` from that of `hear_lent`
 use mathlib.Core.Path.{_≡_, refl, sym, ap, ap₂, subst, _∙_}
-use mathlib.Core.Bool.{Bool, true, false, cond}
+use mathlib.Core.Bool.{Bool, true, false, cond, _&&_}
 use mathlib.Core.List.{List, [], _++_}
 use Prim.Native.Nat.{ℕ, _+_, _<_, _≤_}
-use borrow.Author.Tests.{lt-ltb, le-ltb}
+use borrow.Author.Tests.{eq-eqb, ne-eqb, eqb-true, lt-ltb, le-ltb}
 use native.Mathlib.Nat.{sub-zero}
 use native.Mathlib.Omega.{arith}
 use lib.Dec.{ltb}
@@ -17,6 +18,7 @@ use Rattle.machine.specs.declared.Receiver.{Receiver}
 use Rattle.reasons.specs.declared.Why.the-variants.{Done, NoRoom, Closed, Uneven}
 use Rattle.machine.specs.Machine.{shut, lastWords, sound, wayFrom, machineOf}
 use Rattle.sums.specs.Sums.{endOf}
+use Rattle.sums.proofs.UpTo.{and-both}
 use Rattle.told.specs.Told.{Told, speakerOf, Fine, withHeard}
 use Rattle.reasons.specs.Reason.{reason, givenOf}
 use Rattle.machine.proofs.Owed.{machine-same, sound-told, last-told, rest-many}
@@ -27,7 +29,7 @@ use Rattle.receiver.specs.declared.Heard.{Heard}
 use Rattle.told.specs.Piece.{Piece}
 use Rattle.receiver.specs.Doors.{Ran, stopped, running, hearing, finishing}
 use Rattle.told.specs.Owed.{Owed, endedOf, pieceOwed, FinishOwed, finishOwed}
-use Rattle.receiver.specs.Promise.{Is, partsOf, answerOf, Hears, Finishes}
+use Rattle.receiver.specs.Promise.{Is, partsOf, lentLive, answerOf, Hears, Finishes}
 use Rattle.receiver.proofs.Pieces.{walked, RunsAs, runs}
 
 -- ---- a piece
@@ -141,6 +143,32 @@ module _ (rx : Receiver) (out : List ℕ) where
   pub hear-is : (p : Piece) → sound rx ≡ true → p .fits ≡ true → (r : Answer) (o : List ℕ) → Is (running (p .symbols) rx 0 [] (length out)) out r o → Is (hearing rx p (length out)) out r o
   unfolding hearing
   hear-is p e z r o is = rw (e, z) is
+
+-- ---- parts that are lent
+
+module _ (live : Bool) (picks : List ℕ) where
+  pub lent-live : length picks ≡ 72 → lentLive live picks ≡ live
+  lent-live e = rw (eq-eqb (length picks) 72 e) (go live) where
+    go : (b : Bool) → (b && true) ≡ b
+    go true = refl
+    go false = refl
+
+  pub lent-none : (length picks ≡ 72 → ⊥) → lentLive live picks ≡ false
+  lent-none e = rw (ne-eqb (length picks) 72 e) (go live) where
+    go : (b : Bool) → (b && false) ≡ false
+    go true = refl
+    go false = refl
+
+  pub lent-all : lentLive live picks ≡ true → length picks ≡ 72
+  lent-all e = eqb-true (length picks) 72 (and-both live _ e .1)
+
+-- a receiver that lends its own picks
+pub hears-lent : (rx : Receiver) (p : Piece) (out : List ℕ) (h : Heard) (sums planes picks o : List ℕ) → length (rx .picks) ≡ 72
+    → Is (hearing (partsOf (lentLive (rx .live) (rx .picks)) (rx .core) (rx .sums) (rx .planes) (rx .picks)) p (length out)) out (answerOf (lentLive (rx .live) (rx .picks)) h sums planes picks) o
+    → Hears rx p out (answerOf (rx .live) h sums planes picks) o
+hears-lent rx p out h sums planes picks o n is =
+    hears rx p out (answerOf (rx .live) h sums planes picks) o
+    (subst (λ (b : Bool). Is (hearing (partsOf b (rx .core) (rx .sums) (rx .planes) (rx .picks)) p (length out)) out (answerOf b h sums planes picks) o) (lent-live (rx .live) (rx .picks) n) is)
 
 -- an open receiver is live
 pub hear-parts : (live : Bool) (core : Core) (sums planes picks out : List ℕ) (p : Piece) (e : sound (partsOf live core sums planes picks) ≡ true) → p .fits ≡ true → (h : Heard) (sums₁ planes₁ picks₁ o : List ℕ)

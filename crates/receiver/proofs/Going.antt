@@ -35,6 +35,7 @@ pub record Going (xs : List ℤ) (out₀ : List ℕ) (rx₀ : Receiver) (out : L
   pub room : written ≤ length out₀
   pub long : length out ≡ length out₀
   pub fit : sound rx ≡ true
+  pub picks : length (rx .picks) ≡ 72
   pub accord : rx .core .accord ≡ rx₀ .core .accord
   pub going : givenOf why ≡ reason 0
   pub rest : drop written out ≡ drop written out₀
@@ -93,8 +94,8 @@ module _ (xs : List ℤ) (out₀ : List ℕ) (rx₀ : Receiver) (out : List ℕ)
   pub more-length : length (take w out ++ (ys ++ drop (length out - w) (drop w out))) ≡ length out₀
   more-length = back-length out out₀ (o .words) ys w (g .long) (g .room) (g .rest) (is .out) kept
 
-  pub go-on : isDone (r .why) ≡ true → Going xs out₀ rx₀ (take w out ++ (ys ++ drop (length out - w) (drop w out))) (whole (r .core) sums planes picks) (taken + 1) (w + r .written) (r .why) (i + 4)
-  go-on done =
+  pub go-on : isDone (r .why) ≡ true → length picks ≡ 72 → Going xs out₀ rx₀ (take w out ++ (ys ++ drop (length out - w) (drop w out))) (whole (r .core) sums planes picks) (taken + 1) (w + r .written) (r .why) (i + 4)
+  go-on done of-72 =
       record {
         even = g .even;
         aligned = omega (arith, g .aligned);
@@ -104,6 +105,7 @@ module _ (xs : List ℤ) (out₀ : List ℕ) (rx₀ : Receiver) (out : List ℕ)
         long = more-length;
         going = done-given (r .why) done;
         fit = ap sound (is .receiver) ∙ symbol-sound rx (g .fit) y left;
+        picks = of-72;
         accord = ap (λ (x : Receiver). x .core .accord) (is .receiver) ∙ symbol-accord rx y left ∙ g .accord;
         rest = rw (is .written) (back-drop out out₀ (o .words) ys w (g .long) (g .room) (g .rest) (is .out) kept);
         same =
@@ -134,8 +136,8 @@ module _ (xs : List ℤ) (out₀ : List ℕ) (rx₀ : Receiver) (out : List ℕ)
 -- ---- before the first symbol, and after the last
 
 module _ (xs : List ℤ) (out : List ℕ) (rx : Receiver) where
-  pub start : length xs % 4 ≡ 0 → sound rx ≡ true → Going xs out rx out rx 0 0 Done 0
-  start even fit = record { even = even; aligned = refl; within = omega arith; count = omega arith; room = omega arith; long = refl; fit = fit; accord = refl; going = refl; rest = refl; same = refl }
+  pub start : length xs % 4 ≡ 0 → sound rx ≡ true → length (rx .picks) ≡ 72 → Going xs out rx out rx 0 0 Done 0
+  start even fit of-72 = record { even = even; aligned = refl; within = omega arith; count = omega arith; room = omega arith; long = refl; fit = fit; picks = of-72; accord = refl; going = refl; rest = refl; same = refl }
 
   pub end : (out′ : List ℕ) (rx′ : Receiver) (taken w : ℕ) (why : Why) (i : ℕ) → Going xs out rx out′ rx′ taken w why i → length xs ≤ i →
       Is (running (symbolsOf xs) rx 0 [] (length out)) out (record { receiver = rx′; taken = taken; written = w; why = why }) out′

@@ -2,12 +2,14 @@
 -- `owed` says, for whatever the receiver has been told, what that is in the words of 01.
 --   Written words out o      o is the output `out` with the words in its first places, and all else unchanged
 --   partsOf, answerOf        a receiver, and an answer, put together from their parts
+--   lentLive live picks      whether parts that are lent are those of a live receiver
 --   Hears rx p out r o       the promise of `hear`, where the output holds `out` before the call and `o` after it
 --   Finishes rx out r o      the promise of `finish`
 use Prim.Native.Nat.{ℕ}
 use mathlib.Core.Path.{_≡_}
-use mathlib.Core.Bool.{Bool, cond}
+use mathlib.Core.Bool.{Bool, cond, _&&_}
 use mathlib.Core.List.{List, _++_}
+use lib.Dec.{eqb}
 use lib.ListN.{length, drop}
 use Rattle.machine.specs.declared.Core.{Core}
 use Rattle.machine.specs.declared.Receiver.{Receiver}
@@ -34,9 +36,13 @@ pub record Is (ran : Ran) (out : List ℕ) (r : Answer) (o : List ℕ) : Type 0 
   pub given : givenOf (r .why) ≡ givenOf (ran .why)
   pub output : Written (ran .words) out o
 
--- a receiver from its parts, and the answer of a call to which they were lent
+-- a receiver from its parts; whether it is live where its picks are lent: there have to be 72 of them; and the answer of a call to which
+-- the parts were lent
 abbrev pub partsOf : Bool → Core → List ℕ → List ℕ → List ℕ → Receiver
 partsOf live core sums planes picks = record { live = live; core = core; sums = sums; planes = planes; picks = picks }
+
+abbrev pub lentLive : Bool → List ℕ → Bool
+lentLive live picks = live && eqb (length picks) 72
 
 abbrev pub answerOf : Bool → Heard → List ℕ → List ℕ → List ℕ → Answer
 answerOf live r sums planes picks = record { receiver = partsOf live (r .core) sums planes picks; taken = r .taken; written = r .written; why = r .why }

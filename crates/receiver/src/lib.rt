@@ -11,17 +11,18 @@ use nearest::Chart;
 use nearest::Received;
 use reasons::Why;
 ghost use mathlib.Core.Path.{_≡_};
-ghost use mathlib.Core.Bool.{true};
+ghost use mathlib.Core.Bool.{true, _&&_};
 ghost use mathlib.Core.List.{[]};
 ghost use Prim.Native.Nat.{_%_};
 ghost use lib.ListN.{length};
 ghost use Rattle.nearest.specs.Found.{chartOf, heardAs};
-ghost use Rattle.machine.specs.Machine.{core, sound};
+ghost use Rattle.machine.specs.Machine.{core, topSum, soundCore, sound};
+ghost use Rattle.sums.specs.Sums.{allUpTo};
 ghost use Rattle.machine.specs.Taken.{whole, TookIs};
 ghost use Rattle.told.specs.Told.{faultOf};
 ghost use Rattle.told.specs.Piece.{symbolsOf, symbolFrom, pieceOf};
 ghost use Rattle.receiver.specs.Doors.{symbolAt, running, hearing};
-ghost use Rattle.receiver.specs.Promise.{Is, partsOf, answerOf, Hears, Finishes};
+ghost use Rattle.receiver.specs.Promise.{Is, partsOf, lentLive, answerOf, Hears, Finishes};
 
 pub struct Answer {
     pub receiver: Receiver,
@@ -59,10 +60,10 @@ fn symbol(
     x3: i32,
     sums: &mut [u64; 16],
     planes: &mut [u64; 48],
-    picks: &mut [u64; 72],
+    picks: &mut [u64],
     out: &mut [u32],
 ) -> Took
-    requires { ⌜ (now t ≡ chartOf (core .accord)) × (sound (whole core (now sums) (now planes) (now picks)) ≡ true) ⌝ }
+    requires { ⌜ (now t ≡ chartOf (core .accord)) × (sound (whole core (now sums) (now planes) (now picks)) ≡ true) × (length (now picks) ≡ 72) ⌝ }
     ensures { λ r. ⌜ TookIs (symbolAt (whole core (now (sums .entry)) (now (planes .entry)) (now (picks .entry))) (symbolFrom x0 x1 x2 x3) (length (now (out .entry)))) r (now (sums .exit)) (now (planes .exit)) (now (picks .exit)) (now (out .entry)) (now (out .exit)) ⌝ }
 {
     let place = fault(x0, x1, x2, x3);
@@ -103,10 +104,10 @@ fn hear_symbols(
     samples: &[i32],
     sums: &mut [u64; 16],
     planes: &mut [u64; 48],
-    picks: &mut [u64; 72],
+    picks: &mut [u64],
     out: &mut [u32],
 ) -> Heard
-    requires { ⌜ (sound (whole start (now sums) (now planes) (now picks)) ≡ true) × (length (now samples) % 4 ≡ 0) ⌝ }
+    requires { ⌜ (sound (whole start (now sums) (now planes) (now picks)) ≡ true) × (length (now samples) % 4 ≡ 0) × (length (now picks) ≡ 72) ⌝ }
     ensures { λ r. ⌜ Is (running (symbolsOf (now (samples .entry))) (whole start (now (sums .entry)) (now (planes .entry)) (now (picks .entry))) 0 [] (length (now (out .entry)))) (now (out .entry)) (answerOf true r (now (sums .exit)) (now (planes .exit)) (now (picks .exit))) (now (out .exit)) ⌝ }
 {
     let accord = start.accord;
@@ -157,19 +158,30 @@ fn nothing_heard(core: Core, why: Why) -> Heard
     }
 }
 
-// A piece to a receiver in its parts, whose arrays are lent, for a caller that keeps them elsewhere: nothing is copied.
+// Whether parts that are lent are those of an open receiver in range.
+fn lent_fit(live: bool, core: Core, sums: &[u64; 16], picks: &[u64]) -> bool
+    ensures { λ r. ⌜ r ≡ (lentLive live (now (picks .entry)) && (soundCore core && allUpTo (topSum (core .taken)) (now (sums .entry)))) ⌝ }
+{
+    if picks.len() != 72 {
+        return false;
+    }
+    openings::parts_fit(live, core, sums)
+}
+
+// A piece to a receiver in its parts, whose lists are lent, for a caller that keeps them elsewhere: nothing is copied. The picks may be
+// a part of the caller's own words; where these are not 72, they are no receiver's, and the answer is that of a closed one.
 pub fn hear_lent(
     live: bool,
     core: Core,
     samples: &[i32],
     sums: &mut [u64; 16],
     planes: &mut [u64; 48],
-    picks: &mut [u64; 72],
+    picks: &mut [u64],
     out: &mut [u32],
 ) -> Heard
-    ensures { λ r. ⌜ Is (hearing (partsOf live core (now (sums .entry)) (now (planes .entry)) (now (picks .entry))) (pieceOf (now (samples .entry))) (length (now (out .entry)))) (now (out .entry)) (answerOf live r (now (sums .exit)) (now (planes .exit)) (now (picks .exit))) (now (out .exit)) ⌝ }
+    ensures { λ r. ⌜ Is (hearing (partsOf (lentLive live (now (picks .entry))) core (now (sums .entry)) (now (planes .entry)) (now (picks .entry))) (pieceOf (now (samples .entry))) (length (now (out .entry)))) (now (out .entry)) (answerOf (lentLive live (now (picks .entry))) r (now (sums .exit)) (now (planes .exit)) (now (picks .exit))) (now (out .exit)) ⌝ }
 {
-    if !openings::parts_fit(live, core, sums) {
+    if !lent_fit(live, core, sums, picks) {
         return nothing_heard(core, Why::Closed);
     }
     if samples.len() % 4 != 0 {

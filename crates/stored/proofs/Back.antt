@@ -1,7 +1,7 @@
 -- Words that hold an end give it back: reading undoes writing, whatever stands behind it.
 --   SenderFits, ReceiverFits    the record's numbers fit their types, and its lists have their lengths
 --   sender-back, receiver-back  the law; a record that is not live reads as closed
---   sender-stored, receiver-stored    so a record that was put into words is read from them
+--   sender-stored, receiver-stored, front-stored    so a record that was put into words is read from them
 use mathlib.Core.Path.{_≡_, refl, sym, ap, _∙_}
 use mathlib.Core.Bool.{Bool, true, false}
 use mathlib.Core.List.{List, _++_, append-assoc}
@@ -15,8 +15,10 @@ use Rattle.sender.specs.declared.Sender.{Sender}
 use Rattle.sender.specs.Send as sender
 use Rattle.machine.specs.declared.Receiver.{Receiver}
 use Rattle.machine.specs.Machine as machine
-use Rattle.stored.specs.Layout.{receiverTag, senderLength, receiverLength}
-use Rattle.stored.specs.State.{holds, senderIn, wordsOfSender, coreIn, receiverIn, wordsOfCore, wordsOfReceiver, readSender, readReceiver, SenderStored, ReceiverStored}
+use Rattle.layout.specs.Layout.{receiverTag, senderLength, receiverLength, picksAt}
+use Rattle.layout.specs.Tagged.{holds}
+use Rattle.stored.specs.State.{senderIn, wordsOfSender, receiverIn, wordsOfReceiver, readSender, readReceiver, SenderStored, ReceiverStored}
+use Rattle.front.specs.Words.{coreIn, wordsOfCore, FrontStored}
 
 -- ---- a sender
 
@@ -119,3 +121,14 @@ module _ (rx : Receiver) (rest : List ℕ) where
 
 pub receiver-stored : (rx : Receiver) (l : List ℕ) {o : List ℕ} → ReceiverFits rx → o ≡ wordsOfReceiver rx ++ drop receiverLength l → ReceiverStored rx l o
 receiver-stored rx l f e = record { words = e; reads = ap receiverIn e ∙ receiver-back rx (drop receiverLength l) f }
+
+joined : (a b c d e : List ℕ) → (a ++ (b ++ c)) ++ (d ++ e) ≡ (a ++ (b ++ (c ++ d))) ++ e
+joined a b c d e = simp append-assoc
+
+-- so a receiver's words are made of its front and of picks that stand already where they belong
+pub front-stored : (rx : Receiver) (l l₁ : List ℕ) {o : List ℕ} → FrontStored (rx .live) (rx .core) (rx .sums) (rx .planes) l₁ o
+    → length (rx .picks) ≡ 72 → drop picksAt l₁ ≡ rx .picks ++ drop receiverLength l → ReceiverStored rx l o
+unfolding wordsOfReceiver
+front-stored rx l l₁ f sized behind =
+    receiver-stored rx l (record { u = f .u-fits; taken = f .taken-fits; turn = f .turn-fits; sums = f .sums-fit; planes = f .planes-fit; picks = sized })
+    (f .words ∙ rw behind (joined (wordsOfCore (rx .live) (rx .core)) (rx .sums) (rx .planes) (rx .picks) (drop receiverLength l)))

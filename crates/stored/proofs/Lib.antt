@@ -1,3 +1,1 @@
-pub mod Lent
-pub mod Held
 pub mod Back

@@ -1,36 +1,22 @@
 -- The ends' states in words of 64 bits: which record some words hold, and which words hold a record. That words which hold a record
 -- give it back is proved in proofs/Back.
---   holds size tag ws     whether the words ws can hold a record: enough of them, the tag, and numbers that fit their fields
 --   senderIn, receiverIn  the sender, the receiver that some words hold; a closed one where they hold none
 --   wordsOfSender, wordsOfReceiver    the words that hold a sender, a receiver
 --   readSender, readReceiver          what the words of a record read as
 --   SenderStored, ReceiverStored      a record was put into words, and they read as it
---   CoreStored                        a part of that
-use Prim.Native.Nat.{ℕ, _^_, _<_}
+use Prim.Native.Nat.{ℕ}
 use mathlib.Core.Path.{_≡_}
-use mathlib.Core.Bool.{Bool, true, cond, _&&_}
+use mathlib.Core.Bool.{true, cond}
 use mathlib.Core.List.{List, [], _∷_, _++_}
-use lib.Dec.{eqb, leb, ltb}
-use lib.ListN.{getD, length, take, drop}
+use lib.ListN.{getD, take, drop}
 use Rattle.points.specs.Agreed.{ofWidth}
-use Rattle.machine.specs.declared.Core.{Core}
 use Rattle.machine.specs.declared.Receiver.{Receiver}
 use Rattle.machine.specs.Machine as machine
 use Rattle.sender.specs.declared.Sender.{Sender}
 use Rattle.sender.specs.Send as sending
-use Rattle.stored.specs.Layout.{senderTag, receiverTag, closedTag, senderLength, receiverLength, sumsAt, planesAt, picksAt}
-
-abbrev pub tagOf : Bool → ℕ → ℕ
-tagOf live tag = cond live tag closedTag
-
--- a number that fits 32 bits
-abbrev pub isHalf : ℕ → Bool
-isHalf n = ltb n (2 ^ 32)
-
--- so many words, this tag, and three numbers that fit their fields
-unfoldable pub holds : ℕ → ℕ → List ℕ → Bool
-holds size tag ws =
-    leb size (length ws) && (eqb (getD ws 0 0) tag && (isHalf (getD ws 1 0) && (isHalf (getD ws 2 0) && isHalf (getD ws 3 0))))
+use Rattle.layout.specs.Layout.{senderTag, receiverTag, senderLength, receiverLength, sumsAt, planesAt, picksAt}
+use Rattle.layout.specs.Tagged.{tagOf, holds}
+use Rattle.front.specs.Words.{coreIn, wordsOfCore}
 
 -- ---- a sender: the tag, the width, the turn, the state
 
@@ -43,10 +29,6 @@ wordsOfSender s = tagOf (s .live) senderTag ∷ s .accord .u ∷ s .turn ∷ s .
 
 -- ---- a receiver: the tag, six numbers, sixteen sums, 48 registers and 72 words of picks
 
-abbrev pub coreIn : List ℕ → Core
-coreIn ws =
-    record { accord = ofWidth (getD ws 1 0); taken = getD ws 2 0; turn = getD ws 3 0; window = getD ws 4 0; slot = getD ws 5 0; pending = getD ws 6 0 }
-
 unfoldable pub receiverIn : List ℕ → Receiver
 receiverIn ws =
     cond (holds receiverLength receiverTag ws)
@@ -58,9 +40,6 @@ receiverIn ws =
       picks = take 72 (drop picksAt ws);
     })
     machine.shut
-
-abbrev pub wordsOfCore : Bool → Core → List ℕ
-wordsOfCore live c = tagOf live receiverTag ∷ c .accord .u ∷ c .taken ∷ c .turn ∷ c .window ∷ c .slot ∷ c .pending ∷ []
 
 unfoldable pub wordsOfReceiver : Receiver → List ℕ
 wordsOfReceiver rx = wordsOfCore (rx .live) (rx .core) ++ (rx .sums ++ (rx .planes ++ rx .picks))
@@ -82,10 +61,3 @@ pub record SenderStored (s : Sender) (l o : List ℕ) : Type 0 where
 pub record ReceiverStored (rx : Receiver) (l o : List ℕ) : Type 0 where
   pub words : o ≡ wordsOfReceiver rx ++ drop receiverLength l
   pub reads : receiverIn o ≡ readReceiver rx
-
--- inside: the first seven words, where the numbers fit their fields
-pub record CoreStored (live : Bool) (c : Core) (l o : List ℕ) : Type 0 where
-  pub words : o ≡ wordsOfCore live c ++ drop 7 l
-  pub u-fits : c .accord .u < 2 ^ 32
-  pub taken-fits : c .taken < 2 ^ 32
-  pub turn-fits : c .turn < 2 ^ 32

@@ -14,17 +14,8 @@ load-receiver-requires c κs = search needs
 finish-requires : tie.Need-finish-requires
 finish-requires c κs = search needs
 
-number-requires : tie.Need-number-requires
-number-requires c κs = search needs
-
-place-requires : tie.Need-place-requires
-place-requires c κs = search needs
-
-cast-tell : tie.Need-cast-tell
-cast-tell c = search needs
-
-tell-requires : tie.Need-tell-requires
-tell-requires c κs = search needs
+answer-requires : tie.Need-answer-requires
+answer-requires c κs = search needs
 
 same-length : tie.Need-same-length
 same-length c = search needs
@@ -37,17 +28,21 @@ same-length-3 c = search needs
 
 returns-2 : tie.Need-returns-2
 returns-2 c =
-    let s = c .before .before .before .before .before .before .before .before .before .before .before .before .before .before .before .before .before in
-    let is = rw (c .before .before .before .before .before .before .before .before .before .before .before .load-receiver .ensures) at (c .before .before .before .before .before .before .before .before .before .finish .ensures) in
-    let tells = rw (c .before .before .before .before .before .place .ensures) at (c .before .before .before .tell .ensures) in
-    finish-kept (now (s .args .state)) (now (s .args .out)) (now (s .args .told)) (c .before .before .before .before .before .before .before .before .before .before .before .before .before .if1 .left) _ _ _ _ is (c .before .before .before .before .before .before .number .ensures) tells (c .if2 .taken)
+    let g = c .before .before .before in
+    let f = g .before .before .before .before in
+    let l = f .before .before in
+    let e = l .before .before in
+    let a = e .before .before .before .before .args in
+    finish-kept (now (a .state)) (now (a .out)) (now (a .told)) (e .if1 .left) _ _ _ _ (rw (l .load-receiver .ensures) at (f .finish .ensures)) (g .answer .ensures .0) (g .answer .ensures .1) (c .if2 .taken)
 
 store-receiver-requires : tie.Need-store-receiver-requires
 store-receiver-requires c κs =
-    let s = c .before .before .before .before .before .before .before .before .before .before .before .before .before .before .before .before .before .before .before in
-    let is = rw (c .before .before .before .before .before .before .before .before .before .before .before .before .before .load-receiver .ensures) at (c .before .before .before .before .before .before .before .before .before .before .before .finish .ensures) in
-    let tells = rw (c .before .before .before .before .before .before .before .place .ensures) at (c .before .before .before .before .before .tell .ensures) in
-    finish-long (now (s .args .state)) (now (s .args .out)) (now (s .args .told)) (c .before .before .before .before .before .before .before .before .before .before .before .before .before .before .before .if1 .left) _ _ _ _ is (c .before .before .before .before .before .before .before .before .number .ensures) tells (c .before .before .if2 .left)
+    let g = c .before .before .before .before .before in
+    let f = g .before .before .before .before in
+    let l = f .before .before in
+    let e = l .before .before in
+    let a = e .before .before .before .before .args in
+    finish-long (now (a .state)) (now (a .out)) (now (a .told)) (e .if1 .left) _ _ _ _ (rw (l .load-receiver .ensures) at (f .finish .ensures)) (g .answer .ensures .0) (g .answer .ensures .1) (c .before .before .if2 .left)
 
 same-length-4 : tie.Need-same-length-4
 same-length-4 c = search needs
@@ -60,10 +55,12 @@ same-length-6 c = search needs
 
 returns-3 : tie.Need-returns-3
 returns-3 c =
-    let s = c .before .before .before .before .before .before .before .before .before .before .before .before .before .before .before .before .before .before .before .before .before .before in
-    let is = rw (c .before .before .before .before .before .before .before .before .before .before .before .before .before .before .before .before .load-receiver .ensures) at (c .before .before .before .before .before .before .before .before .before .before .before .before .before .before .finish .ensures) in
-    let tells = rw (c .before .before .before .before .before .before .before .before .before .before .place .ensures) at (c .before .before .before .before .before .before .before .before .tell .ensures) in
-    finish-written (now (s .args .state)) (now (s .args .out)) (now (s .args .told)) (c .before .before .before .before .before .before .before .before .before .before .before .before .before .before .before .before .before .before .if1 .left) _ _ _ _ is (c .before .before .before .before .before .before .before .before .before .before .before .number .ensures) tells _ (c .before .before .before .before .before .if2 .left) (c .before .before .store-receiver .ensures)
+    let g = c .before .before .before .before .before .before .before .before in
+    let f = g .before .before .before .before in
+    let l = f .before .before in
+    let e = l .before .before in
+    let a = e .before .before .before .before .args in
+    finish-written (now (a .state)) (now (a .out)) (now (a .told)) (e .if1 .left) _ _ _ _ (rw (l .load-receiver .ensures) at (f .finish .ensures)) (g .answer .ensures .0) (g .answer .ensures .1) _ (c .before .before .before .before .before .if2 .left) (c .before .before .store-receiver .ensures)
 
 pub demfizagu-finish-spec : {M : Type 1} → statement M
 demfizagu-finish-spec =
@@ -72,10 +69,7 @@ demfizagu-finish-spec =
     returns
     load-receiver-requires
     finish-requires
-    number-requires
-    place-requires
-    cast-tell
-    tell-requires
+    answer-requires
     same-length
     same-length-2
     same-length-3

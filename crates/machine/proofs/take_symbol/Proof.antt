@@ -14,28 +14,28 @@ refused-requires c κs = search needs
 
 returns : tie.Need-returns
 returns c =
-    let a = c .before .before .before .before .args in
+    let a = c .before .before .before .before .before .args in
     many (a .core) (a .sums .now) (a .planes .now) (a .picks .now) (heardAs (a .first) (a .second)) (a .out .now) (c .refused .result) (c .refused .ensures) (c .before .if1 .taken)
 
-fresh : (e : tie.Else1) → e .before .before .before .args .core .taken < 4294967295
+fresh : (e : tie.Else1) → e .before .before .before .before .args .core .taken < 4294967295
 fresh e = omega (arith, e .if1 .left)
 
 look-ahead-requires : tie.Need-look-ahead-requires
 look-ahead-requires c κs =
-    let p = c .before .before .before .before .before .pre in
-    (p .0, (p .1, fresh (c .before .before)))
+    let p = c .before .before .before .before .before .before .pre in
+    (p .0, (p .1 .0, fresh (c .before .before)))
 
 add-kept : tie.Need-add-kept
 add-kept c = search needs
 
-few-agreed : (l : tie.After-look-ahead) → l .look-ahead .result .agreed ≤ l .before .before .before .before .before .before .args .core .pending
-few-agreed l = let a = l .before .before .before .before .before .before .args in few (a .core) (a .sums .now) (a .planes .now) (a .picks .now) (heardAs (a .first) (a .second)) (a .out .now) (l .look-ahead .result) (l .look-ahead .ensures)
+few-agreed : (l : tie.After-look-ahead) → l .look-ahead .result .agreed ≤ l .before .before .before .before .before .before .before .args .core .pending
+few-agreed l = let a = l .before .before .before .before .before .before .before .args in few (a .core) (a .sums .now) (a .planes .now) (a .picks .now) (heardAs (a .first) (a .second)) (a .out .now) (l .look-ahead .result) (l .look-ahead .ensures)
 
 low : (l : tie.After-look-ahead) → l .look-ahead .result .state < 16
-low l = let a = l .before .before .before .before .before .before .args in state-below (a .core) (a .sums .now) (a .planes .now) (a .picks .now) (heardAs (a .first) (a .second)) (a .out .now) (l .look-ahead .result) (l .look-ahead .ensures)
+low l = let a = l .before .before .before .before .before .before .before .args in state-below (a .core) (a .sums .now) (a .planes .now) (a .picks .now) (heardAs (a .first) (a .second)) (a .out .now) (l .look-ahead .result) (l .look-ahead .ensures)
 
-ways : (l : tie.After-look-ahead) → l .look-ahead .result .ways ≡ wordsBefore (l .before .before .before .before .before .before .args .planes .now) (l .look-ahead .result .steps) 0
-ways l = let a = l .before .before .before .before .before .before .args in ways-are (a .core) (a .sums .now) (a .planes .now) (a .picks .now) (heardAs (a .first) (a .second)) (a .out .now) (l .look-ahead .result) (l .look-ahead .ensures)
+ways : (l : tie.After-look-ahead) → l .look-ahead .result .ways ≡ wordsBefore (l .before .before .before .before .before .before .before .args .planes .now) (l .look-ahead .result .steps) 0
+ways l = let a = l .before .before .before .before .before .before .before .args in ways-are (a .core) (a .sums .now) (a .planes .now) (a .picks .now) (heardAs (a .first) (a .second)) (a .out .now) (l .look-ahead .result) (l .look-ahead .ensures)
 
 sub-kept : tie.Need-sub-kept
 sub-kept c = omega (arith, few-agreed (c .before))
@@ -46,7 +46,7 @@ refused-requires-2 c κs = search needs
 returns-2 : tie.Need-returns-2
 returns-2 c =
     let l = c .before .before .before .before in
-    let a = l .before .before .before .before .before .before .args in
+    let a = l .before .before .before .before .before .before .before .args in
     full (a .core) (a .sums .now) (a .planes .now) (a .picks .now) (heardAs (a .first) (a .second)) (a .out .now) (l .look-ahead .result) (l .look-ahead .ensures) (l .before .before .before .if1 .left) (c .refused2 .result) (c .refused2 .ensures) (c .before .if2 .taken)
 
 refused-requires-3 : tie.Need-refused-requires-3
@@ -55,37 +55,41 @@ refused-requires-3 c κs = search needs
 returns-3 : tie.Need-returns-3
 returns-3 c =
     let l = c .before .before .before .before .before in
-    let a = l .before .before .before .before .before .before .args in
+    let a = l .before .before .before .before .before .before .before .args in
     short (a .core) (a .sums .now) (a .planes .now) (a .picks .now) (heardAs (a .first) (a .second)) (a .out .now) (l .look-ahead .result) (l .look-ahead .ensures) (l .before .before .before .if1 .left) (c .before .before .if2 .left) (c .refused3 .result) (c .refused3 .ensures) (c .before .if3 .taken)
 
 write-words-requires : tie.Need-write-words-requires
 write-words-requires c κs =
     let l = c .before .before .before .before .before .before .before in
-    (c .before .before .before .before .before .before .before .before .before .before .before .before .before .pre .1 .core-fits, low l, few-agreed l, c .before .before .before .if3 .left)
+    let p = c .before .before .before .before .before .before .before .before .before .before .before .before .before .before .pre in
+    (p .1 .0 .core-fits, low l, few-agreed l, c .before .before .before .if3 .left, p .1 .1)
 
 add-shift : tie.Need-add-shift
-add-shift c = let f = c .before .before .before .before .before .before .before .before .before .before .before .before .before .before .before .before .before .before .before .before .before .before .before .before .pre .1 .core-fits in record { fits = omega (arith, f .held, f .small-window) }
+add-shift c = let f = c .before .before .before .before .before .before .before .before .before .before .before .before .before .before .before .before .before .before .before .before .before .before .before .before .before .pre .1 .0 .core-fits in record { fits = omega (arith, f .held, f .small-window) }
 
 shift-requires : tie.Need-shift-requires
 shift-requires c κs = ways (c .before .before .before .before .before .before .before .before .before .before .before .before .before .before .before .before .before .before)
 
 keep-requires : tie.Need-keep-requires
-keep-requires c κs = c .before .before .before .before .before .before .before .before .before .before .before .before .before .before .before .before .before .before .before .before .before .before .before .before .before .before .pre .1 .core-fits .slot-below
+keep-requires c κs = let p = c .before .before .before .before .before .before .before .before .before .before .before .before .before .before .before .before .before .before .before .before .before .before .before .before .before .before .before .pre in (p .1 .0 .core-fits .slot-below, p .1 .1)
 
 moved-on-requires : tie.Need-moved-on-requires
-moved-on-requires c κs = (fresh (c .before .before .before .before .before .before .before .before .before .before .before .before .before .before .before .before .before .before .before .before .before .before .before .before), c .before .before .before .before .before .before .before .before .before .before .before .before .before .before .before .before .before .before .before .before .before .before .before .before .before .before .before .pre .1 .core-fits .slot-below)
+moved-on-requires c κs = let e = c .before .before .before .before .before .before .before .before .before .before .before .before .before .before .before .before .before .before .before .before .before .before .before .before .before .before in (fresh e, e .before .before .before .before .pre .1 .0 .core-fits .slot-below)
 
 same-length : tie.Need-same-length
 same-length c = search needs
 
+same-length-2 : tie.Need-same-length-2
+same-length-2 c = search needs
+
 returns-4 : tie.Need-returns-4
 returns-4 c =
-    let k = c .before in
+    let k = c .before .before .before in
     let m = k .before .before in
     let w = m .before .before .before .before .before .before .before .before .before .before .before in
     let e = w .before .before .before .before in
     let l = e .before .before .before .before in
-    let a = l .before .before .before .before .before .before .args in
+    let a = l .before .before .before .before .before .before .before .args in
     done (a .core) (a .sums .now) (a .planes .now) (a .picks .now) (heardAs (a .first) (a .second)) (a .out .now) (l .look-ahead .result) (l .look-ahead .ensures) (l .before .before .before .if1 .left) (e .before .if2 .left) _ _ _ _ _ _ (e .if3 .left) (w .write-words .ensures .0) (w .write-words .ensures .1) refl (m .shift .ensures) (k .keep .ensures) (c .moved-on .ensures)
 
 pub take-symbol-spec : {M : Type 1} → statement M
@@ -107,4 +111,5 @@ take-symbol-spec =
     keep-requires
     moved-on-requires
     same-length
+    same-length-2
     returns-4)

@@ -25,38 +25,38 @@ abbrev μ-loop : tie.MeasureT-loop
 μ-loop core planes picks s n out₀ oldest turn₀ j₀ out turn j = n - j
 
 add-oldest : tie.Need-add-oldest Inv-loop μ-loop
-add-oldest c = let p = c .before .before .pre in record { fits = omega (arith, p .0 .slot-below) }
+add-oldest c = let p = c .before .before .before .pre in record { fits = omega (arith, p .0 .slot-below) }
 
 sub-oldest : tie.Need-sub-oldest Inv-loop μ-loop
-sub-oldest c = let p = c .before .before .before .pre in omega (arith, p .0 .held, p .0 .small-window)
+sub-oldest c = let p = c .before .before .before .before .pre in omega (arith, p .0 .held, p .0 .small-window)
 
 loop-holds : tie.Need-loop-holds Inv-loop μ-loop
 unfolding speak after
-loop-holds c = let p = c .before .before .before .pre in (omega arith, refl, p .0 .turn-below, refl, refl)
+loop-holds c = let p = c .before .before .before .before .pre in (omega arith, refl, p .0 .turn-below, refl, refl)
 
 sub-age : tie.Need-sub-age Inv-loop μ-loop
-sub-age c = let p = c .before .before .before .before .before .before .pre in omega (arith, p .2)
+sub-age c = let p = c .before .before .before .before .before .before .before .pre in omega (arith, p .2)
 
 sub-age-2 : tie.Need-sub-age-2 Inv-loop μ-loop
-sub-age-2 c = let p = c .before .before .before .before .before .before .pre in omega (arith, p .2)
+sub-age-2 c = let p = c .before .before .before .before .before .before .before .pre in omega (arith, p .2)
 
 subset-at-requires : tie.Need-subset-at-requires Inv-loop μ-loop
-subset-at-requires c κs = let p = c .before .before .before .before .before .before .pre in (p .1, omega (arith, p .2, p .0 .held, p .0 .small-window))
+subset-at-requires c κs = let p = c .before .before .before .before .before .before .before .pre in (p .1, omega (arith, p .2, p .0 .held, p .0 .small-window))
 
 add-word-in : tie.Need-add-word-in Inv-loop μ-loop
-add-word-in c = let p = c .before .before .before .before .before .before .before .pre in record { fits = omega (arith, p .0 .slot-below, p .0 .held, p .0 .small-window) }
+add-word-in c = let p = c .before .before .before .before .before .before .before .before .pre in record { fits = omega (arith, p .0 .slot-below, p .0 .held, p .0 .small-window) }
 
 word-in-requires : tie.Need-word-in-requires Inv-loop μ-loop
-word-in-requires c κs = let p = c .before .before .before .before .before .before .before .pre in (accord-width _ (p .0 .agreed), c .before .before .before .loop .inv .2, omega arith, omega (arith, p .2, p .0 .held, p .0 .small-window), c .subset-at .ensures .1)
+word-in-requires c κs = let p = c .before .before .before .before .before .before .before .before .pre in (accord-width _ (p .0 .agreed), c .before .before .before .loop .inv .2, omega arith, omega (arith, p .2, p .0 .held, p .0 .small-window), c .subset-at .ensures .1, p .4)
 
 mul-out : tie.Need-mul-out Inv-loop μ-loop
-mul-out c = let p = c .before .before .before .before .before .before .before .before .pre in record { fits = omega (arith, p .0 .held, p .0 .small-window) }
+mul-out c = let p = c .before .before .before .before .before .before .before .before .before .pre in record { fits = omega (arith, p .0 .held, p .0 .small-window) }
 
 slice-write-out : tie.Need-slice-write-out Inv-loop μ-loop
-slice-write-out c = let p = c .before .before .before .before .before .before .before .before .pre in omega (arith, p .3)
+slice-write-out c = let p = c .before .before .before .before .before .before .before .before .before .pre in omega (arith, p .3)
 
 add-j : tie.Need-add-j Inv-loop μ-loop
-add-j c = let p = c .before .before .before .before .before .before .before .before .pre in record { fits = omega (arith, p .0 .held, p .0 .small-window) }
+add-j c = let p = c .before .before .before .before .before .before .before .before .before .pre in record { fits = omega (arith, p .0 .held, p .0 .small-window) }
 
 loop-less : tie.Need-loop-less Inv-loop μ-loop
 loop-less c = omega arith
@@ -64,7 +64,7 @@ loop-less c = omega arith
 loop-again : tie.Need-loop-again Inv-loop μ-loop
 loop-again c =
     let at = c .before .before .before .before in
-    let s = at .before .before .before .before in
+    let s = at .before .before .before .before .before in
     let a = s .args in
     let p = s .pre in
     let more = c .before .before .before .loop-test .taken in
@@ -83,7 +83,7 @@ same-length c = c .before .loop .inv .1
 returns : tie.Need-returns Inv-loop μ-loop
 returns c =
     let at = c .before in
-    let end : at .loop .j ≡ at .before .before .before .before .args .n = omega arith in
+    let end : at .loop .j ≡ at .before .before .before .before .before .args .n = omega arith in
     (at .loop .inv .3 ∙ rw end, at .loop .inv .4 ∙ rw end)
 
 pub write-words-spec : {M : Type 1} → statement M

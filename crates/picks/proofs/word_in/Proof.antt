@@ -15,8 +15,8 @@ add-word-by c = search needs
 mul-word-by : tie.Need-mul-word-by
 mul-word-by c = search needs
 
-element-copy-out-word-by : tie.Need-element-copy-out-word-by
-element-copy-out-word-by c = search needs
+shared-slice-read-word-by : tie.Need-shared-slice-read-word-by
+shared-slice-read-word-by c = search needs
 
 word-by-requires : tie.Need-word-by-requires
 word-by-requires c κs = search needs
@@ -24,7 +24,7 @@ word-by-requires c κs = search needs
 returns : tie.Need-returns
 returns c =
     let t = c .before .before in
-    let a = t .before .args in
+    let a = t .before .before .args in
     c .word-by .ensures ∙ ap (λ (i : ℕ). saidOf (a .u) (a .turn) (symbolBy (a .u) i (numbersAt (a .picks .now) (a .slot)) (a .k))) (t .type-at .ensures .0)
 
 pub word-in-spec : {M : Type 1} → statement M
@@ -34,6 +34,6 @@ word-in-spec =
     type-at-requires
     add-word-by
     mul-word-by
-    element-copy-out-word-by
+    shared-slice-read-word-by
     word-by-requires
     returns)

@@ -1,11 +1,15 @@
 -- `finish`: closed, no room, or the last words.
-use mathlib.Core.Path.{sym, _∙_}
+use mathlib.Core.Path.{_≡_, sym, _∙_}
 use borrow.Author.Tests.{not-true, not-false}
+use lib.ListN.{length}
 use Rattle.machine.proofs.Sound.{sound-core}
 use Rattle.receiver.proofs.Doors.{finishes, finish-closed, finish-full, finish-done}
 use borrow.Author.Needs.{needs}
 use Rattle.receiver.proofs.finish.Statement.{statement}
 use Rattle.receiver.proofs.finish.Tie as tie
+
+sized : (s : tie.Start) → length (s .args .rx .picks) ≡ 72
+sized s = search needs
 
 is-open-requires : tie.Need-is-open-requires
 is-open-requires c κs = search needs
@@ -33,12 +37,15 @@ returns-2 c =
 end-state-requires : tie.Need-end-state-requires
 end-state-requires c κs = search needs
 
+slice-aggregate-write-words : tie.Need-slice-aggregate-write-words
+slice-aggregate-write-words c = search (needs, sized (c .before .before .before .before .before .before .before .before .before .before .before .before .before .before))
+
 write-words-requires : tie.Need-write-words-requires
 write-words-requires c κs =
     let i = c .before .before .before .before .before .before .before .before .before .before .before .before in
     let s = i .before .before .before in
     let o = sym (i .before .is-open .ensures) ∙ not-false _ (i .if1 .left) in
-    (sound-core (s .args .rx) o, c .before .before .before .end-state .ensures .1, search needs, c .before .before .before .before .before .before .before .before .if2 .left)
+    (sound-core (s .args .rx) o, c .before .before .before .end-state .ensures .1, search needs, c .before .before .before .before .before .before .before .before .if2 .left, sized s)
 
 same-length : tie.Need-same-length
 same-length c = search needs
@@ -62,6 +69,7 @@ finish-spec =
     stopped-requires-2
     returns-2
     end-state-requires
+    slice-aggregate-write-words
     write-words-requires
     same-length
     returns-3)

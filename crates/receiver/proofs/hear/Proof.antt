@@ -1,8 +1,11 @@
 -- `hear`: the piece to the receiver's parts.
 use borrow.Author.Needs.{needs}
-use Rattle.receiver.proofs.Doors.{hears}
+use Rattle.receiver.proofs.Doors.{hears-lent}
 use Rattle.receiver.proofs.hear.Statement.{statement}
 use Rattle.receiver.proofs.hear.Tie as tie
+
+slice-aggregate-hear-lent : tie.Need-slice-aggregate-hear-lent
+slice-aggregate-hear-lent c = search needs
 
 hear-lent-requires : tie.Need-hear-lent-requires
 hear-lent-requires c κs = search needs
@@ -11,7 +14,7 @@ same-length : tie.Need-same-length
 same-length c = search needs
 
 returns : tie.Need-returns
-returns c = hears _ _ _ _ _ (c .before .before .before .hear-lent .ensures)
+returns c = hears-lent (c .before .before .before .before .before .before .before .before .before .before .before .before .before .before .args .rx) _ _ _ _ _ _ _ (search needs) (c .before .before .before .before .hear-lent .ensures)
 
 pub hear-spec : {M : Type 1} → statement M
-hear-spec = tie.close (tie.spec hear-lent-requires same-length returns)
+hear-spec = tie.close (tie.spec slice-aggregate-hear-lent hear-lent-requires same-length returns)

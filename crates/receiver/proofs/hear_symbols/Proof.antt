@@ -1,5 +1,5 @@
 -- `hear_symbols`: the loop over the symbols of a piece; `Going` says where it stands.
-use mathlib.Core.Path.{sym, ap, _∙_}
+use mathlib.Core.Path.{_≡_, sym, ap, _∙_}
 use Prim.Native.Nat.{_+_, _-_, _≤_}
 use native.Mathlib.Omega.{arith}
 use borrow.Author.Needs.{needs}
@@ -25,9 +25,9 @@ chart-requires c κs = search needs
 
 loop-holds : tie.Need-loop-holds Inv-loop μ-loop
 loop-holds c =
-    let s = c .before .before .before in
+    let s = c .before .before .before .before in
     let a = s .args in
-    start (a .samples .now) (a .out .now) (whole (a .start) (a .sums .now) (a .planes .now) (a .picks .now)) (s .pre .1) (s .pre .0)
+    start (a .samples .now) (a .out .now) (whole (a .start) (a .sums .now) (a .planes .now) (a .picks .now)) (s .pre .1) (s .pre .0) (s .pre .2)
 
 mul-symbol : tie.Need-mul-symbol Inv-loop μ-loop
 mul-symbol c = omega arith
@@ -77,57 +77,66 @@ part-symbol-end c = omega arith
 symbol-requires : tie.Need-symbol-requires Inv-loop μ-loop
 symbol-requires c κs =
     let l = c .before .before .before .before .before .before .before .before .before .before in
-    (l .before .chart .ensures ∙ ap chartOf (sym (l .loop .inv .accord)), l .loop .inv .fit)
+    (l .before .chart .ensures ∙ ap chartOf (sym (l .loop .inv .accord)), l .loop .inv .fit, l .loop .inv .picks)
 
 -- what is known after the call of `symbol`: each coordinate is the number of its bits
-fits : (d : tie.After-symbol Inv-loop μ-loop) → d .before .before .before .before .before .before .before .before .before .before .before .loop .written + d .symbol .result .written ≤ length (d .before .before .before .before .before .before .before .before .before .before .before .before .before .before .before .args .out .now)
+fits : (d : tie.After-symbol Inv-loop μ-loop) → d .before .before .before .before .before .before .before .before .before .before .before .loop .written + d .symbol .result .written ≤ length (d .before .before .before .before .before .before .before .before .before .before .before .before .before .before .before .before .args .out .now)
 fits d =
     let l = d .before .before .before .before .before .before .before .before .before .before .before in
-    let s = l .before .before .before .before in
+    let s = l .before .before .before .before .before in
     more-fits (s .args .samples .now) (s .args .out .now) _ _ _ _ _ _ _ (l .loop .inv) (d .before .before .before .before .before .before .before .before .before .before .loop-test .taken) _ _ _ _
     (toZ-ofZ (record { sfits = d .before .before .before .before .before .before .before .before .symbol-arg .given })) (toZ-ofZ (record { sfits = d .before .before .before .before .before .before .before .symbol-arg2 .given }))
     (toZ-ofZ (record { sfits = d .before .before .before .before .before .before .symbol-arg3 .given })) (toZ-ofZ (record { sfits = d .before .before .before .before .before .symbol-arg4 .given }))
     (d .symbol .result) _ _ _ _ (d .symbol .ensures) (d .symbol .kept .1 .1 .1 .1 .1 .1 .1 .1 .1 .0)
 
+picks-kept : (d : tie.After-symbol Inv-loop μ-loop) → length (d .symbol .last .1 .1 .1 .1 .1 .1 .1 .1 .0) ≡ 72
+picks-kept d = d .symbol .kept .1 .1 .1 .1 .1 .1 .1 .1 .0 ∙ d .before .before .before .before .before .before .before .before .before .before .before .loop .inv .picks
+
 add-written : tie.Need-add-written Inv-loop μ-loop
-add-written c = let h = fits (c .before .before .before .before) in omega (arith, c .before .before .before .before .before .before .before .before .before .before .before .before .before .before .before .before .before .before .before .good)
+add-written c = let h = fits (c .before .before .before .before .before .before) in omega (arith, c .before .before .before .before .before .before .before .before .before .before .before .before .before .before .before .before .before .before .before .before .before .before .good)
 
 is-done-requires : tie.Need-is-done-requires Inv-loop μ-loop
 is-done-requires c κs = search needs
 
 add-taken : tie.Need-add-taken Inv-loop μ-loop
-add-taken c = omega (arith, c .before .before .before .before .before .before .before .before .before .before .before .before .before .before .before .before .before .before .before .before .before .good)
+add-taken c = let l = c .before .before .before .before .before .before .before .before .before .before .before .before .before .before .before .before .before .before .before in omega (arith, c .before .before .before .before .before .before .before .before .before .before .before .before .before .before .before .before .before .before .before .before .before .before .before .before .good, c .before .before .before .before .before .before .before .before .before .before .before .before .before .before .before .before .before .before .loop-test .taken, l .loop .inv .count)
 
 add-i : tie.Need-add-i Inv-loop μ-loop
-add-i c = omega (arith, c .before .before .before .before .before .before .before .before .before .before .before .before .before .before .before .before .before .before .before .before .before .good)
+add-i c = omega (arith, c .before .before .before .before .before .before .before .before .before .before .before .before .before .before .before .before .before .before .before .before .before .before .before .before .good)
 
 loop-less : tie.Need-loop-less Inv-loop μ-loop
 loop-less c = omega arith
 
 loop-again : tie.Need-loop-again Inv-loop μ-loop
 loop-again c =
-    let d = c .before .before .before .before .before .before in
+    let d = c .before .before .before .before .before .before .before .before in
     let l = d .before .before .before .before .before .before .before .before .before .before .before in
-    let s = l .before .before .before .before in
+    let s = l .before .before .before .before .before in
     go-on (s .args .samples .now) (s .args .out .now) _ _ _ _ _ _ _ (l .loop .inv) (d .before .before .before .before .before .before .before .before .before .before .loop-test .taken) _ _ _ _
     (toZ-ofZ (record { sfits = d .before .before .before .before .before .before .before .before .symbol-arg .given })) (toZ-ofZ (record { sfits = d .before .before .before .before .before .before .before .symbol-arg2 .given }))
     (toZ-ofZ (record { sfits = d .before .before .before .before .before .before .symbol-arg3 .given })) (toZ-ofZ (record { sfits = d .before .before .before .before .before .symbol-arg4 .given }))
-    (d .symbol .result) _ _ _ _ (d .symbol .ensures) (d .symbol .kept .1 .1 .1 .1 .1 .1 .1 .1 .1 .0) (sym (c .before .is-done .ensures) ∙ not-false _ (c .if1 .left))
+    (d .symbol .result) _ _ _ _ (d .symbol .ensures) (d .symbol .kept .1 .1 .1 .1 .1 .1 .1 .1 .1 .0) (sym (c .before .is-done .ensures) ∙ not-false _ (c .if1 .left)) (picks-kept d)
 
 same-length : tie.Need-same-length Inv-loop μ-loop
-same-length c = c .before .loop .inv .long
+same-length c = c .before .loop .inv .picks ∙ sym (c .before .before .before .before .before .before .pre .2)
+
+same-length-2 : tie.Need-same-length-2 Inv-loop μ-loop
+same-length-2 c = c .before .loop .inv .long
 
 returns : tie.Need-returns Inv-loop μ-loop
 returns c =
     let at = c .before in
-    let s = at .before .before .before .before in
+    let s = at .before .before .before .before .before in
     end (s .args .samples .now) (s .args .out .now) _ (at .loop .out) _ _ _ _ _ (at .loop .inv) (c .loop-test .left)
 
-same-length-2 : tie.Need-same-length-2 Inv-loop μ-loop
-same-length-2 c =
-    let d = c .before .before .before .before .before .before in
+same-length-3 : tie.Need-same-length-3 Inv-loop μ-loop
+same-length-3 c = let d = c .before .before .before .before .before .before .before .before in picks-kept d ∙ sym (d .before .before .before .before .before .before .before .before .before .before .before .before .before .before .before .before .pre .2)
+
+same-length-4 : tie.Need-same-length-4 Inv-loop μ-loop
+same-length-4 c =
+    let d = c .before .before .before .before .before .before .before .before in
     let l = d .before .before .before .before .before .before .before .before .before .before .before in
-    let s = l .before .before .before .before in
+    let s = l .before .before .before .before .before in
     more-length (s .args .samples .now) (s .args .out .now) _ _ _ _ _ _ _ (l .loop .inv) (d .before .before .before .before .before .before .before .before .before .before .loop-test .taken) _ _ _ _
     (toZ-ofZ (record { sfits = d .before .before .before .before .before .before .before .before .symbol-arg .given })) (toZ-ofZ (record { sfits = d .before .before .before .before .before .before .before .symbol-arg2 .given }))
     (toZ-ofZ (record { sfits = d .before .before .before .before .before .before .symbol-arg3 .given })) (toZ-ofZ (record { sfits = d .before .before .before .before .before .symbol-arg4 .given }))
@@ -135,9 +144,9 @@ same-length-2 c =
 
 returns-2 : tie.Need-returns-2 Inv-loop μ-loop
 returns-2 c =
-    let d = c .before .before .before .before .before .before in
+    let d = c .before .before .before .before .before .before .before .before in
     let l = d .before .before .before .before .before .before .before .before .before .before .before in
-    let s = l .before .before .before .before in
+    let s = l .before .before .before .before .before in
     stop (s .args .samples .now) (s .args .out .now) _ _ _ _ _ _ _ (l .loop .inv) (d .before .before .before .before .before .before .before .before .before .before .loop-test .taken) _ _ _ _
     (toZ-ofZ (record { sfits = d .before .before .before .before .before .before .before .before .symbol-arg .given })) (toZ-ofZ (record { sfits = d .before .before .before .before .before .before .before .symbol-arg2 .given }))
     (toZ-ofZ (record { sfits = d .before .before .before .before .before .before .symbol-arg3 .given })) (toZ-ofZ (record { sfits = d .before .before .before .before .before .symbol-arg4 .given }))
@@ -174,6 +183,8 @@ hear-symbols-spec =
     loop-less
     loop-again
     same-length
-    returns
     same-length-2
+    returns
+    same-length-3
+    same-length-4
     returns-2)

@@ -24,7 +24,7 @@ fault-requires c κs = search needs
 
 returns : tie.Need-returns
 returns c =
-    let s = c .before .before .before in
+    let s = c .before .before .before .before in
     let a = s .args in
     faulty-took (a .core) (a .sums .now) (a .planes .now) (a .picks .now) (a .out .now) (symbolFrom (a .x0) (a .x1) (a .x2) (a .x3)) (c .before .fault .result)
     (c .before .fault .ensures ∙ ap faultOf (back (a .x0) (a .x1) (a .x2) (a .x3) (s .fits .x0) (s .fits .x1) (s .fits .x2) (s .fits .x3))) (c .if1 .taken)
@@ -32,25 +32,28 @@ returns c =
 take-symbol-requires : tie.Need-take-symbol-requires
 take-symbol-requires c κs =
     let d = c .before .before .before .before in
-    let s = d .before .before .before in
+    let s = d .before .before .before .before in
     let a = s .args in
     let e = back (a .x0) (a .x1) (a .x2) (a .x3) (s .fits .x0) (s .fits .x1) (s .fits .x2) (s .fits .x3) in
     let rx = whole (a .core) (a .sums .now) (a .planes .now) (a .picks .now) in
     let g = subst BothInRange (sym e) (good-taking (a .core) (a .sums .now) (a .planes .now) (a .picks .now) (a .out .now) (symbolFrom (a .x0) (a .x1) (a .x2) (a .x3)) (d .before .fault .result) (d .before .fault .ensures ∙ ap faultOf e) (d .if1 .left) .1) in
-    ((s .pre .0, g .first-in, g .second-in), sound-ready rx (s .pre .1))
+    ((s .pre .0, g .first-in, g .second-in), (sound-ready rx (s .pre .1), s .pre .2))
 
 same-length : tie.Need-same-length
 same-length c = search needs
 
+same-length-2 : tie.Need-same-length-2
+same-length-2 c = search needs
+
 returns-2 : tie.Need-returns-2
 returns-2 c =
-    let d = c .before .before .before .before .before .before .before in
-    let s = d .before .before .before in
+    let d = c .before .before .before .before .before .before .before .before .before in
+    let s = d .before .before .before .before in
     let a = s .args in
     let e = back (a .x0) (a .x1) (a .x2) (a .x3) (s .fits .x0) (s .fits .x1) (s .fits .x2) (s .fits .x3) in
     good-took (a .core) (a .sums .now) (a .planes .now) (a .picks .now) (a .out .now) (symbolFrom (a .x0) (a .x1) (a .x2) (a .x3)) (d .before .fault .result) (d .before .fault .ensures ∙ ap faultOf e)
-    _ e (d .if1 .left) _ _ _ _ _ (c .before .before .take-symbol .ensures)
+    _ e (d .if1 .left) _ _ _ _ _ (c .before .before .before .before .take-symbol .ensures)
 
 pub symbol-spec : {M : Type 1} → statement M
 symbol-spec =
-    tie.close (tie.spec fault-requires returns take-symbol-requires same-length returns-2)
+    tie.close (tie.spec fault-requires returns take-symbol-requires same-length same-length-2 returns-2)

@@ -4,9 +4,10 @@ use mathlib.Core.Bool.{true}
 use native.Mathlib.Omega.{arith}
 use denote.Ref.{now}
 use borrow.Author.Tests.{not-true, not-false}
-use Rattle.stored.specs.Layout.{senderLength, senderTag}
-use Rattle.stored.specs.State.{holds, senderIn}
-use Rattle.stored.proofs.Held.{Held, held}
+use Rattle.layout.specs.Layout.{senderLength, senderTag}
+use Rattle.layout.specs.Tagged.{holds}
+use Rattle.stored.specs.State.{senderIn}
+use Rattle.layout.proofs.Held.{Held, held}
 use borrow.Author.Needs.{needs}
 use Rattle.stored.proofs.load_sender.Statement.{statement}
 use Rattle.stored.proofs.load_sender.Tie as tie

@@ -3,7 +3,7 @@ use native.Mathlib.Omega.{arith}
 use denote.Ref.{now}
 use lib.ListN.{length-set}
 use Rattle.stored.specs.State.{wordsOfSender}
-use Rattle.stored.proofs.Lent.{stored}
+use Rattle.layout.proofs.Lent.{stored}
 use Rattle.stored.proofs.Back.{sender-stored}
 use borrow.Author.Needs.{needs}
 use Rattle.stored.proofs.store_sender.Statement.{statement}

@@ -6,9 +6,9 @@ use native.Mathlib.Omega.{arith}
 use denote.Ref.{now}
 use lib.ListN.{take, drop, length}
 use lib.Seq.{take-all}
-use Rattle.stored.proofs.Lent.{copied-more, copied-length}
-use Rattle.stored.proofs.copy.Statement.{statement}
-use Rattle.stored.proofs.copy.Tie as tie
+use Rattle.layout.proofs.Lent.{copied-more, copied-length}
+use Rattle.layout.proofs.copy.Statement.{statement}
+use Rattle.layout.proofs.copy.Tie as tie
 
 abbrev Inv-loop : tie.InvT-loop
 Inv-loop from to₀ i₀ to i = (i ≤ length from) × (to ≡ take i from ++ drop i to₀)

@@ -2,11 +2,11 @@
 use native.Mathlib.Omega.{arith}
 use denote.Ref.{now}
 use lib.ListN.{length-set}
-use Rattle.stored.specs.State.{wordsOfCore}
-use Rattle.stored.proofs.Lent.{stored}
+use Rattle.front.specs.Words.{wordsOfCore}
+use Rattle.layout.proofs.Lent.{stored}
 use borrow.Author.Needs.{needs}
-use Rattle.stored.proofs.store_core.Statement.{statement}
-use Rattle.stored.proofs.store_core.Tie as tie
+use Rattle.front.proofs.store_core.Statement.{statement}
+use Rattle.front.proofs.store_core.Tie as tie
 
 tag-of-requires : tie.Need-tag-of-requires
 tag-of-requires c κs = search needs

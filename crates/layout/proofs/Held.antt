@@ -9,7 +9,7 @@ use borrow.Author.Tests.{le-leb, lt-leb, eq-eqb, ne-eqb}
 use lib.Dec.{T, eqb, leb, leb→le, ltb→lt}
 use lib.ListN.{getD, length}
 use Rattle.wei.proofs.Finite.{and-left, and-right}
-use Rattle.stored.specs.State.{isHalf, holds}
+use Rattle.layout.specs.Tagged.{isHalf, holds}
 
 module _ (size tag : ℕ) (ws : List ℕ) where
   pub held-short : length ws < size → holds size tag ws ≡ false

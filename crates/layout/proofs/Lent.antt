@@ -3,6 +3,7 @@
 --   copied-more, copied-length    one more of the elements of ws in the front of a list that was l₀
 --   placed                        what a call wrote at the front of the rest that it was lent
 --   lent, back                    the rest of a list from a on, as it is lent, and the list when the rest has come back
+--   part-back, rest-back          the list from a on when a part that began there, or all the rest, has come back
 --   all-copied, part-loaded       all of a list copied to a front, a part copied over as many places
 use mathlib.Core.Path.{_≡_, refl, sym, ap, _∙_}
 use mathlib.Core.List.{List, [], _∷_, _++_, append-assoc, append-nil}
@@ -32,6 +33,15 @@ module _ {A : Type 0} where
 
     pub back : {ys zs : List A} → ys ≡ zs → take a l ++ (ys ++ drop (n - a) (drop a l)) ≡ take a l ++ zs
     back e = rw (drop-of-length-le (drop a l) {i = n - a} (rw length-drop (omega arith)), append-nil, e)
+
+  -- a part of so many places was lent, and has come back as ys
+  pub part-back : (l ys : List A) (a k : ℕ) → a ≤ length l → drop a (take a l ++ (ys ++ drop k (drop a l))) ≡ ys ++ drop (a + k) l
+  part-back l ys a k h = drop-at (take a l) (ys ++ drop k (drop a l)) a (length-take-le a l h) ∙ ap (λ m. ys ++ m) (drop-drop k a l)
+
+  -- all the rest was lent, and vs was written at its front
+  pub rest-back : (l vs : List A) (a k : ℕ) {ys : List A} → a ≤ length l → ys ≡ vs ++ drop k (take (length l - a) (drop a l)) →
+      drop a (take a l ++ (ys ++ drop (length l - a) (drop a l))) ≡ vs ++ drop (a + k) l
+  rest-back l vs a k h e = ap (λ m. drop a m) (back l (length l) a refl e) ∙ rw (lent l (length l) a refl) (part-back l vs a k h)
 
   -- a list begins with p and ends as l₀ did
   module _ (l₀ p : List A) {l : List A} (a : ℕ) (size : length p ≡ a) (is : l ≡ p ++ drop a l₀) where

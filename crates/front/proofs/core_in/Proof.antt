@@ -1,11 +1,11 @@
 -- `core_in`: words that hold a receiver are long enough, and the three small numbers fit.
 use native.Mathlib.Omega.{arith}
 use denote.Ref.{now}
-use Rattle.stored.specs.Layout.{receiverLength, receiverTag}
-use Rattle.stored.proofs.Held.{Held, held}
+use Rattle.layout.specs.Layout.{receiverLength, receiverTag}
+use Rattle.layout.proofs.Held.{Held, held}
 use borrow.Author.Needs.{needs}
-use Rattle.stored.proofs.core_in.Statement.{statement}
-use Rattle.stored.proofs.core_in.Tie as tie
+use Rattle.front.proofs.core_in.Statement.{statement}
+use Rattle.front.proofs.core_in.Tie as tie
 
 known : (s : tie.Start) → Held receiverLength receiverTag (now (s .args .words))
 known s = held receiverLength receiverTag (now (s .args .words)) (s .pre)

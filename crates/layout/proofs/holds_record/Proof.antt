@@ -2,10 +2,10 @@
 use mathlib.Core.Path.{sym, _∙_}
 use denote.Ref.{now}
 use borrow.Author.Tests.{not-true, not-false}
-use Rattle.stored.proofs.Held.{held-short, held-other, held-by}
+use Rattle.layout.proofs.Held.{held-short, held-other, held-by}
 use borrow.Author.Needs.{needs}
-use Rattle.stored.proofs.holds_record.Statement.{statement}
-use Rattle.stored.proofs.holds_record.Tie as tie
+use Rattle.layout.proofs.holds_record.Statement.{statement}
+use Rattle.layout.proofs.holds_record.Tie as tie
 
 returns : tie.Need-returns
 returns c = let s = c .before .before in let ws = now (s .args .words) in sym (held-short (s .args .size) (s .args .tag) ws (c .if1 .taken))

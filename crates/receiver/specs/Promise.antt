@@ -48,7 +48,7 @@ abbrev pub answerOf : Bool → Heard → List ℕ → List ℕ → List ℕ → 
 answerOf live r sums planes picks = record { receiver = partsOf live (r .core) sums planes picks; taken = r .taken; written = r .written; why = r .why }
 
 -- the answer is what is owed for what the receiver has been told
-pub record Owes (d : Owed) (out : List ℕ) (r : Answer) (o : List ℕ) : Type 0 where
+pub record Pays (d : Owed) (out : List ℕ) (r : Answer) (o : List ℕ) : Type 0 where
   pub given : givenOf (r .why) ≡ d .reason
   pub taken : r .taken ≡ d .taken
   pub written : r .written ≡ length (d .words)
@@ -58,9 +58,9 @@ pub record Owes (d : Owed) (out : List ℕ) (r : Answer) (o : List ℕ) : Type 0
 
 pub record Hears (rx : Receiver) (p : Piece) (out : List ℕ) (r : Answer) (o : List ℕ) : Type 0 where
   pub always : Is (hearing rx p (length out)) out r o
-  pub owed : (t : Told) → Fine t → rx ≡ machineOf t → Owes (pieceOwed t p (length out)) out r o
+  pub owed : (t : Told) → Fine t → rx ≡ machineOf t → Pays (pieceOwed t p (length out)) out r o
 
-pub record EndOwes (d : FinishOwed) (rx : Receiver) (out : List ℕ) (r : Answer) (o : List ℕ) : Type 0 where
+pub record EndPays (d : FinishOwed) (rx : Receiver) (out : List ℕ) (r : Answer) (o : List ℕ) : Type 0 where
   pub given : givenOf (r .why) ≡ d .reason
   pub taken : r .taken ≡ 0
   pub written : r .written ≡ length (d .words)
@@ -69,4 +69,4 @@ pub record EndOwes (d : FinishOwed) (rx : Receiver) (out : List ℕ) (r : Answer
 
 pub record Finishes (rx : Receiver) (out : List ℕ) (r : Answer) (o : List ℕ) : Type 0 where
   pub always : Is (finishing rx (length out)) out r o
-  pub owed : (t : Told) → Fine t → rx ≡ machineOf t → EndOwes (finishOwed t (length out)) rx out r o
+  pub owed : (t : Told) → Fine t → rx ≡ machineOf t → EndPays (finishOwed t (length out)) rx out r o

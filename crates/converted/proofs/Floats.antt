@@ -1,8 +1,10 @@
 -- The laws of samples: one sample's outcomes, and where a list of them stands after some.
 --   heard-pair      what was heard, from the answer of the door
+--   sample-short, sample-by         the two outcomes of one sample
 --   Going           the first i coordinates are written, and the rest is still to do
 --   start, go-on    how it begins, and one sample more
 --   stop-fault, stop-room, end      the three ways it ends
+--   samples-short, samples-odd, samples-done    the outcomes of the whole call
 use mathlib.Core.Path.{_≡_, refl, sym, ap, subst, _∙_}
 use mathlib.Core.Bool.{true}
 use mathlib.Core.List.{List, [], _∷_, _++_}

@@ -26,7 +26,7 @@ use Rattle.told.specs.Piece.{Piece}
 use Rattle.told.proofs.Speaks.{speaks}
 use Rattle.told.specs.Owed.{endedOf, pieceOwed, finishOwed}
 use Rattle.openings.specs.Opening.{Receiver, machineOf}
-use Rattle.receiver.specs.Promise.{Owes, Hears, EndOwes, Finishes}
+use Rattle.receiver.specs.Promise.{Pays, Hears, EndPays, Finishes}
 use Rattle.promises.specs.Talk.{Talk, opens, hears, refuses, Ended, ends}
 
 -- what the receiver has been told after the symbols `took`
@@ -56,7 +56,7 @@ module _ (ac : Accord) (w : ℕ) (b : Start) (took : List (Two Received)) (ws : 
 
   -- a piece that goes symbol by symbol
   walks : (zs : List (Two Received)) (e : WalkEnded (speakerOf t) (judgeOf t)) → walk (speakerOf t) (judgeOf t) (reverse took) zs (length out) ≡ e →
-      Owes (record { reason = e .why; taken = e .taken; words = e .said; told = withHeard t (e .heard) }) out r o → Follows ac w b (took ++ take (r .taken) zs) (ws ++ take (r .written) o) (r .receiver)
+      Pays (record { reason = e .why; taken = e .taken; words = e .said; told = withHeard t (e .heard) }) out r o → Follows ac w b (took ++ take (r .taken) zs) (ws ++ take (r .written) o) (r .receiver)
   walks zs e z k =
       let h : reverse (e .heard) ≡ took ++ take (e .taken) zs =
       ap (λ (x : WalkEnded (speakerOf t) (judgeOf t)). reverse (x .heard)) (sym z) ∙ walk-heard (speakerOf t) (judgeOf t) (reverse took) zs (length out)
@@ -76,7 +76,7 @@ module _ (ac : Accord) (w : ℕ) (b : Start) (took : List (Two Received)) (ws : 
   unfolding pieceOwed
   piece-follows p h = go (p .fits) (h .owed t (f .fine) (f .machine))
     where
-      go : (c : Bool) → Owes (let e = endedOf t p (length out) in cond c (record { reason = e .why; taken = e .taken; words = e .said; told = withHeard t (e .heard) }) (record { reason = record { number = 10; place = 0 }; taken = 0; words = []; told = t })) out r o →
+      go : (c : Bool) → Pays (let e = endedOf t p (length out) in cond c (record { reason = e .why; taken = e .taken; words = e .said; told = withHeard t (e .heard) }) (record { reason = record { number = 10; place = 0 }; taken = 0; words = []; told = t })) out r o →
           Follows ac w b (took ++ take (r .taken) (p .symbols)) (ws ++ take (r .written) o) (r .receiver)
       go true k = walks (p .symbols) (endedOf t p (length out)) refl k
       go false k = idle ac w b took ws rx (r .receiver) (p .symbols) o (r .taken) (r .written) f (k .taken) (k .written) (k .receiver ∙ sym (f .machine))
@@ -89,7 +89,7 @@ module _ (ac : Accord) (w : ℕ) (b : Start) (took : List (Two Received)) (ws : 
   unfolding finishOwed
   finish-refused h z = go (ltb (length out) (length left)) (h .owed t (f .fine) (f .machine))
     where
-      go : (c : Bool) → EndOwes (cond c (record { reason = record { number = 8; place = 0 }; words = []; closes = false }) (record { reason = record { number = 0; place = 0 }; words = left; closes = true })) rx out r o →
+      go : (c : Bool) → EndPays (cond c (record { reason = record { number = 8; place = 0 }; words = []; closes = false }) (record { reason = record { number = 0; place = 0 }; words = left; closes = true })) rx out r o →
           Follows ac w b took (ws ++ take (r .written) o) (r .receiver)
       go true k = subst (λ (l : List (Two Received)). Follows ac w b l (ws ++ take (r .written) o) (r .receiver)) (append-nil took) (idle ac w b took ws rx (r .receiver) [] o 0 (r .written) f refl (k .written) (k .receiver))
       go false k = absurd (z (ap (λ (x : Reason). x .number) (k .given)))
@@ -98,7 +98,7 @@ module _ (ac : Accord) (w : ℕ) (b : Start) (took : List (Two Received)) (ws : 
   unfolding finishOwed
   finish-answers h z = go (ltb (length out) (length left)) (h .owed t (f .fine) (f .machine))
     where
-      go : (c : Bool) → EndOwes (cond c (record { reason = record { number = 8; place = 0 }; words = []; closes = false }) (record { reason = record { number = 0; place = 0 }; words = left; closes = true })) rx out r o →
+      go : (c : Bool) → EndPays (cond c (record { reason = record { number = 8; place = 0 }; words = []; closes = false }) (record { reason = record { number = 0; place = 0 }; words = left; closes = true })) rx out r o →
           ws ++ take (r .written) o ≡ speakerOf t .answered (reverse took)
       go true k = absurd (let n = ap (λ (x : Reason). x .number) (k .given) in omega arith)
       go false k =

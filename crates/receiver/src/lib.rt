@@ -12,7 +12,6 @@ use nearest::Received;
 use reasons::Why;
 ghost use mathlib.Core.Path.{_≡_};
 ghost use mathlib.Core.Bool.{true, _&&_};
-ghost use mathlib.Core.List.{[]};
 ghost use Prim.Native.Nat.{_%_};
 ghost use lib.ListN.{length};
 ghost use Rattle.nearest.specs.Found.{chartOf, heardAs};
@@ -21,8 +20,8 @@ ghost use Rattle.sums.specs.Sums.{allUpTo};
 ghost use Rattle.machine.specs.Taken.{whole, TookIs};
 ghost use Rattle.told.specs.Told.{faultOf};
 ghost use Rattle.told.specs.Piece.{symbolsOf, symbolFrom, pieceOf};
-ghost use Rattle.receiver.specs.Doors.{symbolAt, running, hearing};
-ghost use Rattle.receiver.specs.Promise.{Is, partsOf, lentLive, answerOf, Hears, Finishes};
+ghost use Rattle.receiver.specs.Doors.{symbolAt};
+ghost use Rattle.receiver.specs.Promise.{lentLive, RunsLent, HearsLent, Hears, Finishes};
 
 pub struct Answer {
     pub receiver: Receiver,
@@ -108,7 +107,7 @@ fn hear_symbols(
     out: &mut [u32],
 ) -> Heard
     requires { ⌜ (sound (whole start (now sums) (now planes) (now picks)) ≡ true) × (length (now samples) % 4 ≡ 0) × (length (now picks) ≡ 72) ⌝ }
-    ensures { λ r. ⌜ Is (running (symbolsOf (now (samples .entry))) (whole start (now (sums .entry)) (now (planes .entry)) (now (picks .entry))) 0 [] (length (now (out .entry)))) (now (out .entry)) (answerOf true r (now (sums .exit)) (now (planes .exit)) (now (picks .exit))) (now (out .exit)) ⌝ }
+    ensures { λ r. ⌜ RunsLent start (now (sums .entry)) (now (planes .entry)) (now (picks .entry)) (symbolsOf (now (samples .entry))) (now (out .entry)) r (now (sums .exit)) (now (planes .exit)) (now (picks .exit)) (now (out .exit)) ⌝ }
 {
     let accord = start.accord;
     let chart = nearest::chart(accord);
@@ -179,7 +178,7 @@ pub fn hear_lent(
     picks: &mut [u64],
     out: &mut [u32],
 ) -> Heard
-    ensures { λ r. ⌜ Is (hearing (partsOf (lentLive live (now (picks .entry))) core (now (sums .entry)) (now (planes .entry)) (now (picks .entry))) (pieceOf (now (samples .entry))) (length (now (out .entry)))) (now (out .entry)) (answerOf (lentLive live (now (picks .entry))) r (now (sums .exit)) (now (planes .exit)) (now (picks .exit))) (now (out .exit)) ⌝ }
+    ensures { λ r. ⌜ HearsLent live core (now (sums .entry)) (now (planes .entry)) (now (picks .entry)) (pieceOf (now (samples .entry))) (now (out .entry)) r (now (sums .exit)) (now (planes .exit)) (now (picks .exit)) (now (out .exit)) ⌝ }
 {
     if !lent_fit(live, core, sums, picks) {
         return nothing_heard(core, Why::Closed);

@@ -3,8 +3,8 @@ use mathlib.Core.List.{[], _∷_}
 use native.Mathlib.Omega.{arith}
 use denote.Ref.{now}
 use lib.ListN.{length-set}
-use Rattle.converted.specs.Counts.{toldOf}
 use lib.Seq.{sets-eq}
+use Rattle.converted.specs.Counts.{toldOf}
 use borrow.Author.Needs.{needs}
 use Rattle.converted.proofs.tell.Statement.{statement}
 use Rattle.converted.proofs.tell.Tie as tie

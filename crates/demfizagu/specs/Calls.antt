@@ -41,10 +41,6 @@ senderOpening state k =
     (record { number = 8; state = state; end = senderIn state })
     (record { number = g .number; state = wordsOfSender (g .sender) ++ drop senderLength state; end = g .sender })
 
--- "start 16 is free"
-abbrev pub startAt : ℕ → Start
-startAt n = cond (eqb n 16) Free (At n)
-
 unfoldable pub receiverOpening : List ℕ → Accord → ℕ → Start → Opening Receiver
 receiverOpening state k window start =
     let o = opening k window start in

@@ -19,11 +19,11 @@ ghost use Prim.Native.Nat.{_≤_};
 ghost use lib.ListN.{length};
 ghost use Rattle.points.specs.Agreed.{ofWidth};
 ghost use Rattle.reasons.specs.Reason.{givenOf};
-ghost use Rattle.openings.specs.Given.{plainWindow};
+ghost use Rattle.openings.specs.Given.{plainWindow, startAt};
 ghost use Rattle.converted.specs.Counts.{toldOf};
 ghost use Rattle.converted.specs.Calls.{sampleCall, samplesCall};
 ghost use Rattle.converted.specs.Promise.{Samples, Converts};
-ghost use Rattle.demfizagu.specs.Calls.{senderOpening, startAt, receiverOpening, sendCall, hearCall, finishCall, pendingIn, openIn};
+ghost use Rattle.demfizagu.specs.Calls.{senderOpening, receiverOpening, sendCall, hearCall, finishCall, pendingIn, openIn};
 ghost use Rattle.demfizagu.specs.Promise.{Opens, OpensAs, Sends, Answers};
 ghost use Rattle.layout.specs.Layout.{senderLength, receiverLength};
 ghost use Rattle.stored.specs.State.{senderIn, receiverIn};
@@ -96,15 +96,9 @@ fn opened(state: &mut [u64], o: Opened) -> u32
 pub extern "C" fn demfizagu_receiver_open(state: &mut [u64], u: u32, window: u32, start: u32) -> u32
     ensures { λ r. ⌜ Opens receiverIn (receiverOpening (now (state .entry)) (ofWidth u) window (startAt start)) r (now (state .exit)) ⌝ }
 {
-    if start == 16 {
-        return opened(
-            state,
-            openings::open_receiver(Accord { u: u }, window, Start::Free),
-        );
-    }
     opened(
         state,
-        openings::open_receiver(Accord { u: u }, window, Start::At(start)),
+        openings::open_receiver(Accord { u: u }, window, openings::start_at(start)),
     )
 }
 

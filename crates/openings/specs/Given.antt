@@ -2,9 +2,10 @@
 --   plainWindow    02, Wish 9: "The plain opening now has window 32"
 --   startOf b      the start that an opening names
 --   startFits b    it is free, or names one of the sixteen states
+--   startAt n      the start that a number stands for
 use Prim.Native.Nat.{ℕ}
-use mathlib.Core.Bool.{Bool, true}
-use lib.Dec.{leb}
+use mathlib.Core.Bool.{Bool, true, cond}
+use lib.Dec.{eqb, leb}
 use Rattle.trellis.specs.Measure as measure
 use Rattle.openings.specs.declared.Start.{Start}
 use Rattle.openings.specs.declared.Start.the-variants.{Free, At}
@@ -19,3 +20,7 @@ startOf (At n) = measure.named n
 abbrev pub startFits : Start → Bool
 startFits Free = true
 startFits (At n) = leb n 15
+
+-- a start as a number, for callers that have only numbers: 16 is the free one
+abbrev pub startAt : ℕ → Start
+startAt n = cond (eqb n 16) Free (At n)

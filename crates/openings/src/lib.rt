@@ -11,7 +11,7 @@ ghost use mathlib.Core.Bool.{true, cond, _&&_};
 ghost use Rattle.trellis.specs.Words.{firstTurn};
 ghost use Rattle.machine.specs.Machine.{core, freshSums, shut, topSum, soundCore, sound};
 ghost use Rattle.sums.specs.Sums.{allUpTo};
-ghost use Rattle.openings.specs.Given.{plainWindow, startOf, startFits};
+ghost use Rattle.openings.specs.Given.{plainWindow, startOf, startFits, startAt};
 ghost use Rattle.openings.specs.Opening.{Opens};
 
 // Any first state, or the named one.
@@ -84,6 +84,16 @@ fn start_fits(start: Start) -> bool
         Start::Free => true,
         Start::At(s) => s <= 15,
     }
+}
+
+// The start that a number stands for, for callers that have only numbers: 16 is the free one.
+pub fn start_at(n: u32) -> Start
+    ensures { λ r. ⌜ r ≡ startAt n ⌝ }
+{
+    if n == 16 {
+        return Start::Free;
+    }
+    Start::At(n)
 }
 
 fn not_opened(why: Why) -> Opened

@@ -54,8 +54,10 @@ fn list_all(map: &Map, u: u32, heard: &[(Point, Point)], so_far: &mut Sequence, 
     }
 }
 
-fn words(u: u32, symbols: &[Symbol]) -> Vec<u32> {
-    let before = std::iter::once(0).chain(symbols.iter().map(|s| s.turn));
+/// The words of a sequence. Before the first symbol of a free start no turn is known (02, Wish 5).
+fn words(u: u32, start: u32, symbols: &[Symbol]) -> Vec<u32> {
+    let first = if start == FREE { None } else { Some(0) };
+    let before = std::iter::once(first).chain(symbols.iter().map(|s| Some(s.turn)));
     symbols.iter().zip(before).map(|(s, b)| word_of(u, b, s)).collect()
 }
 
@@ -71,7 +73,7 @@ fn owed(map: &Map, u: u32, start: u32, heard: &[(Point, Point)]) -> (Vec<u32>, V
     live.iter().for_each(|s| offer(&mut answer, s));
     let same = |k: &usize| live.iter().all(|s| s.symbols[*k].points == live[0].symbols[*k].points);
     let common = (0..heard.len()).take_while(same).count();
-    (words(u, &live[0].symbols[..common]), words(u, &answer.unwrap().symbols))
+    (words(u, start, &live[0].symbols[..common]), words(u, start, &answer.unwrap().symbols))
 }
 
 /// One received coordinate: small whole points, midpoints (ties), the ends of the range, or anything.

@@ -1,11 +1,13 @@
--- What each answer says, byte by byte: the answers of the protocol's table. Definitions only; proofs/Answers.antt has what follows of them. The parts of a line are those of specs/Phrase.antt of the crate `phrases`.
+-- What each answer says, byte by byte: the answers of the protocol's table. Definitions only; proofs/Answers.antt has what follows of
+-- them. The parts of a line are those of specs/Phrase.antt of the crate `phrases`.
 --   numberLine n      "`N`", which answers an opening, and the count of `pending`
 --   firstFour out     the four coordinates of an output; none where it has fewer places, for then no send is done
 --   sentLine n out    "`N`, then the four coordinates if N is 0"
 --   heardLine n r ws  "`TAKEN WRITTEN N`", the place and the words, which answers a piece and a finish
 --   pairLine x y, refusedLine p, sampleLine g   "`X Y`, or `5 place P`"
 --   unreadLine        "A line it cannot read answers `?`"
---   answerRoom        what any answer takes at most: three numbers with the spaces between them, a place, the words of an output of 4096, a newline
+--   answerRoom        what any answer takes at most: three numbers with the spaces between them, a place, the words of an output of
+--                     4096, a newline
 use Prim.Native.Nat.{ℕ, _+_, _*_}
 use mathlib.Core.Bool.{cond}
 use mathlib.Core.List.{List, [], _++_, map}

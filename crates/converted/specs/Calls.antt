@@ -1,5 +1,5 @@
--- What the conversion of floats does, as a function of all that it is lent: the number it gives, and the lent memory after it. What is heard
--- of a sample is `heardSample`.
+-- What the conversion of floats does, as a function of all that it is lent: the number it gives, and the lent memory after it. What is
+-- heard of a sample is `heardSample`.
 --   placeOr0                   the place at fault, 0 where there is none
 --   Sampling, sampleCall       one sample
 --   Conversion, converting     coordinates two at a time, sample by sample up to the first that is refused or has no room

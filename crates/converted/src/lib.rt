@@ -1,7 +1,7 @@
 // Floats converted for C: a sample, or a list of them, as whole numbers in an output that the caller lends.
 //
-// What is heard of a float is the crate samples; here it is put into lent memory, and a number says how it went. Here too stands `tell`, the
-// three places in which a call of the library says how far it came.
+// What is heard of a float is the crate samples; here it is put into lent memory, and a number says how it went. Here too stands `tell`,
+// the three places in which a call of the library says how far it came.
 use samples::Pair;
 use samples::Sample;
 ghost use mathlib.Core.Path.{_≡_};

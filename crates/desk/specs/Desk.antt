@@ -1,4 +1,5 @@
--- What each request does: the desk after it and the bytes of its answer, one line of the protocol's table after another. Definitions only; the doors are those of the crates `sender`, `receiver` and `samples`, the answers those of `answers`.
+-- What each request does: the desk after it and the bytes of its answer, one line of the protocol's table after another. Definitions
+-- only; the doors are those of the crates `sender`, `receiver` and `samples`, the answers those of `answers`.
 --   closedDesk        "One sender and one receiver are held; both start closed"
 --   Result            a desk and a text
 --   says d t          the desk as it is, and the text t

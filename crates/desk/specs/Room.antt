@@ -1,6 +1,7 @@
 -- The sizes of what is lent, so that no answer is ever cut short. Definitions only.
 --   Lent ..         the buffers have their sizes: the page 131,072 bytes, coordinates and words 4096 each
---   Ready ..        a request can be answered: its sizes fit, outputs and coordinates have their sizes, and the page has room for any answer
+--   Ready ..        a request can be answered: its sizes fit, outputs and coordinates have their sizes, and the page has room for any
+--                   answer
 use Prim.Native.Nat.{ℕ, _+_, _≤_}
 use mathlib.Core.Path.{_≡_}
 use mathlib.Core.List.{List}

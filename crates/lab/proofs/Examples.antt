@@ -1,4 +1,5 @@
--- Answers of the first session that `lab help` prints, and some others, as the definitions of `phrases` and `answers` compute them; and a session, as those of `stream` do.
+-- Answers of the first session that `lab help` prints, and some others, as the definitions of `phrases` and `answers` compute them; and
+-- a session, as those of `stream` do.
 use Prim.Native.Nat.{ℕ}
 use mathlib.Core.Path.{_≡_, refl}
 use mathlib.Core.List.{List, [], _∷_}

@@ -1,4 +1,5 @@
--- Laws of a whole line: what the list lent for coordinates held before makes no difference, so a gathered line is answered as its bytes alone say.
+-- Laws of a whole line: what the list lent for coordinates held before makes no difference, so a gathered line is answered as its bytes
+-- alone say.
 use Prim.Native.Nat.{ℕ, suc, zero, _+_, _≤_}
 use mathlib.Core.Path.{_≡_, refl, sym, ap, _∙_}
 use mathlib.Core.Bool.{Bool, true, false, cond}

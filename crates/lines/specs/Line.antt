@@ -1,8 +1,10 @@
 -- Lines: the line so far, gathered from chunks of the input, and what a whole line does. Definitions only.
---   Gathered line part s   the buffer `line` and the record `part` stand for the bytes s since the last newline: all of them at the start of the buffer, or only that they are too many
+--   Gathered line part s   the buffer `line` and the record `part` stand for the bytes s since the last newline: all of them at the
+--                          start of the buffer, or only that they are too many
 --   noPart                 no bytes so far
 --   named s                the coordinates that a line names: those after its verb and its cap
---   answering most d s     what the line s does to the desk d: "A line has at most 65,536 bytes before its newline; a longer one answers `?` once (a comment too)"; most is as many as the buffer has
+--   answering most d s     what the line s does to the desk d: "A line has at most 65,536 bytes before its newline; a longer one answers
+--                          `?` once (a comment too)"; most is as many as the buffer has
 --   Replies g ..           what was done is g: its desk, and its text put into the page; no bytes of the next line are there yet
 use Prim.Native.Nat.{ℕ, _<_}
 use mathlib.Core.Path.{_≡_}

@@ -1,7 +1,7 @@
 // How a receiver begins and whether it stands open.
 //
-// `open_receiver` names what both ends agree on, the window and the start; `open_plain` only the first. A refused opening gives a closed receiver. The
-// tests say whether a record is one that the machine can work on: whatever is not is answered like a closed receiver.
+// `open_receiver` names what both ends agree on, the window and the start; `open_plain` only the first. A refused opening gives a closed
+// receiver. The tests say whether a record is one that the machine can work on: whatever is not is answered like a closed receiver.
 use machine::Core;
 use machine::Receiver;
 use points::Accord;

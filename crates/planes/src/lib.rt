@@ -1,6 +1,6 @@
-// The subsets of the pending symbols, kept for each state on its own best way. Three words stand for a state, 192 bits, three to a symbol and
-// the newest lowest. How many of the oldest pending symbols all states agree on is read off the bits in which the words of the states before
-// differ: nothing is walked. How a new symbol moves the words on is in `shift`.
+// The subsets of the pending symbols, kept for each state on its own best way. Three words stand for a state, 192 bits, three to a
+// symbol and the newest lowest. How many of the oldest pending symbols all states agree on is read off the bits in which the words of
+// the states before differ: nothing is walked. How a new symbol moves the words on is in `shift`.
 //
 // A step is 8 times the state before and the 4D subset, as `select` selects it.
 ghost use mathlib.Core.Path.{_≡_};
@@ -87,8 +87,8 @@ fn reach(planes: &[u64; 48], steps: &[u8; 16], ways: &[u64; 16], n: usize) -> us
     above(parted(&high, n - 128), 128, low)
 }
 
-// How many of the oldest pending symbols the states before all sixteen agree on; `ways` is their first word. The symbol in hand is not asked:
-// nobody agrees on it.
+// How many of the oldest pending symbols the states before all sixteen agree on; `ways` is their first word. The symbol in hand is not
+// asked: nobody agrees on it.
 pub fn agreed(planes: &[u64; 48], steps: &[u8; 16], ways: &[u64; 16], pending: usize) -> usize
     requires { ⌜ (pending ≤ 64) × (now ways ≡ wordsBefore (now planes) (now steps) 0) ⌝ }
     ensures { λ r. ⌜ r ≡ oldest (sameAt (now (planes .entry)) (now (steps .entry))) pending ⌝ }

@@ -1,12 +1,15 @@
--- WHAT THE PROMISES RULE OUT. 01 names five wrong receivers. For each a theorem, from the demand that 01 says it breaks, on inputs where the
--- wrong receiver gives something else.
+-- WHAT THE PROMISES RULE OUT. 01 names five wrong receivers. For each a theorem, from the demand that 01 says it breaks, on inputs where
+-- the wrong receiver gives something else.
 --   first-taken        one that refuses everything, from demand 1: a fresh receiver takes every good symbol
 --   word-one-back      one that always writes word 0, or writes nothing, from demand 2: after word 1 on a clean line, a run that ends has
 --                      written a 1
---   zero-one-back      one that decodes the first symbol and repeats it, from demand 2: after words 0 and 1, a run that ends has written 0, 1
---   five-release-one   one that holds all words until finish, from demand 3: a run that took five symbols (A,A) after the start 0 has written
+--   zero-one-back      one that decodes the first symbol and repeats it, from demand 2: after words 0 and 1, a run that ends has written
+--                      0, 1
+--   five-release-one   one that holds all words until finish, from demand 3: a run that took five symbols (A,A) after the start 0 has
+--                      written
 --                      one word, and no finish has been asked for
---   counts-true        one that reports made-up counts, from demands 1 and 3: as many symbols are taken as the receiver has been told more, and
+--   counts-true        one that reports made-up counts, from demands 1 and 3: as many symbols are taken as the receiver has been told
+--                      more, and
 --                      as many words written as are spoken more
 use mathlib.Core.Path.{_≡_, refl, sym, ap, _∙_}
 use mathlib.Core.Bool.{Bool, true, false, cond}

@@ -1,7 +1,8 @@
 -- Runs of calls on the library for C: any results that its promises allow, one after the other, whichever calls refuse, on words that the
 -- caller lends as states. What is taken and written is read off `told` and the output alone, as a C caller reads it. A state may be copied
 -- at any time: a copy is any words that hold the same end.
---   LibrarySends k ws ps state         after a sender's opening with the accord k, the words ws were accepted and the coordinates ps written
+--   LibrarySends k ws ps state         after a sender's opening with the accord k, the words ws were accepted and the coordinates ps
+--                                      written
 --   LibraryHears k w b took ws state   after a receiver's opening, the symbols `took` were taken and the words ws written, and it is open
 --   LibraryEnded k w b took ws         the same, and then a finish that succeeded
 use Prim.Native.Nat.{ℕ, _≤_, _<_}

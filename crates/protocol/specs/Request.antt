@@ -5,7 +5,8 @@
 --   pendingAlone v          by a verb that stands alone
 --   lineOf room ts          by all tokens of a line: `pending` stands alone, every other verb has tokens after it
 --   requestOf room s        "Lines that are empty or start with `#` answer nothing"; else by the tokens
---   coordinatesOf s list    the list lent for coordinates after s has been read: those of a piece at its start, up to the first that is none
+--   coordinatesOf s list    the list lent for coordinates after s has been read: those of a piece at its start, up to the first that is
+--                           none
 --   Reads s list r list'    all of it: the request, and the list
 use Prim.Native.Nat.{ℕ}
 use mathlib.Core.Path.{_≡_}

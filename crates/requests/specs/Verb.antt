@@ -1,5 +1,7 @@
 -- What the tokens after each verb ask for. Definitions only; proofs/Readers.antt has what follows of them.
--- "Tokens are separated by one space" is `tokens` of the crate `text`, and the numbers that tokens write are its `numberOf` and `hexOf` and `manyOf` of the crate `wholes`. "A missing or extra token, a double, leading or trailing space, a tab, a carriage return, more than 4096 coordinates" are unread: no token of a line with one of these is a number or a word of the grammar.
+-- "Tokens are separated by one space" is `tokens` of the crate `text`, and the numbers that tokens write are its `numberOf` and `hexOf`
+-- and `manyOf` of the crate `wholes`. "A missing or extra token, a double, leading or trailing space, a tab, a carriage return, more
+-- than 4096 coordinates" are unread: no token of a line with one of these is a number or a word of the grammar.
 --   anyNumber, capNumber    "U, W, WINDOW, S and CAP are 0 to 4294967295, a CAP above 4096 is `?`"
 --   just f, both f          the request f with one number or two, unread if one is bad
 --   one g, two g            g of just one token or two, unread for any other count of them

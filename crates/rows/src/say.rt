@@ -1,6 +1,6 @@
 // Rows on standard output. A form is a text with holes, which are filled from the bits of one number, left to right: `0` is one bit, `@`
-// the two of a label, `#` the four of a count, `~` the sixteen of a larger one, `-` a minus if the bit is set, `+` the four of a coordinate,
-// which is negative from 8 on.
+// the two of a label, `#` the four of a count, `~` the sixteen of a larger one, `-` a minus if the bit is set, `+` the four of a
+// coordinate, which is negative from 8 on.
 use libc::STDOUT_FILENO;
 ghost use Prim.Native.Nat.{_<_};
 

@@ -1,4 +1,5 @@
--- For callers: what follows from the meaning of a heard coordinate and a heard sample, so that no caller has to open the definitions of specs/Heard.antt.
+-- For callers: what follows from the meaning of a heard coordinate and a heard sample, so that no caller has to open the definitions of
+-- specs/Heard.antt.
 --   heard-in-range, sample-in-range   whatever is given lies from -8192 to 8192
 --   refused-exactly   refused are the floats that are no number, infinite, or rounded out of range, and no others
 --   nan-refused, infinite-refused, nan-pattern-refused   in particular a NaN and both infinities; and each pattern of a NaN

@@ -1,4 +1,5 @@
--- What `nearestEven n d` is, over whole numbers alone: nothing here is about floats. It leans on specs/Nearest.antt, and on the library for equal fractions.
+-- What `nearestEven n d` is, over whole numbers alone: nothing here is about floats. It leans on specs/Nearest.antt, and on the library
+-- for equal fractions.
 --   nearest-is     it is nearest to n / d, and even at a half
 --   nearest-only   no other number is
 --   nearest-le, nearest-ge   a whole number that bounds n / d bounds it

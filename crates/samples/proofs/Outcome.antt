@@ -1,4 +1,5 @@
--- What the three float operations of `hear_coordinate` make of a float, against what is to be heard of it. It joins proofs/Scaling.antt and proofs/Shifting.antt with proofs/Value.antt.
+-- What the three float operations of `hear_coordinate` make of a float, against what is to be heard of it. It joins proofs/Scaling.antt
+-- and proofs/Shifting.antt with proofs/Value.antt.
 --   converted v   the float that they make of v
 --   Outcome w g   w is a whole number in range and g gives it, or w lies outside and g is refused
 --   outcome       one of the two holds of `converted v` and what is to be heard, for every v

@@ -1,5 +1,6 @@
--- What `round`, the library's one rounding to a float, does with a fraction n / d: where the floats are the whole numbers it is `nearestEven`, and it never passes a whole number up to 2 ^ 24, which is a float itself.
--- It leans on `lib.Ieee`, whose `round-mono` says that the larger fraction rounds to no less.
+-- What `round`, the library's one rounding to a float, does with a fraction n / d: where the floats are the whole numbers it is
+-- `nearestEven`, and it never passes a whole number up to 2 ^ 24, which is a float itself. It leans on `lib.Ieee`, whose `round-mono`
+-- says that the larger fraction rounds to no less.
 --   round-to-whole   from 2 ^ 23 to 2 ^ 24 the result is the nearest whole number
 --   round-at-least   of n / d from q on, the result is q or more in size, or infinite
 --   round-at-most    of n / d up to q, it is q or less

@@ -1,4 +1,5 @@
--- The product v * 128. A finite v is m * up e / down e in size, so 128 times it is n / d with n = m * up e * 128 and d = down e. It leans on proofs/Rounding.antt and on the library's `round-exact`.
+-- The product v * 128. A finite v is m * up e / down e in size, so 128 times it is n / d with n = m * up e * 128 and d = down e. It
+-- leans on proofs/Rounding.antt and on the library's `round-exact`.
 --   scaled-exact   below 2 ^ 22 the product is that value itself: nothing is rounded
 --   scaled-far     from 2 ^ 22 on it is 2 ^ 22 or more in size, or infinite
 use mathlib.Core.Path.{_≡_, sym, ap, _∙_, subst}

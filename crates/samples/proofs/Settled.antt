@@ -1,4 +1,5 @@
--- The contracts of `hear_coordinate` and `hear_sample` allow one result each, since the definitions that give 01's numbers and values tell all cases of the answers apart: from what is given the answer can be read back. It leans on specs/Given.antt alone.
+-- The contracts of `hear_coordinate` and `hear_sample` allow one result each, since the definitions that give 01's numbers and values
+-- tell all cases of the answers apart: from what is given the answer can be read back. It leans on specs/Given.antt alone.
 --   coordinate-is, sample-is             an answer, from what it gives
 --   coordinate-apart, sample-apart       answers that give the same are equal
 --   coordinate-settled, sample-settled   any two answers that a contract allows are equal

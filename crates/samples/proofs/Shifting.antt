@@ -1,4 +1,5 @@
--- The sum with 12582912, which is 3 * 2 ^ 22 and stands halfway between 2 ^ 23 and 2 ^ 24, and the difference that takes it off again. A finite x is n / d in size, with n = m * up e and d = down e. It leans on proofs/Rounding.antt and proofs/Nearest.antt.
+-- The sum with 12582912, which is 3 * 2 ^ 22 and stands halfway between 2 ^ 23 and 2 ^ 24, and the difference that takes it off again. A
+-- finite x is n / d in size, with n = m * up e and d = down e. It leans on proofs/Rounding.antt and proofs/Nearest.antt.
 --   shifted-near   below 2 ^ 22 the two make x the nearest whole number, with its sign
 --   shifted-far    from 2 ^ 22 on they leave it 8193 or more in size, or infinite
 use mathlib.Core.Path.{_≡_, refl, ap, _∙_}

@@ -1,4 +1,5 @@
--- The meaning speaks of the bits; here it is turned to the float's value: of ± a / c what is heard is 128 a / c rounded, with its sign. It leans on the library's `ofBits`, which gives the value of a pattern.
+-- The meaning speaks of the bits; here it is turned to the float's value: of ± a / c what is heard is 128 a / c rounded, with its sign.
+-- It leans on the library's `ofBits`, which gives the value of a pattern.
 --   size-signed, in-range, out-of-range, range-cases   what `signed` and `inRange` are
 --   byValue v     what is heard of v, by its value
 --   of-value      the same of a float that is ± a / c, whichever fraction that is

@@ -1,5 +1,6 @@
--- What 01 gives back, and which case of the code's answers stands for it. The meaning speaks in these numbers and values and never in the enums of src/lib.rt, and the contracts compare the two.
--- Numbers are those of 01's table "Numbers given back": 0 is done, 5 a coordinate "refused as a float". "A refused float pair gives 0, 0 and says which of the two was first at fault"; places count from 0.
+-- What 01 gives back, and which case of the code's answers stands for it. The meaning speaks in these numbers and values and never in
+-- the enums of src/lib.rt, and the contracts compare the two. Numbers are those of 01's table "Numbers given back": 0 is done, 5 a
+-- coordinate "refused as a float". "A refused float pair gives 0, 0 and says which of the two was first at fault"; places count from 0.
 --   GivenCoordinate      what is given for one float: number and whole number
 --   done z, refused      its two cases
 --   GivenSample          what is given for a pair: number, both whole numbers, and the place at fault if there is one

@@ -1,12 +1,14 @@
--- What is heard of a float and of a sample (01, "What the receiver hears"), over whole numbers read from the 32 bits. Definitions only; proofs/Laws.antt has what follows for callers.
--- The bits of an f32 are a sign, an exponent's field of 8 bits and 23 digits. A finite value is ± units / 2 ^ 149, so 128 times it is 128 * units / 2 ^ 149.
+-- What is heard of a float and of a sample (01, "What the receiver hears"), over whole numbers read from the 32 bits. Definitions only;
+-- proofs/Laws.antt has what follows for callers. The bits of an f32 are a sign, an exponent's field of 8 bits and 23 digits. A finite
+-- value is ± units / 2 ^ 149, so 128 times it is 128 * units / 2 ^ 149.
 --   isNegative, field, digits   the three parts of a pattern of 32 bits
 --   units x t           a finite value's size in units of 2 ^ -149, by its field x and its digits t
 --   signed s n          n, or -n where s is true
 --   inRange s n         n with its sign, "from -8192 to 8192, both included"; else refused
 --   heardFields s x t   what is heard of the float with these parts
 --   heardBits b         what is heard of a pattern b
---   heardCoordinate v   what is heard of a float v. (A float that is no number has many patterns; one stands for it here, and all are refused.)
+--   heardCoordinate v   what is heard of a float v. (A float that is no number has many patterns; one stands for it here, and all are
+--                       refused.)
 --   bothOrFault a b      what is given for a pair, by what is given for each of the two
 --   heardSample x y     what is heard of the sample (x, y)
 use Prim.Native.Nat.{ℕ, zero, suc, _+_, _*_, _/_, _%_, _^_}

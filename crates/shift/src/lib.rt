@@ -1,5 +1,5 @@
-// A symbol moves the registers of all states on: a state takes over the words of the state that its best way comes from (crate planes), each
-// with three bits more. Where few symbols are pending only the words that hold them are moved: one for up to 20, as on a quiet line.
+// A symbol moves the registers of all states on: a state takes over the words of the state that its best way comes from (crate planes),
+// each with three bits more. Where few symbols are pending only the words that hold them are moved: one for up to 20, as on a quiet line.
 ghost use mathlib.Core.Path.{_≡_};
 ghost use Prim.Native.Nat.{_/_, _%_, _^_, _<_, _≤_};
 ghost use lib.ListN.{getD};
@@ -48,8 +48,8 @@ fn move_first(planes: &mut [u64; 48], ways: &[u64; 16], steps: &[u8; 16])
     }
 }
 
-// All sixteen states by one symbol, where n are pending with it; `ways` is the first word of the states before. The highest word goes first, for
-// it needs the one below as it was.
+// All sixteen states by one symbol, where n are pending with it; `ways` is the first word of the states before. The highest word goes
+// first, for it needs the one below as it was.
 pub fn shift(planes: &mut [u64; 48], steps: &[u8; 16], ways: &[u64; 16], n: usize)
     requires { ⌜ now ways ≡ wordsBefore (now planes) (now steps) 0 ⌝ }
     ensures { λ _. ⌜ now (planes .exit) ≡ movedOf n (now (planes .entry)) (now (steps .entry)) ⌝ }

@@ -1,4 +1,5 @@
--- Laws of the input as a stream: it may be cut anywhere, bytes up to a newline only grow the line, and what each step of the program does to its state.
+-- Laws of the input as a stream: it may be cut anywhere, bytes up to a newline only grow the line, and what each step of the program
+-- does to its state.
 use Prim.Native.Nat.{ℕ, zero, suc, _+_, _-_, _≤_, _<_}
 use mathlib.Core.Path.{_≡_, refl, sym, ap, subst, _∙_}
 use mathlib.Core.Bool.{Bool, true, false, cond}
@@ -79,7 +80,8 @@ module _ (most : ℕ) (c : Course) (chunk : List ℕ) (from n : ℕ) (cut : Cuts
 
 -- ---- turns
 
--- All that the turns handed on, joined, is the answer to all that they heard, joined: it makes no difference where the answers are cut into pages.
+-- All that the turns handed on, joined, is the answer to all that they heard, joined: it makes no difference where the answers are cut
+-- into pages.
 pub joined : (most : ℕ) (c : Course) (hs : List Handed) → Follow most c hs → streaming most c (bytesOf hs) .text ≡ c .text ++ textOf hs
 joined most c [] f = sym (append-nil (c .text))
 joined most c (h ∷ hs) f =

@@ -1,11 +1,13 @@
--- The input as one stream of bytes, answered line by line, and what a turn of the program makes of it. Definitions only; proofs/Streams.antt shows that it makes no difference where the input is cut into chunks, or the answers into pages.
+-- The input as one stream of bytes, answered line by line, and what a turn of the program makes of it. Definitions only;
+-- proofs/Streams.antt shows that it makes no difference where the input is cut into chunks, or the answers into pages.
 --   Course             how far it went: the desk, the bytes since the last newline, and all answers so far
 --   grown c bs         some bytes more, none of them a newline
 --   ended most c       the line has come to its end
 --   streaming most c bs   after the bytes bs; a newline, 10, ends a line
 --   lastLine most c    after the input's end: "A last line without a newline counts as a line"
 --   Holds c line lab   the program's state is that of c: its desk, and the line in its buffer
---   Stands c before line lab page   besides, the answers so far are those before, and then what the page holds: none is lost, and none is there twice
+--   Stands c before line lab page   besides, the answers so far are those before, and then what the page holds: none is lost, and none
+--                                   is there twice
 --   heard now chunk next   the bytes of the chunk that a turn has heard: from where it began up to `next`
 --   turned most c ..   after a turn: the input's end, or those bytes
 --   Handed             what a turn has heard, and what it handed to `write`

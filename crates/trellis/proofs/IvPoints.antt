@@ -3,7 +3,8 @@
 --   label-bits          the labels of a valid symbol give its bits; point-bits: so do its points
 --   symbols-of          pairs of points of the map are the points of valid symbols
 --   one-symbols         and of no others
---   points-iv-eight     with a free start pairs of points are allowed exactly if they are points of the map and each five in a row meet IV-8
+--   points-iv-eight     with a free start pairs of points are allowed exactly if they are points of the map and each five in a row meet
+--                       IV-8
 --   points-four         up to four, any points of the map are allowed
 use mathlib.Core.Path.{_≡_, refl, sym, ap, ap₂, subst, _∙_}
 use mathlib.Core.List.{List, [], _∷_, map}

@@ -1,6 +1,7 @@
 -- The words of symbols, from 01: "Words follow from the symbols, q taken from differences (IV-5)", and from 02, Wish 5: "With a free
--- start the first word now has bits 1 and 2 zero, and I1, w1 and w2 as before; a named start keeps the old reading". Words are made by `packed` of `wei`, and by nothing else. All lists here stand in the order of
--- time. That this undoes the sender's way from words to symbols (wei/specs/Symbol, `symbolsFrom`) is proved in proofs/Words.
+-- start the first word now has bits 1 and 2 zero, and I1, w1 and w2 as before; a named start keeps the old reading". Words are made by
+-- `packed` of `wei`, and by nothing else. All lists here stand in the order of time. That this undoes the sender's way from words to
+-- symbols (wei/specs/Symbol, `symbolsFrom`) is proved in proofs/Words.
 --   wordParts q c            the parts of the word of c, where q is the turn before
 --   word u q c               that word
 --   turnAfter q c            the turn after c, whatever q was

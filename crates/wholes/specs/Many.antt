@@ -1,7 +1,8 @@
 -- The whole numbers that a list of tokens writes, read into a list that is lent. Definitions only.
 --   firstWholes room ts    the numbers of the tokens ts, up to the first that writes none, and no more than there is room for
 --   manyOf room ts         how many numbers the tokens write, if every one writes a number and there is room for all
---   Lists s list r list'   r is that of the tokens of s, with as much room as list has; list' has the first numbers at its start and is list elsewhere
+--   Lists s list r list'   r is that of the tokens of s, with as much room as list has; list' has the first numbers at its start and is
+--                          list elsewhere
 use Prim.Native.Nat.{ℕ, zero, suc, _+_}
 use mathlib.Core.Path.{_≡_}
 use mathlib.Core.List.{List, [], _∷_, _++_}

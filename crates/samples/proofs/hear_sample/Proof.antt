@@ -1,4 +1,5 @@
--- `hear_sample` meets its contract: each way through the code knows which answer it has of each coordinate, and a number read out of an answer fits an `i32`.
+-- `hear_sample` meets its contract: each way through the code knows which answer it has of each coordinate, and a number read out of an
+-- answer fits an `i32`.
 use borrow.Author.Needs.{needs}
 use mathlib.Core.Path.{_≡_, sym, ap, _∙_}
 use mir.Syntax.{w32}

@@ -1,4 +1,5 @@
--- `serve`: the buffers keep their lengths from turn to turn, and the turns are counted down. The turns so far have brought the program to where it is: what was heard is answered, and handed on page by page (`Served`, `joined`).
+-- `serve`: the buffers keep their lengths from turn to turn, and the turns are counted down. The turns so far have brought the program
+-- to where it is: what was heard is answered, and handed on page by page (`Served`, `joined`).
 use Prim.Native.Nat.{_≤_}
 use mathlib.Core.Path.{_≡_, sym, ap, _∙_}
 use native.Mathlib.Omega.{arith}

@@ -45,7 +45,7 @@ use Rattle.demfizagu.specs.Calls.{Call, callOf, senderOpening, sendCall, receiv
 use Rattle.demfizagu.specs.Promise as library
 use Rattle.promises.specs.Talk as ends
 use Rattle.promises.specs.Table as table
-use Rattle.promises.specs.Library.{taken, written, LibraryHears, opens, hears, refuses, short, copied, LibraryEnded}
+use Rattle.promises.specs.Library.{taken, written, LibraryHears, opens, hears, refuses, short, short-finish, copied, LibraryEnded}
 use Rattle.promises.specs.Library as calls
 use Rattle.promises.proofs.Follows as follows
 use Rattle.promises.proofs.Demand1 as demand1
@@ -101,6 +101,10 @@ too-short : (state : List ℕ) (piece : List ℤ) (out told : List ℕ) → leng
 unfolding hearCall
 too-short state piece out told few = rw (lt-ltb (length told) 3 few)
 
+too-short-to-finish : (state out told : List ℕ) → length told < 3 → finishCall state out told .receiver ≡ receiverIn state
+unfolding finishCall
+too-short-to-finish state out told few = rw (lt-ltb (length told) 3 few)
+
 -- ---- runs
 
 module _ (k : Accord) (w : ℕ) (b : Start) where
@@ -126,6 +130,7 @@ module _ (k : Accord) (w : ℕ) (b : Start) where
       rw (d .written-is, d .reads)
       (ends.refuses (talks l vs s h) out o (answer r) (doors.finishes (receiverIn s) out (answer r) o (is-answer r out n s′ o told′ d)) (λ e. z (d .number ∙ e)))
   talks took ws state (short {state = s} h piece out told few n s′ o told′ a) = subst (ends.Talk k w b took ws) (sym (a .reads ∙ too-short s piece out told few)) (talks took ws s h)
+  talks took ws state (short-finish {state = s} h out told few n s′ o told′ a) = subst (ends.Talk k w b took ws) (sym (a .reads ∙ too-short-to-finish s out told few)) (talks took ws s h)
   talks took ws state (copied {state = s} h other e) = subst (ends.Talk k w b took ws) (sym e) (talks took ws s h)
 
   pub ended : (took : List (Two Received)) (ws : List ℕ) → LibraryEnded k w b took ws → ends.Ended k w b took ws

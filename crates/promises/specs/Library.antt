@@ -45,6 +45,8 @@ pub data LibraryHears (k : Accord) (w : ℕ) (b : Start) : List (Two Received) �
   -- a `told` that is too short is an 8, and nothing happens
   short : {took : List (Two Received)} {ws state : List ℕ} → LibraryHears k w b took ws state →
       (piece : List ℤ) (out told : List ℕ) → length told < 3 → (n : ℕ) (state′ o told′ : List ℕ) → library.Answers (hearCall state piece out told) n state′ o told′ → LibraryHears k w b took ws state′
+  short-finish : {took : List (Two Received)} {ws state : List ℕ} → LibraryHears k w b took ws state →
+      (out told : List ℕ) → length told < 3 → (n : ℕ) (state′ o told′ : List ℕ) → library.Answers (finishCall state out told) n state′ o told′ → LibraryHears k w b took ws state′
   copied : {took : List (Two Received)} {ws state : List ℕ} → LibraryHears k w b took ws state → (other : List ℕ) → receiverIn other ≡ receiverIn state → LibraryHears k w b took ws other
 
 pub data LibraryEnded (k : Accord) (w : ℕ) (b : Start) : List (Two Received) → List ℕ → Type 0 where

@@ -35,7 +35,8 @@ use Rattle.machine.specs.Machine.{freshSums, opened, shut, wayFrom, agreedOf, r
 use Rattle.openings.specs.declared.Start.{Start}
 use Rattle.openings.specs.declared.Start.the-variants.{Free, At}
 use Rattle.openings.specs.Opening.{opening}
-use Rattle.receiver.specs.Doors.{Ran, symbolAt, running, hearing, finishing}
+use Rattle.pieces.specs.Running.{Ran, symbolAt, running}
+use Rattle.receiver.specs.Doors.{hearing, finishing}
 
 -- width 0 and window w
 abbrev pub freshly : ℕ → Start → Receiver

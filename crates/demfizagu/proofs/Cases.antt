@@ -25,7 +25,7 @@ use Rattle.openings.specs.declared.Opened.{Opened}
 use Rattle.openings.specs.Opening as openings
 use Rattle.told.specs.Piece.{pieceOf}
 use Rattle.receiver.specs.declared.Answer.{Answer}
-use Rattle.receiver.specs.declared.Heard.{Heard}
+use Rattle.pieces.specs.declared.Heard.{Heard}
 use Rattle.receiver.specs.Doors.{Ran, hearing, finishing}
 use Rattle.receiver.specs.Promise as receives
 use Rattle.receiver.proofs.Doors.{hear-closed, lent-live}

@@ -21,7 +21,8 @@ use Rattle.reasons.specs.Reason.{givenOf, isDone}
 use Rattle.machine.proofs.Sound.{sound-live}
 use Rattle.openings.specs.declared.Start.{Start}
 use Rattle.openings.specs.Given.{startFits}
-use Rattle.receiver.specs.Doors.{Ran, symbolAt, running, hearing, finishing}
+use Rattle.pieces.specs.Running.{Ran, symbolAt, running}
+use Rattle.receiver.specs.Doors.{hearing, finishing}
 use Rattle.openings.specs.Opening.{opening}
 use Rattle.told.specs.Piece.{Piece}
 use Rattle.stored.specs.State.{readSender, readReceiver}

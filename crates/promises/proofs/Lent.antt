@@ -11,7 +11,7 @@ use Rattle.nearest.specs.declared.Received.{Received}
 use Rattle.told.specs.Piece.{Piece}
 use Rattle.openings.specs.declared.Start.{Start}
 use Rattle.openings.specs.Opening.{Receiver}
-use Rattle.receiver.specs.declared.Heard.{Heard}
+use Rattle.pieces.specs.declared.Heard.{Heard}
 use Rattle.receiver.specs.Promise.{partsOf, answerOf, HearsLent}
 use Rattle.receiver.proofs.Doors.{hears-lent}
 use Rattle.promises.specs.Talk.{Talk, hears}

@@ -17,6 +17,7 @@ use Rattle.machine.specs.declared.Core.{Core}
 use Rattle.machine.specs.declared.Receiver.{Receiver}
 use Rattle.reasons.specs.declared.Why.the-variants.{Done, NoRoom, Closed, Uneven}
 use Rattle.machine.specs.Machine.{shut, lastWords, sound, wayFrom, machineOf}
+use Rattle.machine.specs.Taken.{whole}
 use Rattle.sums.specs.Sums.{endOf}
 use Rattle.sums.proofs.UpTo.{and-both}
 use Rattle.told.specs.Told.{Told, speakerOf, Fine, withHeard}
@@ -25,12 +26,13 @@ use Rattle.machine.proofs.Owed.{machine-same, sound-told, last-told, rest-many}
 use Rattle.machine.proofs.Finish.{last-many, last-from}
 use Rattle.machine.proofs.Sound.{sound-live}
 use Rattle.receiver.specs.declared.Answer.{Answer}
-use Rattle.receiver.specs.declared.Heard.{Heard}
+use Rattle.pieces.specs.declared.Heard.{Heard}
 use Rattle.told.specs.Piece.{Piece}
-use Rattle.receiver.specs.Doors.{Ran, stopped, running, hearing, finishing}
+use Rattle.pieces.specs.Running.{Ran, running, RunsLent}
+use Rattle.receiver.specs.Doors.{stopped, hearing, finishing}
 use Rattle.told.specs.Owed.{Owed, endedOf, pieceOwed, FinishOwed, finishOwed}
 use Rattle.receiver.specs.Promise.{Is, partsOf, lentLive, answerOf, Hears, Finishes}
-use Rattle.receiver.proofs.Pieces.{walked, RunsAs, runs}
+use Rattle.pieces.proofs.Runs.{walked, RunsAs, runs}
 
 -- ---- a piece
 
@@ -170,10 +172,12 @@ hears-lent rx p out h sums planes picks o n is =
     hears rx p out (answerOf (rx .live) h sums planes picks) o
     (subst (λ (b : Bool). Is (hearing (partsOf b (rx .core) (rx .sums) (rx .planes) (rx .picks)) p (length out)) out (answerOf b h sums planes picks) o) (lent-live (rx .live) (rx .picks) n) is)
 
--- an open receiver is live
-pub hear-parts : (live : Bool) (core : Core) (sums planes picks out : List ℕ) (p : Piece) (e : sound (partsOf live core sums planes picks) ≡ true) → p .fits ≡ true → (h : Heard) (sums₁ planes₁ picks₁ o : List ℕ)
-    → Is (running (p .symbols) (partsOf true core sums planes picks) 0 [] (length out)) out (answerOf true h sums₁ planes₁ picks₁) o
-    → Is (hearing (partsOf live core sums planes picks) p (length out)) out (answerOf live h sums₁ planes₁ picks₁) o
-hear-parts live core sums planes picks out p e z h sums₁ planes₁ picks₁ o is =
+-- an open receiver is live, and its piece is a run
+pub hear-parts : (live : Bool) (core : Core) (sums planes picks out : List ℕ) (p : Piece) → sound (partsOf live core sums planes picks) ≡ true → p .fits ≡ true →
+    (h : Heard) (sums₁ planes₁ picks₁ o : List ℕ) → RunsLent (running (p .symbols) (whole core sums planes picks) 0 [] (length out)) out h sums₁ planes₁ picks₁ o →
+    Is (hearing (partsOf live core sums planes picks) p (length out)) out (answerOf live h sums₁ planes₁ picks₁) o
+hear-parts live core sums planes picks out p e z h sums₁ planes₁ picks₁ o k =
     hear-is (partsOf live core sums planes picks) out p e z (answerOf live h sums₁ planes₁ picks₁) o
-    (subst (λ (b : Bool). Is (running (p .symbols) (partsOf b core sums planes picks) 0 [] (length out)) out (answerOf b h sums₁ planes₁ picks₁) o) (sym (sound-live (partsOf live core sums planes picks) e)) is)
+    (subst (λ (b : Bool). Is (running (p .symbols) (partsOf b core sums planes picks) 0 [] (length out)) out (answerOf b h sums₁ planes₁ picks₁) o)
+    (sym (sound-live (partsOf live core sums planes picks) e))
+    (record { receiver = k .receiver; taken = k .taken; written = k .written; given = k .given; output = k .output }))

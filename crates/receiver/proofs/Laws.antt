@@ -4,70 +4,35 @@
 --   never-short                 with room for all pending words and the piece's own, no piece is refused with 8
 use mathlib.Core.Path.{_≡_, refl}
 use mathlib.Core.Bool.{Bool, true, false, cond}
-use mathlib.Core.List.{List, [], _∷_, _++_}
+use mathlib.Core.List.{List, [], _∷_}
 use Prim.Native.Nat.{ℕ, _+_, _-_, _≤_, _<_}
 use native.Mathlib.Omega.{arith}
 use borrow.Author.Tests.{eqb-true, ltb-true, ltb-false, leb-false}
 use lib.Dec.{eqb, leb, ltb}
-use lib.ListN.{length, take, length-append, length-take}
+use lib.ListN.{length}
 use Rattle.calls.specs.Calls.{walk, after, fresh, rest}
 use Rattle.trellis.specs.Measure.{Two}
-use Rattle.trellis.specs.Words.{word, wordsFrom, turnAfter}
-use Rattle.trellis.proofs.Speak.{speak-length}
 use Rattle.nearest.specs.declared.Received.{Received}
 use Rattle.nearest.specs.Line.{BothInRange}
 use Rattle.machine.specs.declared.Receiver.{Receiver}
 use Rattle.reasons.specs.declared.Why.the-variants.{Done, NoRoom, Closed, Uneven}
-use Rattle.select.specs.Select.{prevIn}
-use Rattle.machine.specs.Machine.{Outcome, shut, nextSteps, wayFrom, taking, agreedOf, keptOf, releasedOf, lastWords, sound}
+use Rattle.machine.specs.Machine.{shut, lastWords, sound}
 use Rattle.told.specs.Told.{Told, withHeard, speakerOf, pendingAfter, faultOf, judgeSymbol, judgeOf, Fine}
-use Rattle.reasons.specs.Reason.{reason, isDone}
+use Rattle.reasons.specs.Reason.{reason}
 use Rattle.machine.proofs.Finish.{last-many}
 use Rattle.machine.proofs.Owed.{fresh-kept, rest-most}
 pub use Rattle.machine.proofs.Owed.{fresh-most}
 use Rattle.receiver.specs.declared.Answer.{Answer}
 use Rattle.told.specs.Piece.{Piece}
-use Rattle.receiver.specs.Doors.{symbolAt, stopped, running, hearing, finishing}
+use Rattle.pieces.specs.Running.{Ran, running}
+use Rattle.receiver.specs.Doors.{stopped, hearing, finishing}
 use Rattle.told.specs.Owed.{Owed, endedOf, pieceOwed, FinishOwed, finishOwed}
 use Rattle.receiver.specs.Promise.{Hears, Finishes}
 use Rattle.told.proofs.Telling.{in-range}
-use Rattle.receiver.proofs.Symbols.{symbol-judged}
+use Rattle.pieces.proofs.Room.{running-few}
+use Rattle.pieces.proofs.Symbols.{symbol-judged}
 
 -- ---- room
-
-module _ (rx : Receiver) (y : Two Received) (room : ℕ) where
-  abbrev Few : Outcome → Type 0
-  Few o = length (o .words) ≤ room
-
-  either : (b : Bool) (p q : Outcome) → Few p → (b ≡ false → Few q) → Few (cond b p q)
-  either true p q f g = f
-  either false p q f g = g refl
-
-  released-few : length (wordsFrom (rx .core .accord .u) (rx .core .turn) (releasedOf rx y)) ≤ agreedOf rx y
-  unfolding releasedOf
-  released-few =
-      let way = wayFrom (rx .core) (rx .planes) (rx .picks) (prevIn (nextSteps rx y) 0) in
-      omega (arith, speak-length turnAfter (word (rx .core .accord .u)) (rx .core .turn) (take (agreedOf rx y) way), length-take (agreedOf rx y) way)
-
-  symbol-few : Few (symbolAt rx y room)
-  unfolding symbolAt taking
-  symbol-few =
-      either (ltb (faultOf y) 4) _ _ (omega arith)
-      (λ _. either (eqb (rx .core .taken) 4294967295) _ _ (omega arith)
-      (λ _. either (ltb (rx .core .window) (keptOf rx y)) _ _ (omega arith)
-      (λ _. either (ltb room (agreedOf rx y)) _ _ (omega arith) (λ e. omega (arith, released-few, ltb-false room (agreedOf rx y) e)))))
-
-running-few : (zs : List (Two Received)) (rx : Receiver) (n : ℕ) (ws : List ℕ) (room : ℕ) → length ws ≤ room → length (running zs rx n ws room .words) ≤ room
-unfolding running
-running-few [] rx n ws room h = h
-running-few (y ∷ zs) rx n ws room h =
-    let o = symbolAt rx y (room - length ws) in
-    go (isDone (o .why)) (running-few zs (o .receiver) (n + 1) (ws ++ o .words) room (omega (arith, length-append ws (o .words), symbol-few rx y (room - length ws))))
-  where
-    go : (b : Bool) → length (running zs (symbolAt rx y (room - length ws) .receiver) (n + 1) (ws ++ symbolAt rx y (room - length ws) .words) room .words) ≤ room →
-        length (cond b (running zs (symbolAt rx y (room - length ws) .receiver) (n + 1) (ws ++ symbolAt rx y (room - length ws) .words) room) (record { receiver = rx; taken = n; words = ws; why = symbolAt rx y (room - length ws) .why }) .words) ≤ room
-    go true k = k
-    go false k = h
 
 module _ (rx : Receiver) (room : ℕ) where
   hearing-few : (p : Piece) → length (hearing rx p room .words) ≤ room

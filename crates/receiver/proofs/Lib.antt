@@ -1,8 +1,3 @@
-pub mod Symbols
-pub mod Pieces
-pub mod Lent
-pub mod Kept
-pub mod Going
 pub mod Doors
 pub mod Settled
 pub mod Laws

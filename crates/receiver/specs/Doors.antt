@@ -1,43 +1,23 @@
--- What the doors do to any record, as functions: the machine behind the tests that come first. The code equals these
--- functions; what they owe is said in told/specs/Owed.
---   symbolAt rx y room        one symbol: 5 first, then what `taking` says
---   Ran, running              symbol by symbol, up to the first refusal, after the words ws and so many symbols
+-- What the doors do to any record, as functions: a run of symbols (pieces/specs/Running) behind the tests that come first. The code equals
+-- these functions; what they owe is said in told/specs/Owed.
 --   hearing rx p room         a piece: 9, 10, then its symbols
 --   finishing rx room         finish: 9, 8, or the pending words of the answer and a closed receiver
-use Prim.Native.Nat.{ℕ, _+_, _-_}
+use Prim.Native.Nat.{ℕ}
 use mathlib.Core.Bool.{cond}
-use mathlib.Core.List.{List, [], _∷_, _++_}
+use mathlib.Core.List.{[]}
 use lib.Dec.{ltb}
-use lib.ListN.{length}
-use Rattle.trellis.specs.Measure.{Two}
-use Rattle.nearest.specs.declared.Received.{Received}
 use Rattle.machine.specs.declared.Receiver.{Receiver}
 use Rattle.reasons.specs.declared.Why.{Why}
-use Rattle.reasons.specs.declared.Why.the-variants.{Done, BadSample, NoRoom, Closed, Uneven}
-use Rattle.machine.specs.Machine.{shut, Outcome, refused, taking, lastWords, sound}
-use Rattle.reasons.specs.Reason.{isDone}
+use Rattle.reasons.specs.declared.Why.the-variants.{Done, NoRoom, Closed, Uneven}
+use Rattle.machine.specs.Machine.{shut, lastWords, sound}
 use Rattle.told.specs.Piece.{Piece}
-use Rattle.told.specs.Told.{faultOf}
+use Rattle.pieces.specs.Running.{running}
+pub use Rattle.pieces.specs.Running.{Ran}
 
 -- ---- a piece
 
-unfoldable pub symbolAt : Receiver → Two Received → ℕ → Outcome
-symbolAt rx y room = cond (ltb (faultOf y) 4) (refused rx (BadSample (faultOf y))) (taking rx y room)
-
-pub record Ran : Type 0 where
-  pub receiver : Receiver
-  pub taken : ℕ
-  pub words : List ℕ
-  pub why : Why
-
 abbrev pub stopped : Receiver → Why → Ran
 stopped rx w = record { receiver = rx; taken = 0; words = []; why = w }
-
-unfoldable pub running : List (Two Received) → Receiver → ℕ → List ℕ → ℕ → Ran
-running [] rx n ws room = record { receiver = rx; taken = n; words = ws; why = Done }
-running (y ∷ ys) rx n ws room =
-    let o = symbolAt rx y (room - length ws) in
-    cond (isDone (o .why)) (running ys (o .receiver) (n + 1) (ws ++ o .words) room) (record { receiver = rx; taken = n; words = ws; why = o .why })
 
 -- "A piece: 9, 10, then symbol by symbol"
 unfoldable pub hearing : Receiver → Piece → ℕ → Ran

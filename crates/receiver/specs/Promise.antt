@@ -1,34 +1,27 @@
 -- The promises of the receiver's doors. `always` fixes result and output for every record, so any two results are equal (proofs/Settled);
 -- `owed` says, for whatever the receiver has been told, what that is in the words of 01.
---   Written words out o      o is the output `out` with the words in its first places, and all else unchanged
 --   partsOf, answerOf        a receiver, and an answer, put together from their parts
 --   lentLive live picks      whether parts that are lent are those of a live receiver
---   RunsLent, HearsLent      what a run of symbols and a piece do to such parts
+--   HearsLent                what a piece does to such parts
 --   Hears rx p out r o       the promise of `hear`, where the output holds `out` before the call and `o` after it
 --   Finishes rx out r o      the promise of `finish`
 use Prim.Native.Nat.{ℕ}
 use mathlib.Core.Path.{_≡_}
-use mathlib.Core.Bool.{Bool, true, cond, _&&_}
-use mathlib.Core.List.{List, [], _++_}
+use mathlib.Core.Bool.{Bool, cond, _&&_}
+use mathlib.Core.List.{List}
 use lib.Dec.{eqb}
-use lib.ListN.{length, drop}
+use lib.ListN.{length}
 use Rattle.machine.specs.declared.Core.{Core}
 use Rattle.machine.specs.declared.Receiver.{Receiver}
 use Rattle.machine.specs.Machine.{shut, machineOf}
 use Rattle.told.specs.Told.{Told, Fine}
 use Rattle.reasons.specs.Reason.{givenOf}
 use Rattle.receiver.specs.declared.Answer.{Answer}
-use Rattle.receiver.specs.declared.Heard.{Heard}
-use Rattle.trellis.specs.Measure.{Two}
-use Rattle.nearest.specs.declared.Received.{Received}
-use Rattle.machine.specs.Taken.{whole}
+use Rattle.pieces.specs.declared.Heard.{Heard}
+use Rattle.pieces.specs.Running.{Ran, Written}
 use Rattle.told.specs.Piece.{Piece}
-use Rattle.receiver.specs.Doors.{Ran, running, hearing, finishing}
+use Rattle.receiver.specs.Doors.{hearing, finishing}
 use Rattle.told.specs.Owed.{Owed, pieceOwed, FinishOwed, finishOwed}
-
--- "Released words go straight after those already written by that call. All other places of the output stay unchanged"
-abbrev pub Written : List ℕ → List ℕ → List ℕ → Type 0
-Written words out o = o ≡ words ++ drop (length words) out
 
 -- ---- a piece and a finish
 
@@ -51,11 +44,7 @@ lentLive live picks = live && eqb (length picks) 72
 abbrev pub answerOf : Bool → Heard → List ℕ → List ℕ → List ℕ → Answer
 answerOf live r sums planes picks = record { receiver = partsOf live (r .core) sums planes picks; taken = r .taken; written = r .written; why = r .why }
 
--- the promises of a run and of a piece to a receiver in its parts, whose lists are lent: before the call they hold sums, planes and picks
-abbrev pub RunsLent : Core → List ℕ → List ℕ → List ℕ → List (Two Received) → List ℕ → Heard → List ℕ → List ℕ → List ℕ → List ℕ → Type 0
-RunsLent core sums planes picks ys out r sums′ planes′ picks′ o =
-    Is (running ys (whole core sums planes picks) 0 [] (length out)) out (answerOf true r sums′ planes′ picks′) o
-
+-- the promise of a piece to a receiver in its parts, whose lists are lent: before the call they hold sums, planes and picks
 abbrev pub HearsLent : Bool → Core → List ℕ → List ℕ → List ℕ → Piece → List ℕ → Heard → List ℕ → List ℕ → List ℕ → List ℕ → Type 0
 HearsLent live core sums planes picks p out r sums′ planes′ picks′ o =
     Is (hearing (partsOf (lentLive live picks) core sums planes picks) p (length out)) out (answerOf (lentLive live picks) r sums′ planes′ picks′) o

@@ -6,76 +6,20 @@
 // receiver as it was. A closed receiver, and any record that is out of range, is answered 9.
 use machine::Core;
 use machine::Receiver;
-use machine::Took;
-use nearest::Chart;
-use nearest::Received;
+use pieces::Heard;
 use reasons::Why;
 ghost use mathlib.Core.Path.{_≡_};
-ghost use mathlib.Core.Bool.{true, _&&_};
-ghost use Prim.Native.Nat.{_%_};
-ghost use lib.ListN.{length};
-ghost use Rattle.nearest.specs.Found.{chartOf, heardAs};
-ghost use Rattle.machine.specs.Machine.{core, topSum, soundCore, sound};
+ghost use mathlib.Core.Bool.{_&&_};
+ghost use Rattle.machine.specs.Machine.{core, topSum, soundCore};
 ghost use Rattle.sums.specs.Sums.{allUpTo};
-ghost use Rattle.machine.specs.Taken.{whole, TookIs};
-ghost use Rattle.told.specs.Told.{faultOf};
-ghost use Rattle.told.specs.Piece.{symbolsOf, symbolFrom, pieceOf};
-ghost use Rattle.receiver.specs.Doors.{symbolAt};
-ghost use Rattle.receiver.specs.Promise.{lentLive, RunsLent, HearsLent, Hears, Finishes};
+ghost use Rattle.told.specs.Piece.{pieceOf};
+ghost use Rattle.receiver.specs.Promise.{lentLive, HearsLent, Hears, Finishes};
 
 pub struct Answer {
     pub receiver: Receiver,
     pub taken: usize,
     pub written: usize,
     pub why: Why,
-}
-
-// The place of the first coordinate out of range, or 4.
-fn fault(x0: i32, x1: i32, x2: i32, x3: i32) -> u32
-    ensures { λ r. ⌜ r ≡ faultOf (heardAs (record { x = x0; y = x1 }) (record { x = x2; y = x3 })) ⌝ }
-{
-    if !nearest::is_coordinate(x0) {
-        return 0;
-    }
-    if !nearest::is_coordinate(x1) {
-        return 1;
-    }
-    if !nearest::is_coordinate(x2) {
-        return 2;
-    }
-    if !nearest::is_coordinate(x3) {
-        return 3;
-    }
-    4
-}
-
-// One symbol of a piece. A coordinate out of range is refused before anything is searched.
-fn symbol(
-    t: &Chart,
-    core: Core,
-    x0: i32,
-    x1: i32,
-    x2: i32,
-    x3: i32,
-    sums: &mut [u64; 16],
-    planes: &mut [u64; 48],
-    picks: &mut [u64],
-    out: &mut [u32],
-) -> Took
-    requires { ⌜ (now t ≡ chartOf (core .accord)) × (sound (whole core (now sums) (now planes) (now picks)) ≡ true) × (length (now picks) ≡ 72) ⌝ }
-    ensures { λ r. ⌜ TookIs (symbolAt (whole core (now (sums .entry)) (now (planes .entry)) (now (picks .entry))) (symbolFrom x0 x1 x2 x3) (length (now (out .entry)))) r (now (sums .exit)) (now (planes .exit)) (now (picks .exit)) (now (out .entry)) (now (out .exit)) ⌝ }
-{
-    let place = fault(x0, x1, x2, x3);
-    if place < 4 {
-        return Took {
-            core: core,
-            written: 0,
-            why: Why::BadSample(place),
-        };
-    }
-    let first = Received { x: x0, y: x1 };
-    let second = Received { x: x2, y: x3 };
-    machine::take_symbol(t, core, sums, planes, picks, first, second, out)
 }
 
 fn stopped(rx: Receiver, why: Why) -> Answer
@@ -85,63 +29,6 @@ fn stopped(rx: Receiver, why: Why) -> Answer
         receiver: rx,
         taken: 0,
         written: 0,
-        why: why,
-    }
-}
-
-// How a piece went, where the receiver's arrays are lent: the numbers of the receiver after it stand beside the answer.
-pub struct Heard {
-    pub core: Core,
-    pub taken: usize,
-    pub written: usize,
-    pub why: Why,
-}
-
-// The symbols of a piece, one after another, up to the first that is refused.
-fn hear_symbols(
-    start: Core,
-    samples: &[i32],
-    sums: &mut [u64; 16],
-    planes: &mut [u64; 48],
-    picks: &mut [u64],
-    out: &mut [u32],
-) -> Heard
-    requires { ⌜ (sound (whole start (now sums) (now planes) (now picks)) ≡ true) × (length (now samples) % 4 ≡ 0) × (length (now picks) ≡ 72) ⌝ }
-    ensures { λ r. ⌜ RunsLent start (now (sums .entry)) (now (planes .entry)) (now (picks .entry)) (symbolsOf (now (samples .entry))) (now (out .entry)) r (now (sums .exit)) (now (planes .exit)) (now (picks .exit)) (now (out .exit)) ⌝ }
-{
-    let accord = start.accord;
-    let chart = nearest::chart(accord);
-    let mut core = start;
-    let mut taken: usize = 0;
-    let mut written: usize = 0;
-    let mut why = Why::Done;
-    let mut i: usize = 0;
-    while i < samples.len() {
-        let t = symbol(
-            &chart,
-            core,
-            samples[i],
-            samples[i + 1],
-            samples[i + 2],
-            samples[i + 3],
-            sums,
-            planes,
-            picks,
-            &mut out[written..],
-        );
-        core = t.core;
-        written = written + t.written;
-        why = t.why;
-        if !reasons::is_done(why) {
-            break;
-        }
-        taken += 1;
-        i += 4;
-    }
-    Heard {
-        core: core,
-        taken: taken,
-        written: written,
         why: why,
     }
 }
@@ -186,7 +73,7 @@ pub fn hear_lent(
     if samples.len() % 4 != 0 {
         return nothing_heard(core, Why::Uneven);
     }
-    hear_symbols(core, samples, sums, planes, picks, out)
+    pieces::hear_symbols(core, samples, sums, planes, picks, out)
 }
 
 // A piece of four coordinates to a symbol. Refused as a whole where the receiver is closed or the length is no multiple of 4. The

@@ -16,8 +16,8 @@ use Rattle.machine.specs.declared.Receiver.{Receiver}
 use Rattle.machine.specs.Machine.{Outcome, machineAfter}
 use Rattle.told.specs.Told.{Told, speakerOf, judgeSymbol, judgeOf, Fine, withHeard}
 use Rattle.reasons.specs.Reason.{Reason, givenOf, isDone}
-use Rattle.receiver.specs.Doors.{symbolAt, Ran, running}
-use Rattle.receiver.proofs.Symbols.{Judged, symbol-judged}
+use Rattle.pieces.specs.Running.{symbolAt, Ran, running}
+use Rattle.pieces.proofs.Symbols.{Judged, symbol-judged}
 
 -- how the walk goes after ys
 abbrev pub walked : (t : Told) → List (Two Received) → List (Two Received) → ℕ → Ended (speakerOf t) (judgeOf t)

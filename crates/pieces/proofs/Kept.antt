@@ -1,4 +1,5 @@
 -- What one symbol leaves: refused, nothing written and the receiver as it was; taken, a receiver that is sound again.
+--   either           what holds of both of two outcomes holds of the one that a test picks
 --   symbol-refused   a refused symbol leaves all as it was
 --   symbol-sound     a receiver stays sound
 --   symbol-accord    and keeps its accord
@@ -22,11 +23,11 @@ use Rattle.machine.specs.Taken.{whole, TookIs}
 use Rattle.reasons.specs.Reason.{isDone}
 use Rattle.told.specs.Told.{faultOf}
 use Rattle.machine.proofs.Sound.{grown-sound}
-use Rattle.receiver.specs.Doors.{symbolAt}
+use Rattle.pieces.specs.Running.{symbolAt}
 use Rattle.told.proofs.Telling.{in-range}
 
 -- either of two outcomes
-either : (P : Outcome → Type 0) (b : Bool) (x y : Outcome) → (b ≡ true → P x) → (b ≡ false → P y) → P (cond b x y)
+pub either : (P : Outcome → Type 0) (b : Bool) (x y : Outcome) → (b ≡ true → P x) → (b ≡ false → P y) → P (cond b x y)
 either P true x y f g = f refl
 either P false x y f g = g refl
 

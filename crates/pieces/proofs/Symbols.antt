@@ -19,7 +19,7 @@ use Rattle.told.specs.Told.{Told, speakerOf, faultOf, judgeSymbol, Fine, withHe
 use Rattle.reasons.specs.Reason.{Reason, givenOf}
 use Rattle.machine.proofs.Owed.{taking-told, machine-same}
 use Rattle.told.proofs.Telling.{telling-judge, in-range}
-use Rattle.receiver.specs.Doors.{symbolAt}
+use Rattle.pieces.specs.Running.{symbolAt}
 
 pub record Judged (t : Told) (ys : List (Two Received)) (y : Two Received) (room : ℕ) (o : Outcome) : Type 0 where
   pub given : givenOf (o .why) ≡ judgeSymbol t ys y room

@@ -1,0 +1,127 @@
+// The symbols of a piece, heard by a receiver in its parts, whose arrays are lent: one symbol, and one after another up to the first that is
+// refused. The crate leans on the machine, which takes a symbol that is in range; the doors of `receiver` test a record and a piece's
+// length before they come here.
+use machine::Core;
+use machine::Took;
+use nearest::Chart;
+use nearest::Received;
+use reasons::Why;
+ghost use mathlib.Core.Path.{_≡_};
+ghost use mathlib.Core.Bool.{true};
+ghost use mathlib.Core.List.{[]};
+ghost use Prim.Native.Nat.{_+_, _%_, _≤_};
+ghost use lib.ListN.{length};
+ghost use Rattle.nearest.specs.Found.{chartOf, heardAs};
+ghost use Rattle.machine.specs.Machine.{sound};
+ghost use Rattle.machine.specs.Taken.{whole, TookIs};
+ghost use Rattle.told.specs.Told.{faultOf};
+ghost use Rattle.told.specs.Piece.{symbolsOf};
+ghost use Rattle.pieces.specs.Running.{symbolIn, symbolAt, running, RunsLent};
+
+// The place of the first coordinate out of range, or 4.
+fn fault(first: Received, second: Received) -> u32
+    ensures { λ r. ⌜ r ≡ faultOf (heardAs first second) ⌝ }
+{
+    if !nearest::is_coordinate(first.x) {
+        return 0;
+    }
+    if !nearest::is_coordinate(first.y) {
+        return 1;
+    }
+    if !nearest::is_coordinate(second.x) {
+        return 2;
+    }
+    if !nearest::is_coordinate(second.y) {
+        return 3;
+    }
+    4
+}
+
+// The symbol of a piece from the place i on. A coordinate out of range is refused before anything is searched.
+fn symbol(
+    t: &Chart,
+    core: Core,
+    samples: &[i32],
+    i: usize,
+    sums: &mut [u64; 16],
+    planes: &mut [u64; 48],
+    picks: &mut [u64],
+    out: &mut [u32],
+) -> Took
+    requires { ⌜ (now t ≡ chartOf (core .accord)) × (i + 4 ≤ length (now samples)) ⌝ }
+    requires { ⌜ (sound (whole core (now sums) (now planes) (now picks)) ≡ true) × (length (now picks) ≡ 72) ⌝ }
+    ensures { λ r. ⌜ TookIs (symbolAt (whole core (now (sums .entry)) (now (planes .entry)) (now (picks .entry))) (symbolIn (now (samples .entry)) i) (length (now (out .entry)))) r (now (sums .exit)) (now (planes .exit)) (now (picks .exit)) (now (out .entry)) (now (out .exit)) ⌝ }
+{
+    let first = Received {
+        x: samples[i],
+        y: samples[i + 1],
+    };
+    let second = Received {
+        x: samples[i + 2],
+        y: samples[i + 3],
+    };
+    let place = fault(first, second);
+    if place < 4 {
+        return Took {
+            core: core,
+            written: 0,
+            why: Why::BadSample(place),
+        };
+    }
+    machine::take_symbol(t, core, sums, planes, picks, first, second, out)
+}
+
+// How a piece went, where the receiver's arrays are lent: the numbers of the receiver after it stand beside the answer.
+pub struct Heard {
+    pub core: Core,
+    pub taken: usize,
+    pub written: usize,
+    pub why: Why,
+}
+
+// The symbols of a piece, one after another, up to the first that is refused.
+pub fn hear_symbols(
+    start: Core,
+    samples: &[i32],
+    sums: &mut [u64; 16],
+    planes: &mut [u64; 48],
+    picks: &mut [u64],
+    out: &mut [u32],
+) -> Heard
+    requires { ⌜ (sound (whole start (now sums) (now planes) (now picks)) ≡ true) × (length (now samples) % 4 ≡ 0) × (length (now picks) ≡ 72) ⌝ }
+    ensures { λ r. ⌜ RunsLent (running (symbolsOf (now (samples .entry))) (whole start (now (sums .entry)) (now (planes .entry)) (now (picks .entry))) 0 [] (length (now (out .entry)))) (now (out .entry)) r (now (sums .exit)) (now (planes .exit)) (now (picks .exit)) (now (out .exit)) ⌝ }
+{
+    let accord = start.accord;
+    let chart = nearest::chart(accord);
+    let mut core = start;
+    let mut taken: usize = 0;
+    let mut written: usize = 0;
+    let mut why = Why::Done;
+    let mut i: usize = 0;
+    while i < samples.len() {
+        let t = symbol(
+            &chart,
+            core,
+            samples,
+            i,
+            sums,
+            planes,
+            picks,
+            &mut out[written..],
+        );
+        core = t.core;
+        written = written + t.written;
+        why = t.why;
+        if !reasons::is_done(why) {
+            break;
+        }
+        taken += 1;
+        i += 4;
+    }
+    Heard {
+        core: core,
+        taken: taken,
+        written: written,
+        why: why,
+    }
+}

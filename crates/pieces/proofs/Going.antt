@@ -48,7 +48,15 @@ symbols-from xs i h = ap symbolsOf four
     four : drop i xs ≡ getD xs i (pos 0) ∷ getD xs (i + 1) (pos 0) ∷ getD xs (i + 2) (pos 0) ∷ getD xs (i + 3) (pos 0) ∷ drop (i + 4) xs
     four =
         drop-cons xs i (pos 0) (omega (arith, h))
-        ∙ rw (drop-cons xs (suc i) (pos 0) (omega (arith, h)), drop-cons xs (suc (suc i)) (pos 0) (omega (arith, h)), drop-cons xs (suc (suc (suc i))) (pos 0) (omega (arith, h)), add-one, add-two, add-three, add-four)
+        ∙ rw (
+          drop-cons xs (suc i) (pos 0) (omega (arith, h)),
+          drop-cons xs (suc (suc i)) (pos 0) (omega (arith, h)),
+          drop-cons xs (suc (suc (suc i))) (pos 0) (omega (arith, h)),
+          add-one,
+          add-two,
+          add-three,
+          add-four,
+        )
 
 -- one symbol of a run
 module _ (y : Two Received) (zs : List (Two Received)) (rx : Receiver) (n : ℕ) (ws : List ℕ) (room : ℕ) (o : Outcome) (e : symbolAt rx y (room - length ws) ≡ o) where

@@ -50,7 +50,8 @@ fn symbol(
 ) -> Took
     requires { ⌜ (now t ≡ chartOf (core .accord)) × (i + 4 ≤ length (now samples)) ⌝ }
     requires { ⌜ (sound (whole core (now sums) (now planes) (now picks)) ≡ true) × (length (now picks) ≡ 72) ⌝ }
-    ensures { λ r. ⌜ TookIs (symbolAt (whole core (now (sums .entry)) (now (planes .entry)) (now (picks .entry))) (symbolIn (now (samples .entry)) i) (length (now (out .entry)))) r (now (sums .exit)) (now (planes .exit)) (now (picks .exit)) (now (out .entry)) (now (out .exit)) ⌝ }
+    ensures { λ r. ⌜ TookIs (symbolAt (whole core (now (sums .entry)) (now (planes .entry)) (now (picks .entry))) (symbolIn (now (samples .entry)) i) (length (now (out .entry))))
+        r (now (sums .exit)) (now (planes .exit)) (now (picks .exit)) (now (out .entry)) (now (out .exit)) ⌝ }
 {
     let first = Received {
         x: samples[i],
@@ -89,7 +90,8 @@ pub fn hear_symbols(
     out: &mut [u32],
 ) -> Heard
     requires { ⌜ (sound (whole start (now sums) (now planes) (now picks)) ≡ true) × (length (now samples) % 4 ≡ 0) × (length (now picks) ≡ 72) ⌝ }
-    ensures { λ r. ⌜ RunsLent (running (symbolsOf (now (samples .entry))) (whole start (now (sums .entry)) (now (planes .entry)) (now (picks .entry))) 0 [] (length (now (out .entry)))) (now (out .entry)) r (now (sums .exit)) (now (planes .exit)) (now (picks .exit)) (now (out .exit)) ⌝ }
+    ensures { λ r. ⌜ RunsLent (running (symbolsOf (now (samples .entry))) (whole start (now (sums .entry)) (now (planes .entry)) (now (picks .entry))) 0 [] (length (now (out .entry))))
+        (now (out .entry)) r (now (sums .exit)) (now (planes .exit)) (now (picks .exit)) (now (out .exit)) ⌝ }
 {
     let accord = start.accord;
     let chart = nearest::chart(accord);

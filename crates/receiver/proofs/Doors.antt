@@ -52,9 +52,14 @@ hearing-owes t f p room = rw (sound-told t f) (go (p .fits))
         subst (λ (m : ℕ). RunsAs t (walked t (t .heard) (p .symbols) m) 0 [] (running (p .symbols) (machineOf t) 0 [] room)) (sub-zero room)
         (runs t (p .symbols) (t .heard) f 0 [] room)
 
+    ends : Owed
+    ends = let r = endedOf t p room in record { reason = r .why; taken = r .taken; words = r .said; told = withHeard t (r .heard) }
+
     go : (b : Bool) → OwedBy (cond b (running (p .symbols) (machineOf t) 0 [] room) (stopped (machineOf t) Uneven))
-        (let r = endedOf t p room in cond b (record { reason = r .why; taken = r .taken; words = r .said; told = withHeard t (r .heard) }) (record { reason = reason 10; taken = 0; words = []; told = t }))
-    go true = record { given = e .given; taken = omega (arith, e .taken); words = e .words; fine = e .fine; receiver = e .receiver ∙ sym (machine-same t (endedOf t p room .heard) (endedOf t p room .heard)) }
+        (cond b ends (record { reason = reason 10; taken = 0; words = []; told = t }))
+    go true =
+        let heard = endedOf t p room .heard in
+        record { given = e .given; taken = omega (arith, e .taken); words = e .words; fine = e .fine; receiver = e .receiver ∙ sym (machine-same t heard heard) }
     go false = record { given = refl; taken = refl; words = refl; fine = f; receiver = refl }
 
 pub hears : (rx : Receiver) (p : Piece) (out : List ℕ) (r : Answer) (o : List ℕ) → Is (hearing rx p (length out)) out r o → Hears rx p out r o
@@ -89,7 +94,10 @@ finishing-by rx room n ws a b c = cc
 
 pub finishing-owes : (t : Told) → Fine t → (room : ℕ) → EndedBy (finishing (machineOf t) room) (machineOf t) (finishOwed t room)
 unfolding finishOwed
-finishing-owes t f room = subst (λ (h : Ran). EndedBy h (machineOf t) (finishOwed t room)) (sym (finishing-by (machineOf t) room (length ws) ws (sound-told t f) (sym (rest-many t f)) (last-told t f))) (go (ltb room (length ws)))
+finishing-owes t f room =
+    subst (λ (h : Ran). EndedBy h (machineOf t) (finishOwed t room))
+    (sym (finishing-by (machineOf t) room (length ws) ws (sound-told t f) (sym (rest-many t f)) (last-told t f)))
+    (go (ltb room (length ws)))
   where
     ws : List ℕ
     ws = rest (speakerOf t) (t .heard)

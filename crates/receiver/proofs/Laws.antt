@@ -48,7 +48,10 @@ module _ (rx : Receiver) (room : ℕ) where
   unfolding finishing
   finishing-few = go (sound rx) (ltb room (rx .core .pending)) refl
     where
-      go : (a b : Bool) → ltb room (rx .core .pending) ≡ b → length (cond a (cond b (stopped rx NoRoom) (record { receiver = shut; taken = 0; words = lastWords rx; why = Done })) (stopped rx Closed) .words) ≤ room
+      done : Ran
+      done = record { receiver = shut; taken = 0; words = lastWords rx; why = Done }
+
+      go : (a b : Bool) → ltb room (rx .core .pending) ≡ b → length (cond a (cond b (stopped rx NoRoom) done) (stopped rx Closed) .words) ≤ room
       go true true e = omega arith
       go true false e = omega (arith, last-many rx, ltb-false room (rx .core .pending) e)
       go false b e = omega arith
@@ -97,7 +100,8 @@ module _ (t : Told) where
       left = room - length (fresh (speakerOf t) ys y)
 
       go : (Fine (withHeard t (y ∷ ys)) → (m : ℕ) → length zs + pendingAfter t (y ∷ ys) ≤ m → walk (speakerOf t) (judgeOf t) (y ∷ ys) zs m .why .number ≡ 8 → ⊥) →
-          (b : Bool) → eqb (judgeSymbol t ys y room .number) 0 ≡ b → after (speakerOf t) (judgeOf t) ys y (judgeSymbol t ys y room) b (walk (speakerOf t) (judgeOf t) (y ∷ ys) zs left) .why .number ≡ 8 → ⊥
+          (b : Bool) → eqb (judgeSymbol t ys y room .number) 0 ≡ b →
+          after (speakerOf t) (judgeOf t) ys y (judgeSymbol t ys y room) b (walk (speakerOf t) (judgeOf t) (y ∷ ys) zs left) .why .number ≡ 8 → ⊥
       go ih false e z = let (r, few, short) = eight ys y room z in omega (arith, fresh-kept (withHeard t ys) f y r few)
       go ih true e z =
           let g : Fine (withHeard t (y ∷ ys)) = symbol-judged t ys f y room .fine (eqb-true (judgeSymbol t ys y room .number) 0 e) in
@@ -107,6 +111,9 @@ module _ (t : Told) where
   unfolding pieceOwed
   never-short f p room h = go (p .fits)
     where
-      go : (b : Bool) → cond {A = Owed} b (record { reason = endedOf t p room .why; taken = endedOf t p room .taken; words = endedOf t p room .said; told = withHeard t (endedOf t p room .heard) }) (record { reason = reason 10; taken = 0; words = []; told = t }) .reason .number ≡ 8 → ⊥
+      ends : Owed
+      ends = let r = endedOf t p room in record { reason = r .why; taken = r .taken; words = r .said; told = withHeard t (r .heard) }
+
+      go : (b : Bool) → cond b ends (record { reason = reason 10; taken = 0; words = []; told = t }) .reason .number ≡ 8 → ⊥
       go false z = omega arith
       go true z = enough (p .symbols) (t .heard) f room h z

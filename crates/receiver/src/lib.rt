@@ -65,7 +65,8 @@ pub fn hear_lent(
     picks: &mut [u64],
     out: &mut [u32],
 ) -> Heard
-    ensures { λ r. ⌜ HearsLent live core (now (sums .entry)) (now (planes .entry)) (now (picks .entry)) (pieceOf (now (samples .entry))) (now (out .entry)) r (now (sums .exit)) (now (planes .exit)) (now (picks .exit)) (now (out .exit)) ⌝ }
+    ensures { λ r. ⌜ HearsLent live core (now (sums .entry)) (now (planes .entry)) (now (picks .entry)) (pieceOf (now (samples .entry))) (now (out .entry))
+        r (now (sums .exit)) (now (planes .exit)) (now (picks .exit)) (now (out .exit)) ⌝ }
 {
     if !lent_fit(live, core, sums, picks) {
         return nothing_heard(core, Why::Closed);

@@ -47,7 +47,10 @@ symbol-requires c κs =
     let g = l .loop .inv in
     ((l .before .chart .ensures ∙ ap chartOf (sym (g .accord)), four-more _ _ _ _ _ _ _ _ _ g (n .loop-test .taken)), (g .fit, g .picks))
 
--- ---- after the call of `symbol`
+-- ---- after the call of `symbol`: the way back to it, from it into the loop, and from there to the start
+
+abbrev called : tie.After-struct-known Inv-loop μ-loop → tie.After-symbol Inv-loop μ-loop
+called k = k .before .before .before .before .before .before
 
 abbrev within : tie.After-symbol Inv-loop μ-loop → tie.In-loop Inv-loop μ-loop
 within d = d .before .before .before .before .before .before
@@ -66,27 +69,28 @@ fits d =
 
 add-written : tie.Need-add-written Inv-loop μ-loop
 add-written c =
-    let d = c .before .before .before .before .before .before in
+    let d = called c in
+    let n = within d in
     let h = fits d in
-    omega (arith, first (within d) .good)
+    omega (arith, first n .good, n .loop-test .taken, n .before .loop .inv .count)
 
 is-done-requires : tie.Need-is-done-requires Inv-loop μ-loop
 is-done-requires c κs = search needs
 
 add-taken : tie.Need-add-taken Inv-loop μ-loop
 add-taken c =
-    let n = within (c .before .before .before .before .before .before .before .before) in
+    let n = within (called (c .before .before)) in
     omega (arith, first n .good, n .loop-test .taken, n .before .loop .inv .count)
 
 add-i : tie.Need-add-i Inv-loop μ-loop
-add-i c = let n = within (c .before .before .before .before .before .before .before .before) in omega (arith, first n .good)
+add-i c = let n = within (called (c .before .before)) in omega (arith, first n .good)
 
 loop-less : tie.Need-loop-less Inv-loop μ-loop
 loop-less c = omega arith
 
 loop-again : tie.Need-loop-again Inv-loop μ-loop
 loop-again c =
-    let d = c .before .before .before .before .before .before .before .before in
+    let d = called (c .before .before) in
     let n = within d in
     go-on _ _ _ _ _ _ _ _ _ (n .before .loop .inv) (n .loop-test .taken) (d .symbol .result) _ _ _ _ (d .symbol .ensures) (d .symbol .kept .1 .1 .1 .1 .1 .1 .1 .0)
     (sym (c .before .is-done .ensures) ∙ not-false _ (c .if1 .left)) (picks-kept d)
@@ -105,18 +109,18 @@ returns c =
 
 same-length-3 : tie.Need-same-length-3 Inv-loop μ-loop
 same-length-3 c =
-    let d = c .before .before .before .before .before .before .before .before in
+    let d = called (c .before .before) in
     picks-kept d ∙ sym (first (within d) .pre .2)
 
 same-length-4 : tie.Need-same-length-4 Inv-loop μ-loop
 same-length-4 c =
-    let d = c .before .before .before .before .before .before .before .before in
+    let d = called (c .before .before) in
     let n = within d in
     more-length _ _ _ _ _ _ _ _ _ (n .before .loop .inv) (n .loop-test .taken) (d .symbol .result) _ _ _ _ (d .symbol .ensures) (d .symbol .kept .1 .1 .1 .1 .1 .1 .1 .0)
 
 returns-2 : tie.Need-returns-2 Inv-loop μ-loop
 returns-2 c =
-    let d = c .before .before .before .before .before .before .before .before in
+    let d = called (c .before .before) in
     let n = within d in
     stop _ _ _ _ _ _ _ _ _ (n .before .loop .inv) (n .loop-test .taken) (d .symbol .result) _ _ _ _ (d .symbol .ensures) (d .symbol .kept .1 .1 .1 .1 .1 .1 .1 .0)
     (sym (c .before .is-done .ensures) ∙ not-true _ (c .if1 .taken))

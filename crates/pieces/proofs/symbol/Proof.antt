@@ -33,7 +33,12 @@ back d =
     let third = fourth .before in
     let second = third .before in
     let one = second .before in
-    rw (toZ-ofZ (record { sfits = one .t14 .given }), toZ-ofZ (record { sfits = second .t18 .given }), toZ-ofZ (record { sfits = third .t182 .given }), toZ-ofZ (record { sfits = fourth .t142 .given }))
+    rw (
+      toZ-ofZ (record { sfits = one .t14 .given }),
+      toZ-ofZ (record { sfits = second .t18 .given }),
+      toZ-ofZ (record { sfits = third .t182 .given }),
+      toZ-ofZ (record { sfits = fourth .t142 .given }),
+    )
 
 placed : (d : tie.After-fault) → d .fault .result ≡ faultOf (symbolIn (first d .args .samples .now) (first d .args .i))
 placed d = d .fault .ensures ∙ ap faultOf (back d)

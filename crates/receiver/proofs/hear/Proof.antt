@@ -4,6 +4,9 @@ use Rattle.receiver.proofs.Doors.{hears-lent}
 use Rattle.receiver.proofs.hear.Statement.{statement}
 use Rattle.receiver.proofs.hear.Tie as tie
 
+abbrev first : tie.After-hear-lent → tie.Start
+first h = h .before .before .before .before .before .before .before .before .before .before
+
 slice-aggregate-hear-lent : tie.Need-slice-aggregate-hear-lent
 slice-aggregate-hear-lent c = search needs
 
@@ -14,7 +17,9 @@ same-length : tie.Need-same-length
 same-length c = search needs
 
 returns : tie.Need-returns
-returns c = hears-lent (c .before .before .before .before .before .before .before .before .before .before .before .before .before .before .args .rx) _ _ _ _ _ _ _ (search needs) (c .before .before .before .before .hear-lent .ensures)
+returns c =
+    let h = c .before .before .before .before in
+    hears-lent (first h .args .rx) _ _ _ _ _ _ _ (search needs) (h .hear-lent .ensures)
 
 pub hear-spec : {M : Type 1} → statement M
 hear-spec = tie.close (tie.spec slice-aggregate-hear-lent hear-lent-requires same-length returns)

@@ -12,13 +12,20 @@ use Rattle.receiver.proofs.Doors.{hear-closed, hear-uneven, hear-parts,
 use Rattle.receiver.proofs.hear_lent.Statement.{statement}
 use Rattle.receiver.proofs.hear_lent.Tie as tie
 
+abbrev first : tie.After-lent-fit → tie.Start
+first f = f .before .before .before .before .before
+
+-- the receiver whose parts are lent
 abbrev rx : tie.Start → Receiver
 rx s = let a = s .args in partsOf (lentLive (a .live) (a .picks .now)) (a .core) (a .sums .now) (a .planes .now) (a .picks .now)
 
--- the test of the parts says whether the receiver is open
-open-by : (f : tie.After-lent-fit) → sound (rx (f .before .before .before .before .before)) ≡ f .lent-fit .result
+-- the test of the parts says whether it is open
+open-by : (f : tie.After-lent-fit) → sound (rx (first f)) ≡ f .lent-fit .result
 unfolding sound
 open-by f = sym (f .lent-fit .ensures)
+
+opened : (e : tie.Else1) → sound (rx (first (e .before))) ≡ true
+opened e = open-by (e .before) ∙ not-false _ (e .if1 .left)
 
 lent-fit-requires : tie.Need-lent-fit-requires
 lent-fit-requires c κs = search needs
@@ -32,7 +39,7 @@ same-length c = search needs
 returns : tie.Need-returns
 returns c =
     let f = c .before .before in
-    let s = f .before .before .before .before .before in
+    let s = first f in
     rw (c .nothing-heard .ensures) (hear-closed (rx s) (s .args .out .now) (pieceOf (s .args .samples .now)) (open-by f ∙ not-true _ (c .before .if1 .taken)))
 
 nothing-heard-requires-2 : tie.Need-nothing-heard-requires-2
@@ -43,19 +50,18 @@ same-length-2 c = search needs
 
 returns-2 : tie.Need-returns-2
 returns-2 c =
-    let f = c .before .before .before in
-    let s = f .before .before .before .before .before in
-    rw (c .nothing-heard2 .ensures) (hear-uneven (rx s) (s .args .out .now) (pieceOf (s .args .samples .now)) (open-by f ∙ not-false _ (c .before .before .if1 .left)) (ne-eqb _ 0 (c .before .if2 .taken)))
+    let e = c .before .before in
+    let s = first (e .before) in
+    rw (c .nothing-heard2 .ensures) (hear-uneven (rx s) (s .args .out .now) (pieceOf (s .args .samples .now)) (opened e) (ne-eqb _ 0 (c .before .if2 .taken)))
 
 hear-symbols-requires : tie.Need-hear-symbols-requires
 hear-symbols-requires c κs =
-    let e = c .before .before .before .before in
-    let f = e .before .before in
-    let s = f .before .before .before .before .before in
+    let i = c .before .before .before .before in
+    let e = i .before in
+    let s = first (e .before) in
     let a = s .args in
-    let o = open-by f ∙ not-false _ (e .before .if1 .left) in
-    let l = sound-live (rx s) o in
-    (subst (λ (b : Bool). sound (partsOf b (a .core) (a .sums .now) (a .planes .now) (a .picks .now)) ≡ true) l o, e .if2 .left, lent-all (a .live) (a .picks .now) l)
+    let l = sound-live (rx s) (opened e) in
+    (subst (λ (b : Bool). sound (partsOf b (a .core) (a .sums .now) (a .planes .now) (a .picks .now)) ≡ true) l (opened e), i .if2 .left, lent-all (a .live) (a .picks .now) l)
 
 same-length-3 : tie.Need-same-length-3
 same-length-3 c = search needs
@@ -66,10 +72,11 @@ same-length-4 c = search needs
 returns-3 : tie.Need-returns-3
 returns-3 c =
     let h = c .before .before .before .before in
-    let e = h .before .before .before .before .before in
-    let f = e .before .before in
-    let a = f .before .before .before .before .before .args in
-    hear-parts (lentLive (a .live) (a .picks .now)) (a .core) (a .sums .now) (a .planes .now) (a .picks .now) (a .out .now) (pieceOf (a .samples .now)) (open-by f ∙ not-false _ (e .before .if1 .left)) (eq-eqb _ 0 (e .if2 .left)) _ _ _ _ _ (h .hear-symbols .ensures)
+    let i = h .before .before .before .before .before in
+    let e = i .before in
+    let a = first (e .before) .args in
+    hear-parts (lentLive (a .live) (a .picks .now)) (a .core) (a .sums .now) (a .planes .now) (a .picks .now) (a .out .now) (pieceOf (a .samples .now))
+    (opened e) (eq-eqb _ 0 (i .if2 .left)) _ _ _ _ _ (h .hear-symbols .ensures)
 
 pub hear-lent-spec : {M : Type 1} → statement M
 hear-lent-spec =

@@ -21,7 +21,8 @@ use Rattle.reasons.specs.declared.Why.the-variants.{Done}
 use Rattle.machine.specs.Machine.{Outcome, sound}
 use Rattle.reasons.specs.Reason.{reason, givenOf, isDone}
 use Rattle.told.specs.Piece.{symbolsOf}
-use Rattle.pieces.specs.Running.{symbolIn, symbolAt, Ran, running, RunsLent}
+use Rattle.pieces.specs.Running.{symbolAt, Ran, running}
+use Rattle.pieces.specs.Lent.{symbolIn, RunsLent}
 use Rattle.machine.specs.Taken.{whole, TookIs}
 use Rattle.pieces.proofs.Kept.{symbol-refused, symbol-sound, symbol-accord}
 use Rattle.reasons.proofs.Apart.{done-given}

@@ -1,6 +1,6 @@
 -- One symbol of a piece: what the machine says to it is what 01 says of it, for whatever the receiver has been told.
---   Taken t y room o     the outcome o of the symbol y is the judged one
---   symbol-judged        the theorem
+--   Judged t ys y room o   the outcome o of the symbol y, heard after ys, is the judged one
+--   symbol-judged          the theorem
 use mathlib.Core.Path.{_≡_, refl, sym, ap, subst, _∙_}
 use mathlib.Core.Bool.{Bool, true, false, cond}
 use mathlib.Core.List.{List, _∷_}

@@ -1,32 +1,22 @@
 -- What the symbols of a piece do to any record, as functions: the machine behind the test of a symbol's range, up to the first refusal. The
 -- code equals these functions; what they owe is said in told/specs/Owed.
---   symbolIn xs i            the symbol whose four coordinates stand from the place i on
 --   symbolAt rx y room       one symbol: 5 first, then what `taking` says
 --   Ran, running             symbol by symbol, up to the first refusal, after the words ws and so many symbols
 --   Written words out o      o is the output `out` with the words in its first places, and all else unchanged
---   RunsLent                 a run's result, the lists that were lent to it and the output are those of `running`
 use Prim.Native.Nat.{ℕ, _+_, _-_}
 use mathlib.Core.Path.{_≡_}
 use mathlib.Core.Bool.{cond}
 use mathlib.Core.List.{List, [], _∷_, _++_}
 use lib.Dec.{ltb}
-use lib.IntN.{ℤ, pos}
-use lib.ListN.{getD, length, drop}
+use lib.ListN.{length, drop}
 use Rattle.trellis.specs.Measure.{Two}
 use Rattle.nearest.specs.declared.Received.{Received}
-use Rattle.machine.specs.declared.Core.{Core}
 use Rattle.machine.specs.declared.Receiver.{Receiver}
 use Rattle.machine.specs.Machine.{Outcome, refused, taking}
-use Rattle.machine.specs.Taken.{whole}
 use Rattle.reasons.specs.declared.Why.{Why}
 use Rattle.reasons.specs.declared.Why.the-variants.{Done, BadSample}
-use Rattle.reasons.specs.Reason.{givenOf, isDone}
-use Rattle.told.specs.Piece.{symbolFrom}
+use Rattle.reasons.specs.Reason.{isDone}
 use Rattle.told.specs.Told.{faultOf}
-use Rattle.pieces.specs.declared.Heard.{Heard}
-
-abbrev pub symbolIn : List ℤ → ℕ → Two Received
-symbolIn xs i = symbolFrom (getD xs i (pos 0)) (getD xs (i + 1) (pos 0)) (getD xs (i + 2) (pos 0)) (getD xs (i + 3) (pos 0))
 
 unfoldable pub symbolAt : Receiver → Two Received → ℕ → Outcome
 symbolAt rx y room = cond (ltb (faultOf y) 4) (refused rx (BadSample (faultOf y))) (taking rx y room)
@@ -46,11 +36,3 @@ running (y ∷ ys) rx n ws room =
 -- "Released words go straight after those already written by that call. All other places of the output stay unchanged"
 abbrev pub Written : List ℕ → List ℕ → List ℕ → Type 0
 Written words out o = o ≡ words ++ drop (length words) out
-
--- the result r of a run, where the receiver's lists were lent, and what stands in them and in the output after it
-pub record RunsLent (ran : Ran) (out : List ℕ) (r : Heard) (sums planes picks o : List ℕ) : Type 0 where
-  pub receiver : whole (r .core) sums planes picks ≡ ran .receiver
-  pub taken : r .taken ≡ ran .taken
-  pub written : r .written ≡ length (ran .words)
-  pub given : givenOf (r .why) ≡ givenOf (ran .why)
-  pub output : Written (ran .words) out o

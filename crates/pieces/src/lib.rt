@@ -16,7 +16,8 @@ ghost use Rattle.machine.specs.Machine.{sound};
 ghost use Rattle.machine.specs.Taken.{whole, TookIs};
 ghost use Rattle.told.specs.Told.{faultOf};
 ghost use Rattle.told.specs.Piece.{symbolsOf};
-ghost use Rattle.pieces.specs.Running.{symbolIn, symbolAt, running, RunsLent};
+ghost use Rattle.pieces.specs.Running.{symbolAt, running};
+ghost use Rattle.pieces.specs.Lent.{symbolIn, RunsLent};
 
 // The place of the first coordinate out of range, or 4.
 fn fault(first: Received, second: Received) -> u32

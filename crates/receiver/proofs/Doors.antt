@@ -28,7 +28,8 @@ use Rattle.machine.proofs.Sound.{sound-live}
 use Rattle.receiver.specs.declared.Answer.{Answer}
 use Rattle.pieces.specs.declared.Heard.{Heard}
 use Rattle.told.specs.Piece.{Piece}
-use Rattle.pieces.specs.Running.{Ran, running, RunsLent}
+use Rattle.pieces.specs.Running.{Ran, running}
+use Rattle.pieces.specs.Lent.{RunsLent}
 use Rattle.receiver.specs.Doors.{stopped, hearing, finishing}
 use Rattle.told.specs.Owed.{Owed, endedOf, pieceOwed, FinishOwed, finishOwed}
 use Rattle.receiver.specs.Promise.{Is, partsOf, lentLive, answerOf, Hears, Finishes}

@@ -12,7 +12,7 @@ use Rattle.machine.specs.Taken.{whole}
 use Rattle.machine.proofs.Sound.{sound-ready}
 use Rattle.told.specs.Piece.{symbolFrom}
 use Rattle.told.specs.Told.{faultOf}
-use Rattle.pieces.specs.Running.{symbolIn}
+use Rattle.pieces.specs.Lent.{symbolIn}
 use Rattle.pieces.proofs.Kept.{faulty-took, good-taking, good-took}
 use Rattle.pieces.proofs.symbol.Statement.{statement}
 use Rattle.pieces.proofs.symbol.Tie as tie

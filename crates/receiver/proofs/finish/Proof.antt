@@ -1,6 +1,7 @@
 -- `finish`: closed, no room, or the last words.
 use mathlib.Core.Path.{_≡_, sym, _∙_}
 use mathlib.Core.Bool.{true}
+use native.Mathlib.Omega.{arith}
 use borrow.Author.Needs.{needs}
 use borrow.Author.Tests.{not-true, not-false}
 use lib.ListN.{length}
@@ -61,7 +62,7 @@ write-words-requires c κs =
     let n = c .before .before .before in
     let e = roomy n in
     let i = open-at e in
-    (sound-core (first i .args .rx) (opened i), n .end-state .ensures .1, search needs, e .if2 .left, sized (first i))
+    (sound-core (first i .args .rx) (opened i), omega (arith, n .end-state .ensures .1), search needs, e .if2 .left, sized (first i))
 
 same-length : tie.Need-same-length
 same-length c = search needs

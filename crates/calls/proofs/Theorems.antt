@@ -24,9 +24,6 @@ module _ (S : Speaker) (L : Speaks S) where
   pub begins : (zs ys : List Y) → IsPrefix (spoken ys) (answered (zs ++ ys))
   begins zs ys = prefix-trans (spoken ys) (spoken (zs ++ ys)) (answered (zs ++ ys)) (stays zs ys) (L .within (zs ++ ys))
 
-  pub stays-in-time : (xs zs : List Y) → IsPrefix (spoken (reverse xs)) (spoken (reverse (xs ++ zs)))
-  stays-in-time xs zs = subst (λ (ys : List Y). IsPrefix (spoken (reverse xs)) (spoken ys)) (sym (reverse-append xs zs)) (stays (reverse zs) (reverse xs))
-
   pub begins-in-time : (xs zs : List Y) → IsPrefix (spoken (reverse xs)) (answered (reverse (xs ++ zs)))
   begins-in-time xs zs = subst (λ (ys : List Y). IsPrefix (spoken (reverse xs)) (answered ys)) (sym (reverse-append xs zs)) (begins (reverse zs) (reverse xs))
 

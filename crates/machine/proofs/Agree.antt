@@ -63,7 +63,8 @@ module _ (c : Core) (planes picks steps : List ℕ) (live : ℕ → Bool) (from 
           let j = n - 1 - q in
           let back : n - 1 - j ≡ q = omega arith in
           let z : pendingAt c planes picks (from s) j ≡ pendingAt c planes picks (from t) j = same-way c planes picks (from s) (from t) m h (sh s t hs ht ls lt) j (omega arith) in
-          let w : subsetIn planes (from s) (n - 1 - j) ≡ subsetIn planes (from t) (n - 1 - j) = subset-of (c .accord .u) picks (slotOf c j) (ageOf c j) (subsetIn planes (from s) (n - 1 - j)) (subsetIn planes (from t) (n - 1 - j)) (omega arith) (omega arith) z in
+          let w : subsetIn planes (from s) (n - 1 - j) ≡ subsetIn planes (from t) (n - 1 - j) =
+          subset-of (c .accord .u) picks (slotOf c j) (ageOf c j) (subsetIn planes (from s) (n - 1 - j)) (subsetIn planes (from t) (n - 1 - j)) (omega arith) (omega arith) z in
           ap (λ (r : ℕ). subsetIn planes r q) (sym es) ∙ ap (subsetIn planes (from s)) (sym back) ∙ w ∙ ap (subsetIn planes (from t)) back ∙ ap (λ (r : ℕ). subsetIn planes r q) et
 
   pub agreed-most : Agreed 16 live (λ s. wayFrom c planes picks (from s)) (c .pending) (oldest (sameAt planes steps) (c .pending))

@@ -74,7 +74,8 @@ module _ {P : Type 0} where
   unfolding better
   better-sealed v w p q = go (ltb v limit) (ltb w limit) (ltb w v) refl refl refl
     where
-      go : (i j k : Bool) → ltb v limit ≡ i → ltb w limit ≡ j → ltb w v ≡ k → better (cond i (alive v p) absent) (cond j (alive w q) absent) ≡ cond k (cond j (alive w q) absent) (cond i (alive v p) absent)
+      go : (i j k : Bool) → ltb v limit ≡ i → ltb w limit ≡ j → ltb w v ≡ k →
+          better (cond i (alive v p) absent) (cond j (alive w q) absent) ≡ cond k (cond j (alive w q) absent) (cond i (alive v p) absent)
       go true true true e f g = rw g
       go true true false e f g = rw g
       go true false true e f g = absurd (omega (arith, ltb-true v limit e, ltb-false w limit f, ltb-true w v g))
@@ -143,7 +144,9 @@ module _ (ac : Accord) (b : Start) (y : Two Received) (sums : List ℕ) (room : 
 
   -- the new sums, and the states before
   pub row-next : (t : ℕ) → t < 16 → rowOf (sixteen (sumAt sums (weighedOf ac y .costs))) t ≡ bare (acs (searchOf ac b) y (rowOf sums) t)
-  row-next t h = ap (λ (v : ℕ). sealed v tt) (sixteen-at (sumAt sums costs) t h) ∙ sym (through bare (ltb (sumAt sums costs t) limit) (alive (sumAt sums costs t) (before t (winner sums costs t))) absent) ∙ ap bare (sym (acs-is t h))
+  row-next t h =
+      ap (λ (v : ℕ). sealed v tt) (sixteen-at (sumAt sums costs) t h)
+      ∙ sym (through bare (ltb (sumAt sums costs t) limit) (alive (sumAt sums costs t) (before t (winner sums costs t))) absent) ∙ ap bare (sym (acs-is t h))
 
   -- the state before a reached one
   pub from-is : (t : ℕ) → t < 16 → getD (sixteen (sumAt sums (weighedOf ac y .costs))) t 0 < limit → stateOf (acs (searchOf ac b) y (rowOf sums) t) ≡ fromAt sums (weighedOf ac y .costs) t
@@ -159,4 +162,5 @@ end-is ac b sums s h k =
     let m : ℕ = least (λ t. getD sums t 0) 15 in
     let l : getD sums m 0 < limit = omega (arith, least-is (λ t. getD sums t 0) 15 .is-least s (omega arith)) in
     let z : stateOf (sealed (getD sums m 0) m) ≡ m = rw (lt-ltb (getD sums m 0) limit l) in
-    sym (ap stateOf (choose-ext (λ t. tag t (rowOf sums t)) (λ t. sealed (getD sums t 0) t) (range 0 16) (λ t i. through (tag t) (ltb (getD sums t 0) limit) (alive (getD sums t 0) tt) absent) ∙ choose-least (λ t. getD sums t 0) (λ t. t) 15) ∙ z)
+    sym (ap stateOf (choose-ext (λ t. tag t (rowOf sums t)) (λ t. sealed (getD sums t 0) t) (range 0 16) (λ t i. through (tag t) (ltb (getD sums t 0) limit) (alive (getD sums t 0) tt) absent)
+    ∙ choose-least (λ t. getD sums t 0) (λ t. t) 15) ∙ z)

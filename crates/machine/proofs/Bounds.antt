@@ -33,15 +33,18 @@ use Rattle.points.specs.Agreed.{isAccord}
 near : (ac : Accord) → isAccord ac ≡ true → Near (ac .u) (lineMeasure ac) BothInRange
 near ac small y c a v = far-below ac y small a c v
 
-module _ (ac : Accord) (small : isAccord ac ≡ true) (b : Start) (ys : List (Two Received)) (good : Every BothInRange ys) (y : Two Received) (fine : BothInRange y) (few : length (y ∷ ys) ≤ 4294967295) where
+module _ (ac : Accord) (small : isAccord ac ≡ true) (b : Start) (ys : List (Two Received)) (good : Every BothInRange ys) (y : Two Received) (fine : BothInRange y)
+    (few : length (y ∷ ys) ≤ 4294967295) where
   pub room : (sums : List ℕ) (m : ℕ) → Off (searchOf ac b) ys m (rowOf sums) → Room sums (weighedOf ac y .costs)
   room sums m off s t h k =
       let e : rowOf sums s ≡ alive (getD sums s 0) tt = rw (lt-ltb (getD sums s 0) limit k) in
       let v = line-chooses ac .is-first y (bitW4 s) (carryI1 s t) (carryI2 s t) (omega arith) (carryI1-below s t) (carryI2-below s t) .valid in
       subst (λ (d : ℕ). getD sums s 0 + d < limit) (cost-at ac y s t)
-      (branch-fits (ac .u) (lineMeasure ac) BothInRange (near ac small) b (lineChoice ac) (line-chooses ac) sameSymbol ys good m (rowOf sums) off s (getD sums s 0) h e y (pickOf ac y s t) fine v (omega arith))
+      (branch-fits (ac .u) (lineMeasure ac) BothInRange (near ac small) b (lineChoice ac) (line-chooses ac) sameSymbol ys good m (rowOf sums) off s (getD sums s 0) h e y
+      (pickOf ac y s t) fine v (omega arith))
 
-pub top-next : (ac : Accord) → isAccord ac ≡ true → (y : Two Received) → BothInRange y → (n : ℕ) (sums : List ℕ) → ((s : ℕ) → getD sums s 0 ≤ topSum n) → (s : ℕ) → getD (sixteen (sumAt sums (weighedOf ac y .costs))) s 0 ≤ topSum (n + 1)
+pub top-next : (ac : Accord) → isAccord ac ≡ true → (y : Two Received) → BothInRange y → (n : ℕ) (sums : List ℕ) → ((s : ℕ) → getD sums s 0 ≤ topSum n) → (s : ℕ) →
+    getD (sixteen (sumAt sums (weighedOf ac y .costs))) s 0 ≤ topSum (n + 1)
 unfolding sumAt arrive
 top-next ac small y fine n sums top =
     let costs : List ℕ = weighedOf ac y .costs in

@@ -43,7 +43,8 @@ unfolding agreedOf
 agreed-few rx y = oldest-le (sameAt (rx .planes) (nextSteps rx y)) (rx .core .pending)
 
 -- ---- the look ahead
-pub summable : (core : Core) (sums : List ℕ) (g h : Received) (w : Weighed) → Ready core sums → core .taken < 4294967295 → InRange g → InRange h → w ≡ weighedOf (core .accord) (heardAs g h) → Summable sums (w .costs)
+pub summable : (core : Core) (sums : List ℕ) (g h : Received) (w : Weighed) → Ready core sums → core .taken < 4294967295 → InRange g → InRange h →
+    w ≡ weighedOf (core .accord) (heardAs g h) → Summable sums (w .costs)
 summable core sums g h w r few a b e =
     record {
       sums-below = λ i. omega (arith, r .sums-fit i);

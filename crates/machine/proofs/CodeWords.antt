@@ -45,7 +45,9 @@ module _ (core : Core) (planes picks out₀ out : List ℕ) (s n j turn : ℕ) (
 
   module _ (r : Said) (is : r ≡ saidOf (core .accord .u) turn here) where
     pub turn-below : r .turn < 4
-    turn-below = let v = symbol-valid (core .accord .u) (typeAt picks (subsetIn planes s (ageOf core j)) (ageOf core j)) (numbersAt picks (slotOf core j)) (subsetIn planes s (ageOf core j)) (omega arith) in rw is (omega (arith, v .i2-below, v .i3-below))
+    turn-below =
+        let v = symbol-valid (core .accord .u) (typeAt picks (subsetIn planes s (ageOf core j)) (ageOf core j)) (numbersAt picks (slotOf core j)) (subsetIn planes s (ageOf core j)) (omega arith) in
+        rw is (omega (arith, v .i2-below, v .i3-below))
 
     module _ (turned : turn ≡ after turnAfter (core .turn) (take j all)) where
       pub turn-more : r .turn ≡ after turnAfter (core .turn) (take (j + 1) all)
@@ -59,4 +61,5 @@ module _ (core : Core) (planes picks out₀ out : List ℕ) (s n j turn : ℕ) (
           let said-is : r .word ≡ word (core .accord .u) (after turnAfter (core .turn) (take j all)) here = ap (λ (x : Said). x .word) is ∙ ap (λ (q : ℕ). word (core .accord .u) q here) turned in
           ap₂ (λ (m : List ℕ) (x : ℕ). set m j x) so-far said-is
           ∙ set-next w out₀ j 0 (word (core .accord .u) (after turnAfter (core .turn) (take j all)) here) l (omega arith)
-          ∙ ap₂ (λ (m : List ℕ) (i : ℕ). m ++ drop i out₀) (sym (ap (wordsFrom (core .accord .u) (core .turn)) one-more ∙ words-snoc (core .accord .u) (core .turn) (take j all) here)) (sym (add-one j))
+          ∙ ap₂ (λ (m : List ℕ) (i : ℕ). m ++ drop i out₀)
+          (sym (ap (wordsFrom (core .accord .u) (core .turn)) one-more ∙ words-snoc (core .accord .u) (core .turn) (take j all) here)) (sym (add-one j))

@@ -60,4 +60,5 @@ pub last-from : (rx : Receiver) (s : ℕ) → s ≡ endOf (rx .sums) →
 unfolding lastSymbols
 last-from rx s e =
     let way : List Symbol = wayFrom (rx .core) (rx .planes) (rx .picks) s in
-    ap (wordsFrom (rx .core .accord .u) (rx .core .turn)) (take-all (rx .core .pending) way (omega (arith, way-length (rx .core) (rx .planes) (rx .picks) s)) ∙ ap (wayFrom (rx .core) (rx .planes) (rx .picks)) e)
+    ap (wordsFrom (rx .core .accord .u) (rx .core .turn))
+    (take-all (rx .core .pending) way (omega (arith, way-length (rx .core) (rx .planes) (rx .picks) s)) ∙ ap (wayFrom (rx .core) (rx .planes) (rx .picks)) e)

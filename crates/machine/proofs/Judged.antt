@@ -58,7 +58,8 @@ module _ (t : Told) (f : Fine t) (y : Two Received) (r : BothInRange y) (room : 
   never : _≡_ {A = Bool} false true → ⊥
   never e = let z : _≡_ {A = ℕ} 0 1 = cc in omega arith
 
-  in-range : judgeSymbol t ys y room ≡ cond (leb 4294967295 (length ys)) (reason 7) (cond (ltb (t .window) (pendingAfter t (y ∷ ys))) (reason 6) (cond (ltb room (length (fresh (speakerOf t) ys y))) (reason 8) (reason 0)))
+  in-range : judgeSymbol t ys y room
+      ≡ cond (leb 4294967295 (length ys)) (reason 7) (cond (ltb (t .window) (pendingAfter t (y ∷ ys))) (reason 6) (cond (ltb room (length (fresh (speakerOf t) ys y))) (reason 8) (reason 0)))
   unfolding judgeSymbol
   in-range = rw (no-fault y r)
 
@@ -74,12 +75,14 @@ module _ (t : Told) (f : Fine t) (y : Two Received) (r : BothInRange y) (room : 
   more few =
       let S : Stepped (t .accord) (t .start) (t .heard) y (machineOf t) = owes-step t f y r few in
       same (in-range ∙ rw (lt-leb 4294967295 (length ys) few))
-      (taking-with rx y room (t .window) (pendingAfter t (y ∷ ys)) (length (fresh (speakerOf t) ys y)) (fresh (speakerOf t) ys y) (ne-eqb (rx .core .taken) 4294967295 (λ e. omega (arith, owes t f .keeps .taken)))
+      (taking-with rx y room (t .window) (pendingAfter t (y ∷ ys)) (length (fresh (speakerOf t) ys y)) (fresh (speakerOf t) ys y)
+      (ne-eqb (rx .core .taken) 4294967295 (λ e. omega (arith, owes t f .keeps .taken)))
       (owes t f .window) (S .kept) (S .agreed) (S .words))
       (go (ltb (t .window) (pendingAfter t (y ∷ ys))) (ltb room (length (fresh (speakerOf t) ys y))) refl)
     where
       go : (i j : Bool) → ltb (t .window) (pendingAfter t (y ∷ ys)) ≡ i →
-          Right (cond i (reason 6) (cond j (reason 8) (reason 0))) (cond i (refused rx Full) (cond j (refused rx NoRoom) (record { receiver = grown rx y; words = fresh (speakerOf t) ys y; why = Done })))
+          Right (cond i (reason 6) (cond j (reason 8) (reason 0)))
+          (cond i (refused rx Full) (cond j (refused rx NoRoom) (record { receiver = grown rx y; words = fresh (speakerOf t) ys y; why = Done })))
       go true j e = refused-right Full never
       go false true e = refused-right NoRoom never
       go false false e =

@@ -1,8 +1,8 @@
 -- What the doors rely on. For a receiver that was told a fine history: its record, what one more symbol does to it, what finish
 -- writes and what an opening makes, each in the words of the meaning.
 --   sound-told                           the machine takes the record for sound
---   accord-told .. pending-fits          the record's numbers
---   kept-told, agreed-told, words-told   one more symbol: how many stay pending, how many words are released, and which
+--   accord-told .. pending-fits          the record's agreement, and how many are pending
+--   kept-told, agreed-told               one more symbol: how many stay pending, how many words are released
 --   Judged, taking-told                  what is said to a symbol and what becomes of it are what the meaning judges
 --   machine-same                         the receiver told other symbols: the same machine after ys
 --   grown-told                           told one symbol more
@@ -19,12 +19,11 @@ use lib.ListN.{length}
 use Rattle.calls.specs.Calls.{fresh, rest}
 use Rattle.points.specs.declared.Accord.{Accord}
 use Rattle.trellis.specs.Measure.{Start, Two}
-use Rattle.trellis.specs.Words.{wordsFrom}
 use Rattle.trellis.proofs.Spoken.{spoken-reach}
 use Rattle.nearest.specs.declared.Received.{Received}
 use Rattle.nearest.proofs.Laws.{line-chooses}
 use Rattle.nearest.specs.Line.{BothInRange, lineMeasure, lineChoice}
-use Rattle.machine.specs.Machine.{sound, agreedOf, keptOf, releasedOf, grown, taking, lastWords, opened, machineAfter, machineOf}
+use Rattle.machine.specs.Machine.{sound, agreedOf, keptOf, grown, taking, lastWords, opened, machineAfter, machineOf}
 use Rattle.told.specs.Told.{Told, withHeard, speakerOf, pendingAfter, judgeSymbol, Fine}
 use Rattle.machine.proofs.Owes.{owes, owes-step, owes-sound}
 use Rattle.machine.proofs.Finish.{last-words, last-many}
@@ -42,14 +41,9 @@ module _ (t : Told) (f : Fine t) where
   pub accord-told : machineOf t .core .accord ≡ t .accord
   accord-told = owes t f .keeps .accord
 
-  pub window-told : machineOf t .core .window ≡ t .window
-  window-told = owes t f .window
-
-  pub taken-told : machineOf t .core .taken ≡ length (t .heard)
-  taken-told = owes t f .keeps .taken
-
   pub pending-told : machineOf t .core .pending ≡ pendingAfter t (t .heard)
-  pending-told = omega (arith, owes t f .keeps .holds .count, spoken-reach (t .accord .u) (lineMeasure (t .accord)) (lineChoice (t .accord)) (line-chooses (t .accord)) (t .start) (f .good-start) (t .heard))
+  pending-told =
+      omega (arith, owes t f .keeps .holds .count, spoken-reach (t .accord .u) (lineMeasure (t .accord)) (lineChoice (t .accord)) (line-chooses (t .accord)) (t .start) (f .good-start) (t .heard))
 
   pub pending-fits : machineOf t .core .pending ≤ t .window
   pending-fits = owes t f .fits
@@ -61,9 +55,6 @@ module _ (t : Told) (f : Fine t) where
 
     pub agreed-told : agreedOf (machineOf t) y ≡ length (fresh (speakerOf t) (t .heard) y)
     agreed-told = owes-step t f y r few .agreed
-
-    pub words-told : wordsFrom (machineOf t .core .accord .u) (machineOf t .core .turn) (releasedOf (machineOf t) y) ≡ fresh (speakerOf t) (t .heard) y
-    words-told = owes-step t f y r few .words
 
     -- as many as were pending and the new one are released or stay pending
     pub fresh-kept : length (fresh (speakerOf t) (t .heard) y) + pendingAfter t (y ∷ t .heard) ≡ pendingAfter t (t .heard) + 1

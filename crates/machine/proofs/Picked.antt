@@ -75,7 +75,8 @@ symbol-at ac y a b c small ha hb hc =
     let e₃ : i3 % 2 ≡ i3 = omega (arith, i3s-below ac y k) in
     let e₄ : byteAt (numbersOf (W .w1) (W .w2)) q ≡ getD (W .w1) q 0 = first-number (W .w1) (W .w2) (λ i. byte _ (w1-below ac y i)) (λ i. byte _ (w2-below ac y i)) q h in
     let e₅ : byteAt (numbersOf (W .w1) (W .w2)) (4 + l) ≡ getD (W .w2) l 0 = second-number (W .w1) (W .w2) (λ i. byte _ (w1-below ac y i)) (λ i. byte _ (w2-below ac y i)) l (second-below q a b) in
-    let z : symbolBy (ac .u) (i3 % 2) (numbersOf (W .w1) (W .w2)) k ≡ pickedFrom (W .i3) (W .w1) (W .w2) a b c = rw (e₀, e₁, e₂, e₃, e₄, e₅, mod-eq-of-lt (w1-below ac y q), mod-eq-of-lt (w2-below ac y l)) in
+    let z : symbolBy (ac .u) (i3 % 2) (numbersOf (W .w1) (W .w2)) k ≡ pickedFrom (W .i3) (W .w1) (W .w2) a b c =
+    rw (e₀, e₁, e₂, e₃, e₄, e₅, mod-eq-of-lt (w1-below ac y q), mod-eq-of-lt (w2-below ac y l)) in
     z ∙ best-read ac y a b c ha hb hc
 
 -- the newest symbol of a step's subset
@@ -83,7 +84,8 @@ abbrev pub newSymbol : Accord → Two Received → ℕ → Symbol
 newSymbol ac y k = let w = weighedOf ac y in symbolBy (ac .u) (getD (w .i3) k 0 % 2) (numbersOf (w .w1) (w .w2)) k
 
 -- ── the cell ──
-module _ (ac : Accord) (b : Start) (y : Two Received) (sums : List ℕ) (room : Room sums (weighedOf ac y .costs)) (t : ℕ) (h : t < 16) (k : getD (sixteen (sumAt sums (weighedOf ac y .costs))) t 0 < limit) where
+module _ (ac : Accord) (b : Start) (y : Two Received) (sums : List ℕ) (room : Room sums (weighedOf ac y .costs)) (t : ℕ) (h : t < 16)
+    (k : getD (sixteen (sumAt sums (weighedOf ac y .costs))) t 0 < limit) where
   pub before-is : cell (searchOf ac b) y (rowOf sums) t .prev ≡ fromAt sums (weighedOf ac y .costs) t
   unfolding cell
   before-is = from-is ac b y sums room t h k

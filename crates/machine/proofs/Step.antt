@@ -146,7 +146,8 @@ module _ (b : Start) (g : GoodStart b) (ys : List (Two Received)) (good : Every 
   unfolding grown weighedOf
   grown-way h s l t =
       let W : Weighed = weighedOf ac y in
-      let e : getD (nextSteps rx y) s 0 ≡ firstStep (rx .sums) (costsOf rx y) s = step-at (rx .sums) (costsOf rx y) s l ∙ ap (firstStep (rx .sums) (costsOf rx y)) (followed-live (nextSums rx y) s (is-sum s t)) in
+      let e : getD (nextSteps rx y) s 0 ≡ firstStep (rx .sums) (costsOf rx y) s =
+      step-at (rx .sums) (costsOf rx y) s l ∙ ap (firstStep (rx .sums) (costsOf rx y)) (followed-live (nextSums rx y) s (is-sum s t)) in
       way-grown (rx .core) (rx .planes) (rx .picks) (nextSteps rx y) (W .i3) (numbersIn rx y) _ _ _ (agreedOf rx y) (o .picks-long) (o .slot-below) (o .pending-fits) n-few h s l
       ∙ ap₂ (λ (r : ℕ) (c : Symbol). drop (agreedOf rx y) (way r ++ (c ∷ []))) (sym (live-from s l t))
       (ap (λ (x : ℕ). newSymbol ac y (x % 8)) e ∙ sym (symbol-is ac b y (rx .sums) fits s l (is-sum s t) small))
@@ -155,7 +156,8 @@ module _ (b : Start) (g : GoodStart b) (ys : List (Two Received)) (good : Every 
   unfolding grown
   next-holds h =
       subst (Holds S (y ∷ ys) new (wayFrom (grown rx y .core) (grown rx y .planes) (grown rx y .picks))) (let e : suc p - agreedOf rx y ≡ keptOf rx y = omega arith in e)
-      (holds-next S (laws ac b) (onward ac b g) y ys row new way p H (H .less) off newest (agreedOf rx y) agree (wayFrom (grown rx y .core) (grown rx y .planes) (grown rx y .picks)) (λ s l t k. grown-way h s l t))
+      (holds-next S (laws ac b) (onward ac b g) y ys row new way p H (H .less) off newest (agreedOf rx y) agree
+      (wayFrom (grown rx y .core) (grown rx y .planes) (grown rx y .picks)) (λ s l t k. grown-way h s l t))
 
   grown-keeps : keptOf rx y ≤ 64 → Keeps ac b (y ∷ ys) (grown rx y)
   unfolding grown weighedOf

@@ -75,7 +75,9 @@ module _ (ac : Accord) (b : Start) (g : GoodStart b) where
   common-valid ys =
       let (p, a) = some-answer (searchOf ac b) (laws ac b) (onward ac b g) ys in
       let r = allowed-runs (ac .u) (lineMeasure ac) b ys p (a .allowed) in
-      front (common (searchOf ac b) ys) (symbols p) (common-final (searchOf ac b) (laws ac b) [] ys (common (searchOf ac b) ys) (common-common (searchOf ac b) (laws ac b) ys) p a) (allowed-valid (ac .u) (r .from) (symbols p) (r .allowed))
+      front (common (searchOf ac b) ys) (symbols p)
+      (common-final (searchOf ac b) (laws ac b) [] ys (common (searchOf ac b) ys) (common-common (searchOf ac b) (laws ac b) ys) p a)
+      (allowed-valid (ac .u) (r .from) (symbols p) (r .allowed))
     where
       front : (l m : List Symbol) → IsPrefix l m → Every (Valid (ac .u)) m → Every (Valid (ac .u)) l
       front [] m k v = tt

@@ -39,7 +39,9 @@ module _ (c : Core) (planes picks : List ℕ) where
     at r j h = getD-take k (wayFrom c planes picks r) j d h ∙ way-at r j d (omega arith)
 
     pub way-same : ((j : ℕ) → j < k → pendingAt c planes picks s j ≡ pendingAt c planes picks t j) → take k (wayFrom c planes picks s) ≡ take k (wayFrom c planes picks t)
-    way-same f = ext-getD d (take k (wayFrom c planes picks s)) (take k (wayFrom c planes picks t)) (front s ∙ sym (front t)) (λ j h. at s j (omega (arith, front s)) ∙ f j (omega (arith, front s)) ∙ sym (at t j (omega (arith, front s))))
+    way-same f =
+        ext-getD d (take k (wayFrom c planes picks s)) (take k (wayFrom c planes picks t)) (front s ∙ sym (front t))
+        (λ j h. at s j (omega (arith, front s)) ∙ f j (omega (arith, front s)) ∙ sym (at t j (omega (arith, front s))))
 
     pub same-way : take k (wayFrom c planes picks s) ≡ take k (wayFrom c planes picks t) → (j : ℕ) → j < k → pendingAt c planes picks s j ≡ pendingAt c planes picks t j
     same-way e j h = sym (at s j h) ∙ ap (λ (l : List Symbol). getD l j d) e ∙ at t j h
@@ -132,7 +134,8 @@ module _ (c : Core) (planes picks steps i3 : List ℕ) (n window taken turn k : 
       go (yes g) = older i g
       go (no g) = newest i (omega arith)
 
-  pub way-grown : wayFrom (record { accord = c .accord; window = window; taken = taken; turn = turn; slot = (c .slot + 1) % 64; pending = c .pending + 1 - k }) (movedOf (c .pending + 1) planes steps) (keptIn picks (c .slot) i3 n) s
+  pub way-grown : wayFrom (record { accord = c .accord; window = window; taken = taken; turn = turn; slot = (c .slot + 1) % 64; pending = c .pending + 1 - k })
+      (movedOf (c .pending + 1) planes steps) (keptIn picks (c .slot) i3 n) s
       ≡ drop k (wayFrom c planes picks (cameFrom (getD steps s 0)) ++ (symbolBy (c .accord .u) (getD i3 (getD steps s 0 % 8) 0 % 2) n (getD steps s 0 % 8) ∷ []))
   way-grown =
       let l = wayFrom c′ moved stored s in

@@ -57,6 +57,10 @@ pub symbols-apart : (u : ℕ) (c d : Symbol) → u ≤ 8 → Valid u c → Valid
 unfolding firstPoint secondPoint lastLabel
 symbols-apart u c d h p q e f =
     let k : 2 ^ u ≤ 256 = pow-mono h in
-    let a = points-apart (firstLabel c) (firstLabel d) (c .w1) (d .w1) (omega (arith, p .i2-below, p .i3-below)) (omega (arith, q .i2-below, q .i3-below)) (omega (arith, p .w1-below)) (omega (arith, q .w1-below)) e in
-    let b = points-apart (lastLabel c) (lastLabel d) (c .w2) (d .w2) (second-below (firstLabel c) (c .y0) (c .i1)) (second-below (firstLabel d) (d .y0) (d .i1)) (omega (arith, p .w2-below)) (omega (arith, q .w2-below)) f in
+    let a =
+    points-apart (firstLabel c) (firstLabel d) (c .w1) (d .w1) (omega (arith, p .i2-below, p .i3-below)) (omega (arith, q .i2-below, q .i3-below))
+    (omega (arith, p .w1-below)) (omega (arith, q .w1-below)) e in
+    let b =
+    points-apart (lastLabel c) (lastLabel d) (c .w2) (d .w2) (second-below (firstLabel c) (c .y0) (c .i1)) (second-below (firstLabel d) (d .y0) (d .i1))
+    (omega (arith, p .w2-below)) (omega (arith, q .w2-below)) f in
     labels-apart u u c d p q (a .0) (b .0) (a .1) (b .1)

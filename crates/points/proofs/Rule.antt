@@ -217,7 +217,9 @@ found : (p : Point) → IsA p → natAbs (p .x) ≤ 36 → natAbs (p .y) ≤ 36 
 unfolding gridPoint covered
 found p a g h l =
     let e : gridPoint (natAbs (p .x) / 2) (natAbs (p .y) / 2) ≡ p = λ i. record { x = coordinate-is (p .x) (a .x-is) i; y = coordinate-is (p .y) (a .y-is) i } in
-    let t = at 19 (λ j. covered (keys coordinates) (natAbs (p .x) / 2) j) (at 19 (λ i. upto 19 (λ j. covered (keys coordinates) i j)) test-covered (natAbs (p .x) / 2) (omega arith)) (natAbs (p .y) / 2) (omega arith) in
+    let t =
+    at 19 (λ j. covered (keys coordinates) (natAbs (p .x) / 2) j)
+    (at 19 (λ i. upto 19 (λ j. covered (keys coordinates) i j)) test-covered (natAbs (p .x) / 2) (omega arith)) (natAbs (p .y) / 2) (omega arith) in
     go (among (key p) (keys coordinates)) refl (subst (λ (q : Point). T (cond (among (key q) (keys coordinates)) true (leb lastPlace (high q)))) e t)
   where
     go : (b : Bool) → among (key p) (keys coordinates) ≡ b → T (cond b true (leb lastPlace (high p))) → (n : ℕ) × (n < 256) × (getD (keys coordinates) n 0 ≡ key p)

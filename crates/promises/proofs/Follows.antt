@@ -4,15 +4,13 @@
 --   follows    every run keeps it
 --   answers    and a finish that succeeds completes the answer
 use mathlib.Core.Path.{_≡_, refl, sym, ap, ap₂, subst, _∙_}
-use mathlib.Core.Bool.{Bool, true, false, cond}
 use mathlib.Core.List.{List, [], _++_, append-nil, reverse, reverse-reverse}
 use Prim.Native.Nat.{ℕ}
 use native.Mathlib.Omega.{arith}
-use lib.Dec.{ltb}
 use lib.ListN.{length, take, drop}
 use lib.Seq.{take-at}
 use Rattle.points.specs.declared.Accord.{Accord}
-use Rattle.calls.specs.Calls.{Ended as WalkEnded, walk, rest}
+use Rattle.calls.specs.Calls.{Ended as WalkEnded, walk}
 use Rattle.calls.proofs.Steps.{walk-heard, walk-said}
 use Rattle.calls.proofs.Prefixes.{joined}
 use Rattle.trellis.specs.Measure.{Two, GoodStart}
@@ -24,7 +22,8 @@ use Rattle.receiver.specs.declared.Answer.{Answer}
 use Rattle.openings.specs.Given.{startOf}
 use Rattle.told.specs.Piece.{Piece}
 use Rattle.told.proofs.Speaks.{speaks}
-use Rattle.told.specs.Owed.{endedOf, pieceOwed, finishOwed}
+use Rattle.told.specs.Owed.{endedOf, restOf}
+use Rattle.told.proofs.Cases.{piece-cases, finish-cases}
 use Rattle.openings.specs.Opening.{Receiver, machineOf}
 use Rattle.receiver.specs.Promise.{Pays, Hears, EndPays, Finishes}
 use Rattle.promises.specs.Talk.{Talk, opens, hears, refuses, Ended, ends}
@@ -73,37 +72,26 @@ module _ (ac : Accord) (w : ℕ) (b : Start) (took : List (Two Received)) (ws : 
       }
 
   pub piece-follows : (p : Piece) → Hears rx p out r o → Follows ac w b (took ++ take (r .taken) (p .symbols)) (ws ++ take (r .written) o) (r .receiver)
-  unfolding pieceOwed
-  piece-follows p h = go (p .fits) (h .owed t (f .fine) (f .machine))
-    where
-      go : (c : Bool) → Pays (let e = endedOf t p (length out) in cond c (record { reason = e .why; taken = e .taken; words = e .said; told = withHeard t (e .heard) }) (record { reason = record { number = 10; place = 0 }; taken = 0; words = []; told = t })) out r o →
-          Follows ac w b (took ++ take (r .taken) (p .symbols)) (ws ++ take (r .written) o) (r .receiver)
-      go true k = walks (p .symbols) (endedOf t p (length out)) refl k
-      go false k = idle ac w b took ws rx (r .receiver) (p .symbols) o (r .taken) (r .written) f (k .taken) (k .written) (k .receiver ∙ sym (f .machine))
+  piece-follows p h =
+      piece-cases t p (length out) (λ d. Pays d out r o → Follows ac w b (took ++ take (r .taken) (p .symbols)) (ws ++ take (r .written) o) (r .receiver))
+      (λ _. walks (p .symbols) (endedOf t p (length out)) refl)
+      (λ _ k. idle ac w b took ws rx (r .receiver) (p .symbols) o (r .taken) (r .written) f (k .taken) (k .written) (k .receiver ∙ sym (f .machine)))
+      (h .owed t (f .fine) (f .machine))
 
   -- a finish: refused, all as before; done, the answer whole
-  abbrev left : List ℕ
-  left = rest (speakerOf t) (reverse took)
-
   pub finish-refused : Finishes rx out r o → (givenOf (r .why) .number ≡ 0 → ⊥) → Follows ac w b took (ws ++ take (r .written) o) (r .receiver)
-  unfolding finishOwed
-  finish-refused h z = go (ltb (length out) (length left)) (h .owed t (f .fine) (f .machine))
-    where
-      go : (c : Bool) → EndPays (cond c (record { reason = record { number = 8; place = 0 }; words = []; closes = false }) (record { reason = record { number = 0; place = 0 }; words = left; closes = true })) rx out r o →
-          Follows ac w b took (ws ++ take (r .written) o) (r .receiver)
-      go true k = subst (λ (l : List (Two Received)). Follows ac w b l (ws ++ take (r .written) o) (r .receiver)) (append-nil took) (idle ac w b took ws rx (r .receiver) [] o 0 (r .written) f refl (k .written) (k .receiver))
-      go false k = absurd (z (ap (λ (x : Reason). x .number) (k .given)))
+  finish-refused h z =
+      finish-cases t (length out) (λ d. EndPays d rx out r o → Follows ac w b took (ws ++ take (r .written) o) (r .receiver))
+      (λ _ k. subst (λ (l : List (Two Received)). Follows ac w b l (ws ++ take (r .written) o) (r .receiver)) (append-nil took)
+      (idle ac w b took ws rx (r .receiver) [] o 0 (r .written) f refl (k .written) (k .receiver)))
+      (λ _ k. absurd (z (ap (λ (x : Reason). x .number) (k .given)))) (h .owed t (f .fine) (f .machine))
 
   pub finish-answers : Finishes rx out r o → givenOf (r .why) .number ≡ 0 → ws ++ take (r .written) o ≡ speakerOf t .answered (reverse took)
-  unfolding finishOwed
-  finish-answers h z = go (ltb (length out) (length left)) (h .owed t (f .fine) (f .machine))
-    where
-      go : (c : Bool) → EndPays (cond c (record { reason = record { number = 8; place = 0 }; words = []; closes = false }) (record { reason = record { number = 0; place = 0 }; words = left; closes = true })) rx out r o →
-          ws ++ take (r .written) o ≡ speakerOf t .answered (reverse took)
-      go true k = absurd (let n = ap (λ (x : Reason). x .number) (k .given) in omega arith)
-      go false k =
-          ap₂ (λ (x y : List ℕ). x ++ y) (f .said) (front left out o (r .written) (k .written) (k .output))
-          ∙ joined (speakerOf t .spoken (reverse took)) (speakerOf t .answered (reverse took)) (speaks t (f .fine) .within (reverse took))
+  finish-answers h z =
+      finish-cases t (length out) (λ d. EndPays d rx out r o → ws ++ take (r .written) o ≡ speakerOf t .answered (reverse took))
+      (λ _ k. absurd (let n = ap (λ (x : Reason). x .number) (k .given) in omega arith))
+      (λ _ k. ap₂ (λ (x y : List ℕ). x ++ y) (f .said) (front (restOf t) out o (r .written) (k .written) (k .output))
+      ∙ joined (speakerOf t .spoken (reverse took)) (speakerOf t .answered (reverse took)) (speaks t (f .fine) .within (reverse took))) (h .owed t (f .fine) (f .machine))
 
 -- ---- whole runs
 

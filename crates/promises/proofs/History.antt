@@ -18,6 +18,7 @@ use Rattle.points.specs.Agreed.{ofWidth}
 use Rattle.told.specs.Told.{Told, pendingAfter, Fine, FineList, withHeard}
 use Rattle.told.specs.Piece.{pieceOf}
 use Rattle.told.specs.Owed.{pieceOwed}
+use Rattle.told.proofs.Cases.{piece-goes}
 use Rattle.receiver.proofs.Laws.{fresh-most}
 use Rattle.openings.specs.declared.Start.{Start}
 use Rattle.openings.specs.declared.Start.the-variants.{Free}
@@ -48,8 +49,8 @@ fine-same t zs (y ∷ ys) f = (f .0, f .1, fine-same t zs ys (f .2))
 -- one symbol that is not one to refuse, as a piece with room for 64 words
 heard-one : (t : Told) (f : Fine t) (y : Two Received) → BothInRange y → length (t .heard) < 4294967295 → pendingAfter t (y ∷ t .heard) ≤ t .window →
     pieceOwed t (pieceOf (fourOf y)) 64 .told ≡ withHeard t (y ∷ t .heard)
-unfolding pieceOwed walk
-heard-one t f y r few h = rw (said-is t (t .heard) y 64 (reason 0) (table.SymbolGives.taken r few h (fresh-most t f y r few)))
+unfolding walk
+heard-one t f y r few h = rw (piece-goes t (pieceOf (fourOf y)) 64 refl, said-is t (t .heard) y 64 (reason 0) (table.SymbolGives.taken r few h (fresh-most t f y r few)))
 
 module _ (ac : Accord) (w : ℕ) (b : Start) where
   abbrev after : List (Two Received) → Told
@@ -65,7 +66,7 @@ module _ (ac : Accord) (w : ℕ) (b : Start) where
 
 -- so for each number there is an end that has been told so many; and one that has been told 4,294,967,295 answers 7
 pub histories-end : (n : ℕ) → n ≤ 4294967295 → (t : Told) × Fine t × (length (t .heard) ≡ n) × End (machineOf t) × (n ≡ 4294967295 → AnswersSeven (machineOf t))
-unfolding pieceOwed walk
+unfolding walk
 histories-end n h =
     let f = steady n h in
     let l = length-replicate n zeros in (
@@ -73,7 +74,7 @@ histories-end n h =
       f,
       l,
       fine-end (ofWidth 0) 64 Free (replicate n zeros) f,
-      λ e y g out r o p. p .owed (told n) f refl .given ∙ rw (seven (told n) (replicate n zeros) y (length out) (l ∙ e) g),
+      λ e y g out r o p. p .owed (told n) f refl .given ∙ rw (piece-goes (told n) (pieceOf (fourOf y)) (length out) refl, seven (told n) (replicate n zeros) y (length out) (l ∙ e) g),
     )
 
 pub full : (rx : Receiver) × End rx × AnswersSeven rx

@@ -2,7 +2,6 @@
 --   hears-left      the receiver has been told exactly the symbols taken more, and the output beyond the words written is unchanged
 --   hears-refused   where no symbol was taken (a 9, a 10, or the first symbol refused) nothing was written, and all is as it was
 use mathlib.Core.Path.{_≡_, refl, sym, ap, subst, _∙_}
-use mathlib.Core.Bool.{Bool, true, false, cond}
 use mathlib.Core.List.{List, [], _∷_, _++_, reverse}
 use mathlib.Core.Logic.{⊎-elim}
 use Prim.Native.Nat.{ℕ}
@@ -11,10 +10,11 @@ use lib.ListN.{length, take, drop}
 use lib.Seq.{drop-at}
 use Rattle.trellis.specs.Measure.{Two}
 use Rattle.nearest.specs.declared.Received.{Received}
-use Rattle.reasons.specs.Reason.{Reason, reason, givenOf}
+use Rattle.reasons.specs.Reason.{Reason, givenOf}
 use Rattle.told.specs.Told.{Told, withHeard, Fine}
 use Rattle.told.specs.Piece.{Piece}
-use Rattle.told.specs.Owed.{Owed, endedOf, pieceOwed}
+use Rattle.told.specs.Owed.{pieceOwed}
+use Rattle.told.proofs.Cases.{piece-cases}
 use Rattle.openings.specs.Opening.{Receiver, shut, machineOf}
 use Rattle.receiver.specs.declared.Answer.{Answer}
 use Rattle.receiver.specs.Doors.{Ran, hearing}
@@ -35,13 +35,8 @@ abbrev pub toldMore : Told → Piece → ℕ → Told
 toldMore t q m = withHeard t (reverse (take m (q .symbols)) ++ t .heard)
 
 told-after : (t : Told) (q : Piece) (room : ℕ) → pieceOwed t q room .told ≡ toldMore t q (pieceOwed t q room .taken)
-unfolding pieceOwed
-told-after t q room = go (q .fits)
-  where
-    go : (b : Bool) → let d : Owed = cond b (let e = endedOf t q room in record { reason = e .why; taken = e .taken; words = e .said; told = withHeard t (e .heard) }) (record { reason = reason 10; taken = 0; words = []; told = t }) in
-        d .told ≡ toldMore t q (d .taken)
-    go true = ap (withHeard t) (heard-then t (t .heard) (q .symbols) room)
-    go false = refl
+told-after t q room =
+    piece-cases t q room (λ d. d .told ≡ toldMore t q (d .taken)) (λ _. ap (withHeard t) (heard-then t (t .heard) (q .symbols) room)) (λ _. refl)
 
 module _ (t : Told) (f : Fine t) (rx : Receiver) (m : rx ≡ machineOf t) (q : Piece) (out : List ℕ) (r : Answer) (o : List ℕ) (h : Hears rx q out r o) where
   pub hears-left : (r .receiver ≡ machineOf (toldMore t q (r .taken))) × (drop (r .written) o ≡ drop (r .written) out)

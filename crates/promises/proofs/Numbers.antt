@@ -13,11 +13,11 @@ use lib.IntN.{ℤ}
 use lib.ListN.{length, take, drop, length-append, drop-of-length-le}
 use Rattle.points.specs.declared.Accord.{Accord}
 use Rattle.points.specs.Agreed.{isAccord}
-use Rattle.calls.specs.Calls.{Ended, fresh, rest, after, walk}
+use Rattle.calls.specs.Calls.{Ended, fresh, after, walk}
 use Rattle.calls.proofs.Steps.{walk-heard}
 use Rattle.trellis.specs.Measure.{Two}
 use Rattle.nearest.specs.declared.Received.{Received}
-use Rattle.told.specs.Told.{Told, speakerOf, judgeOf, judgeSymbol, pendingAfter, faultOf, withHeard}
+use Rattle.told.specs.Told.{Told, speakerOf, judgeOf, judgeSymbol, pendingAfter, faultOf}
 use Rattle.reasons.specs.Reason.{Reason, reason}
 use Rattle.told.proofs.Telling.{no-fault, in-range}
 use Rattle.sender.specs.declared.Sender.{Sender}
@@ -31,7 +31,8 @@ use Rattle.openings.specs.Opening.{opening, openingOwed}
 use Rattle.told.specs.Piece.{Piece}
 use Rattle.receiver.specs.Doors.{stopped}
 use Rattle.promises.specs.End.{End, heard}
-use Rattle.told.specs.Owed.{Owed, endedOf, pieceOwed, FinishOwed, finishOwed}
+use Rattle.told.specs.Owed.{endedOf, pieceOwed, finishOwed}
+use Rattle.told.proofs.Cases.{piece-cases, finish-cases}
 use Rattle.promises.specs.Table as table
 
 -- ---- the sender
@@ -184,8 +185,7 @@ heard-then t ys zs room =
 
 module _ (t : Told) (q : Piece) (room : ℕ) where
   pub piece-case : let d = pieceOwed t q room in table.PieceGives t q room (d .taken) (length (d .words)) (d .reason)
-  unfolding pieceOwed
-  piece-case = go (q .fits) refl
+  piece-case = piece-cases t q room (λ d. table.PieceGives t q room (d .taken) (length (d .words)) (d .reason)) (λ z. walked z (went t (t .heard) (q .symbols) room)) (λ z. table.PieceGives.ten z refl refl)
     where
       e : Ended (speakerOf t) (judgeOf t)
       e = endedOf t q room
@@ -196,12 +196,6 @@ module _ (t : Told) (q : Piece) (room : ℕ) where
           table.PieceGives.stopped z y later d k (e .why) n
           (subst (table.SymbolGives t (reverse (take (e .taken) (q .symbols)) ++ t .heard) y (room - length (e .said))) (sym (w ∙ ap (λ (l : List (Two Received)). judgeSymbol t l y (room - length (e .said))) (heard-then t (t .heard) (q .symbols) room)))
           (said-case t (reverse (take (e .taken) (q .symbols)) ++ t .heard) y (room - length (e .said))))
-
-      go : (b : Bool) → q .fits ≡ b →
-          let d : Owed = cond b (record { reason = e .why; taken = e .taken; words = e .said; told = withHeard t (e .heard) }) (record { reason = reason 10; taken = 0; words = []; told = t }) in
-          table.PieceGives t q room (d .taken) (length (d .words)) (d .reason)
-      go true e₀ = walked e₀ (went t (t .heard) (q .symbols) room)
-      go false e₀ = table.PieceGives.ten e₀ refl refl
 
 pub apart : (b : Bool) → b ≡ true → b ≡ false → ⊥
 apart b e f = let z : _≡_ {A = ℕ} 0 1 = cc in omega arith
@@ -232,16 +226,8 @@ piece-one t q room m n g h (table.PieceGives.stopped a y later d v g′ z s) (ta
 
 module _ (t : Told) (room : ℕ) where
   pub finish-case : table.FinishGives t room (finishOwed t room .reason .number)
-  unfolding finishOwed
-  finish-case = go (ltb room (length (rest (speakerOf t) (t .heard)))) refl
-    where
-      go : (b : Bool) → ltb room (length (rest (speakerOf t) (t .heard))) ≡ b →
-          let d : FinishOwed = cond b (record { reason = reason 8; words = []; closes = false }) (record { reason = reason 0; words = rest (speakerOf t) (t .heard); closes = true }) in
-          table.FinishGives t room (d .reason .number)
-      go true e = table.FinishGives.eight (ltb-true room (length (rest (speakerOf t) (t .heard))) e)
-      go false e = table.FinishGives.done (ltb-false room (length (rest (speakerOf t) (t .heard))) e)
+  finish-case = finish-cases t room (λ d. table.FinishGives t room (d .reason .number)) table.FinishGives.eight table.FinishGives.done
 
   pub finish-is : (k : ℕ) → table.FinishGives t room k → finishOwed t room .reason .number ≡ k
-  unfolding finishOwed
-  finish-is k (table.FinishGives.eight h) = rw (lt-ltb room (length (rest (speakerOf t) (t .heard))) h)
-  finish-is k (table.FinishGives.done h) = rw (le-ltb room (length (rest (speakerOf t) (t .heard))) h)
+  finish-is k (table.FinishGives.eight h) = finish-cases t room (λ d. d .reason .number ≡ 8) (λ _. refl) (λ g. absurd (omega arith))
+  finish-is k (table.FinishGives.done h) = finish-cases t room (λ d. d .reason .number ≡ 0) (λ g. absurd (omega arith)) (λ _. refl)

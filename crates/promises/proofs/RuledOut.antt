@@ -11,8 +11,8 @@
 --   counts-true        one that reports made-up counts, from demands 1 and 3: as many symbols are taken as the receiver has been told
 --                      more, and
 --                      as many words written as are spoken more
-use mathlib.Core.Path.{_≡_, refl, sym, ap, _∙_}
-use mathlib.Core.Bool.{Bool, true, false, cond}
+use mathlib.Core.Path.{_≡_, refl, sym, subst, ap, _∙_}
+use mathlib.Core.Bool.{Bool, true, false}
 use mathlib.Core.List.{List, [], _∷_, _++_, append-nil, reverse}
 use Prim.Native.Nat.{ℕ, zero, suc, _+_, _-_}
 use native.Mathlib.Omega.{arith}
@@ -29,9 +29,10 @@ use Rattle.nearest.specs.declared.Received.{Received}
 use Rattle.nearest.specs.Line.{BothInRange, lineMeasure, lineChoice}
 use Rattle.nearest.proofs.Laws.{line-chooses}
 use Rattle.reasons.specs.Reason.{Reason, reason, givenOf}
-use Rattle.told.specs.Told.{Told, withHeard, speakerOf, judgeSymbol, judgeOf, Fine}
+use Rattle.told.specs.Told.{Told, speakerOf, judgeSymbol, judgeOf, Fine}
 use Rattle.told.specs.Piece.{Piece, symbolsOf, pieceOf}
-use Rattle.told.specs.Owed.{Owed, endedOf, pieceOwed}
+use Rattle.told.specs.Owed.{Owed, endedOf, pieceGoes, pieceOwed}
+use Rattle.told.proofs.Cases.{piece-cases, piece-goes}
 use Rattle.told.proofs.Telling.{fine-opened}
 use Rattle.told.proofs.Speaks.{speaks}
 use Rattle.openings.specs.declared.Start.{Start}
@@ -41,10 +42,10 @@ use Rattle.openings.proofs.Openings.{opening-told}
 use Rattle.sender.specs.declared.Sender.{Sender}
 use Rattle.sender.specs.Run as sender
 use Rattle.receiver.specs.declared.Answer.{Answer}
-use Rattle.receiver.specs.Doors.{Ran, hearing}
+use Rattle.receiver.specs.Doors.{hearing}
 use Rattle.receiver.specs.Promise.{Hears}
-use Rattle.receiver.proofs.Doors.{hearing-owes}
-use Rattle.cases.proofs.Computed.{freshly, a-a-five, five-one, five-taken}
+use Rattle.receiver.proofs.Doors.{OwedBy, hearing-owes}
+use Rattle.cases.proofs.Computed.{a-a-five, five-one, five-taken}
 use Rattle.promises.specs.Talk.{Talk, Ended}
 use Rattle.promises.specs.Clean.{allOnLine}
 use Rattle.promises.specs.Table as table
@@ -102,15 +103,15 @@ fresh-fine = fine-opened (ofWidth 0) 64 (fresh-told .start) refl (omega arith) (
 
 -- what is spoken of five (A,A), as the machine computes it
 five-spoken : speakerOf fresh-told .spoken (reverse (symbolsOf a-a-five)) ≡ 0 ∷ []
-unfolding pieceOwed
 five-spoken =
     let p = pieceOf a-a-five in
-    let d = hearing-owes fresh-told fresh-fine p 5 in
-    let same : (x : Ran → ℕ) → x (hearing (machineOf fresh-told) p 5) ≡ x (hearing (freshly 64 (At 0)) p 5) = λ x. ap (λ (rx : Receiver). x (hearing rx p 5)) (sym (opening-told (ofWidth 0) 64 (At 0) fresh-fine)) in
+    let owes = subst (OwedBy (hearing (machineOf fresh-told) p 5)) (piece-goes fresh-told p 5 refl) (hearing-owes fresh-told fresh-fine p 5) in
+    let d = subst (λ (rx : Receiver). OwedBy (hearing rx p 5) (pieceGoes fresh-told p 5)) (sym (opening-told (ofWidth 0) 64 (At 0) fresh-fine)) owes in
     let e = endedOf fresh-told p 5 in
-    let n : e .taken ≡ 5 = sym (d .taken) ∙ same (λ r. r .taken) ∙ five-taken in
-    let l : e .heard ≡ reverse (symbolsOf a-a-five) = heard-then fresh-told [] (p .symbols) 5 ∙ append-nil (reverse (take (e .taken) (p .symbols))) ∙ ap (λ (m : ℕ). reverse (take m (p .symbols))) n in
-    let ws : e .said ≡ 0 ∷ [] = sym (d .words) ∙ ap (λ (rx : Receiver). hearing rx p 5 .words) (sym (opening-told (ofWidth 0) 64 (At 0) fresh-fine)) ∙ five-one in
+    let n : e .taken ≡ 5 = sym (d .taken) ∙ five-taken in
+    let l : e .heard ≡ reverse (symbolsOf a-a-five) =
+    heard-then fresh-told [] (p .symbols) 5 ∙ append-nil (reverse (take (e .taken) (p .symbols))) ∙ ap (λ (m : ℕ). reverse (take m (p .symbols))) n in
+    let ws : e .said ≡ 0 ∷ [] = sym (d .words) ∙ five-one in
     ap (speakerOf fresh-told .spoken) (sym l)
     ∙ sym (walk-said (speakerOf fresh-told) (speaks fresh-told fresh-fine) (judgeOf fresh-told) [] (p .symbols) 5)
     ∙ ap (λ (l : List ℕ). l ++ e .said) (speaks fresh-told fresh-fine .starts) ∙ ws
@@ -137,16 +138,10 @@ module _ (t : Told) where
     written : length (speakerOf t .spoken (o .told .heard)) ≡ length (speakerOf t .spoken (t .heard)) + length (o .words)
 
   owing : Fine t → (p : Piece) (room : ℕ) → Owing (pieceOwed t p room)
-  unfolding pieceOwed
-  owing f p room = go (p .fits)
-    where
-      go : (b : Bool) → Owing (cond b (record { reason = endedOf t p room .why; taken = endedOf t p room .taken; words = endedOf t p room .said; told = withHeard t (endedOf t p room .heard) }) (record { reason = reason 10; taken = 0; words = []; told = t }))
-      go false = record { taken = omega arith; written = omega arith }
-      go true =
-          record {
-            taken = heard-many (p .symbols) (t .heard) room;
-            written = sym (ap length (walk-said (speakerOf t) (speaks t f) (judgeOf t) (t .heard) (p .symbols) room)) ∙ length-append (speakerOf t .spoken (t .heard)) (endedOf t p room .said);
-          }
+  owing f p room =
+      let said = walk-said (speakerOf t) (speaks t f) (judgeOf t) (t .heard) (p .symbols) room in
+      let words = sym (ap length said) ∙ length-append (speakerOf t .spoken (t .heard)) (endedOf t p room .said) in
+      piece-cases t p room Owing (λ _. record { taken = heard-many (p .symbols) (t .heard) room; written = words }) (λ _. record { taken = omega arith; written = omega arith })
 
   -- the symbols and the words that an answer counts
   pub record Counts (q : Piece) (room : ℕ) (r : Answer) : Type 0 where

@@ -10,7 +10,7 @@ use native.Mathlib.Omega.{arith}
 use borrow.Author.Tests.{eqb-true, ltb-true, ltb-false, leb-false}
 use lib.Dec.{eqb, leb, ltb}
 use lib.ListN.{length}
-use Rattle.calls.specs.Calls.{walk, after, fresh, rest}
+use Rattle.calls.specs.Calls.{walk, after, fresh}
 use Rattle.trellis.specs.Measure.{Two}
 use Rattle.nearest.specs.declared.Received.{Received}
 use Rattle.nearest.specs.Line.{BothInRange}
@@ -26,7 +26,8 @@ use Rattle.receiver.specs.declared.Answer.{Answer}
 use Rattle.told.specs.Piece.{Piece}
 use Rattle.pieces.specs.Running.{Ran, running}
 use Rattle.receiver.specs.Doors.{stopped, hearing, finishing}
-use Rattle.told.specs.Owed.{Owed, endedOf, pieceOwed, FinishOwed, finishOwed}
+use Rattle.told.specs.Owed.{Owed, endedOf, pieceOwed, finishOwed}
+use Rattle.told.proofs.Cases.{finish-cases}
 use Rattle.receiver.specs.Promise.{Hears, Finishes}
 use Rattle.told.proofs.Telling.{in-range}
 use Rattle.pieces.proofs.Room.{running-few}
@@ -66,12 +67,7 @@ finishes-fit rx out r o h = omega (arith, h .always .written, finishing-few rx (
 
 module _ (t : Told) (f : Fine t) where
   pub finish-most : (room : ℕ) → length (finishOwed t room .words) ≤ 64
-  unfolding finishOwed
-  finish-most room = go (ltb room (length (rest (speakerOf t) (t .heard))))
-    where
-      go : (b : Bool) → length (cond {A = FinishOwed} b (record { reason = reason 8; words = []; closes = false }) (record { reason = reason 0; words = rest (speakerOf t) (t .heard); closes = true }) .words) ≤ 64
-      go true = omega arith
-      go false = rest-most t f
+  finish-most room = finish-cases t room (λ d. length (d .words) ≤ 64) (λ _. omega arith) (λ _. rest-most t f)
 
 -- ---- room enough
 

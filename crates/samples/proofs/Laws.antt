@@ -1,6 +1,6 @@
 -- For callers: what follows from the meaning of a heard coordinate and a heard sample, so that no caller has to open the definitions of
 -- specs/Heard.antt.
---   heard-in-range, sample-in-range   whatever is given lies from -8192 to 8192
+--   heard-in-range    whatever is given lies from -8192 to 8192
 --   refused-exactly   refused are the floats that are no number, infinite, or rounded out of range, and no others
 --   nan-refused, infinite-refused, nan-pattern-refused   in particular a NaN and both infinities; and each pattern of a NaN
 --   heard-pattern     what is heard of a float is what the meaning says of any pattern that stands for it
@@ -22,7 +22,7 @@ use lib.Ieee.Bits.{is-true, ofBits-fits}
 use lib.Ieee.Exact.{HasValue}
 use lib.Ieee.Back.{round-whole}
 use Rattle.samples.specs.Nearest.{nearestEven, IsNearest}
-use Rattle.samples.specs.Given.{GivenCoordinate, done, refused, GivenSample, bothDone, refusedAt}
+use Rattle.samples.specs.Given.{GivenCoordinate, done, refused, bothDone, refusedAt}
 use Rattle.samples.specs.Heard.{units, isNegative, field, digits, signed, inRange, heardFields, heardBits, heardCoordinate, bothOrFault, heardSample}
 use Rattle.samples.proofs.Nearest.{nearest-is, nearest-le, nearest-ge}
 use Rattle.samples.proofs.Value.{size-signed, in-range, out-of-range, range-cases, byValue, of-value, of-bits, heard-value}
@@ -47,18 +47,6 @@ unfolding heardCoordinate heardBits
 heard-in-range v =
     let b = toBits binary32 v in
     fields-small (isNegative b) (field b) (digits b)
-
-pub sample-in-range : (x y : Float) → (natAbs (heardSample x y .x) ≤ 8192) × (natAbs (heardSample x y .y) ≤ 8192)
-unfolding heardSample
-sample-in-range x y = go (eqb (heardCoordinate x .number) 0) (eqb (heardCoordinate y .number) 0)
-  where
-    Small : GivenSample → Type 0
-    Small g = (natAbs (g .x) ≤ 8192) × (natAbs (g .y) ≤ 8192)
-
-    go : (a b : Bool) → Small (cond a (cond b (bothDone (heardCoordinate x .value) (heardCoordinate y .value)) (refusedAt 1)) (refusedAt 0))
-    go true true = (heard-in-range x, heard-in-range y)
-    go true false = (omega arith, omega arith)
-    go false b = (omega arith, omega arith)
 
 -- ---- what is refused
 abbrev pub Unheard : Float → Type 0

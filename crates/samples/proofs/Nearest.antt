@@ -124,7 +124,8 @@ nearest-plus A n d E D = nearest-only (A * d + n) d (nearestEven (A * d + n) d) 
         }
 
 pub nearest-minus : (A n d : ℕ) → A % 2 ≡ 0 → 0 < d → n ≤ A * d → nearestEven (A * d - n) d ≡ A - nearestEven n d
-nearest-minus A n d E D h = nearest-only (A * d - n) d (nearestEven (A * d - n) d) (A - nearestEven n d) D (nearest-is (A * d - n) d D) (moved (nearestEven n d) (nearest-le n d A D h) (nearest-is n d D))
+nearest-minus A n d E D h =
+    nearest-only (A * d - n) d (nearestEven (A * d - n) d) (A - nearestEven n d) D (nearest-is (A * d - n) d D) (moved (nearestEven n d) (nearest-le n d A D h) (nearest-is n d D))
   where
     moved : (r : ℕ) → r ≤ A → IsNearest n d r → IsNearest (A * d - n) d (A - r)
     moved r l p =

@@ -82,7 +82,8 @@ whole-casts (pos n) h = positive-back binary32 31 n (le→leb n 16777216 (omega 
 whole-casts (negsuc n) h = negative-back binary32 31 n (lt→ltb n 16777216 (omega arith)) (omega arith)
 
 -- ---- the answer
-pub passed : (v : Float) → T (fits binary32 v) → le lowest (converted v) ≡ true → le (converted v) highest ≡ true → T (inSigned binary32 31 (converted v)) × (done (toSigned 31 (converted v)) ≡ heardCoordinate v)
+pub passed : (v : Float) → T (fits binary32 v) → le lowest (converted v) ≡ true → le (converted v) highest ≡ true →
+    T (inSigned binary32 31 (converted v)) × (done (toSigned 31 (converted v)) ≡ heardCoordinate v)
 passed v f p q = rw (heard-value v f) (go (converted v) (byValue v) p q (outcome v f))
   where
     go : (w : Float) (g : GivenCoordinate) → le lowest w ≡ true → le w highest ≡ true → Outcome w g → T (inSigned binary32 31 w) × (done (toSigned 31 w) ≡ g)

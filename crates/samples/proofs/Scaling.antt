@@ -52,7 +52,8 @@ scaled-exact s m e t h =
     let g = parts s m e t in
     let j = exponent e (g .1) in
     let is : n * 2 ^ 149 ≡ m * 2 ^ (j .0) * d = mul-assoc (m * up e) 128 (2 ^ 149) ∙ mul-assoc m (up e) (2 ^ 156) ∙ ap (λ (z : ℕ). m * z) (j .1) ∙ sym (mul-assoc m (2 ^ (j .0)) d) in
-    let small : m * 2 ^ (j .0) < 2 ^ 171 = lt-of-mul-lt-mul-right d (lt-of-le-of-lt (le-of-eq (sym is)) (lt-of-lt-of-le (mul-lt-mul-of-pos-right h (pow-pos 149)) (le-of-eq (mul-right-comm 4194304 d (2 ^ 149))))) in
+    let small : m * 2 ^ (j .0) < 2 ^ 171 =
+    lt-of-mul-lt-mul-right d (lt-of-le-of-lt (le-of-eq (sym is)) (lt-of-lt-of-le (mul-lt-mul-of-pos-right h (pow-pos 149)) (le-of-eq (mul-right-comm 4194304 d (2 ^ 149))))) in
     subst (λ (x : Float). HasValue x s n d) (sym (mul-opens s m e))
     (round-exact binary32 s n d m (j .0) (down-pos e) (g .0) (lt-of-lt-of-le small (lit≤ tt)) is)
 

@@ -30,7 +30,8 @@ module _ (b : ℕ) (f : ℕ → ℕ) (planes : List ℕ) where
   unfolding putBelow
   put-none e =
       sym (all-listed planes 48 e)
-      ∙ tabled-same (λ i. getD planes i 0) (placePut b f planes 0) 48 (λ i h. sym (ap (λ (x : Bool). cond (eqb (i / 16) b && x) (f (i % 16)) (getD planes i 0)) (le-ltb (i % 16) 0 (omega arith)) ∙ ap (λ (x : Bool). cond x (f (i % 16)) (getD planes i 0)) (and-none (eqb (i / 16) b))))
+      ∙ tabled-same (λ i. getD planes i 0) (placePut b f planes 0) 48 (λ i h. sym (ap (λ (x : Bool). cond (eqb (i / 16) b && x) (f (i % 16)) (getD planes i 0)) (le-ltb (i % 16) 0 (omega arith))
+      ∙ ap (λ (x : Bool). cond x (f (i % 16)) (getD planes i 0)) (and-none (eqb (i / 16) b))))
 
   pub put-more : (s v : ℕ) → b < 3 → s < 16 → v ≡ f s → set (putBelow b f planes s) (16 * b + s) v ≡ putBelow b f planes (s + 1)
   unfolding putBelow
@@ -80,7 +81,8 @@ module _ (planes steps : List ℕ) where
       longer (getD ways s 0) (getD below s 0 / 2 ^ 61 % 8) ≡ movedAt planes steps (suc b) s
   unfolding wordsBefore carried
   up-is b ways below e d s h =
-      ap₂ (λ (w x : ℕ). longer w (x / 2 ^ 61 % 8)) (ap (λ (l : List ℕ). getD l s 0) e ∙ tabled-at (wordBefore planes steps (suc b)) 16 s h) (ap (λ (l : List ℕ). getD l s 0) d ∙ tabled-at (wordBefore planes steps b) 16 s h)
+      ap₂ (λ (w x : ℕ). longer w (x / 2 ^ 61 % 8)) (ap (λ (l : List ℕ). getD l s 0) e ∙ tabled-at (wordBefore planes steps (suc b)) 16 s h)
+      (ap (λ (l : List ℕ). getD l s 0) d ∙ tabled-at (wordBefore planes steps b) 16 s h)
 
   moved-at : (n i : ℕ) → i < 48 → getD (movedOf n planes steps) i 0 ≡ placeMoved n planes steps i
   unfolding movedOf
@@ -93,7 +95,9 @@ module _ (planes steps : List ℕ) where
   module _ (n : ℕ) (f : ℕ → ℕ) (is : (s : ℕ) → s < 16 → f s ≡ movedAt planes steps 0 s) where
     pub one-moved : n ≤ 21 → putWord 0 f planes ≡ movedOf n planes steps
     unfolding movedWords
-    one-moved h = ext-getD 0 (putWord 0 f planes) (movedOf n planes steps) (put-length 0 f planes 16 ∙ sym (moved-long n)) (λ i k. let l : i < 48 = omega (arith, put-length 0 f planes 16) in put-at 0 f planes i l ∙ go i (i / 16) ∙ sym (moved-at n i l ∙ rw (le-leb n 21 h)))
+    one-moved h =
+        ext-getD 0 (putWord 0 f planes) (movedOf n planes steps) (put-length 0 f planes 16 ∙ sym (moved-long n))
+        (λ i k. let l : i < 48 = omega (arith, put-length 0 f planes 16) in put-at 0 f planes i l ∙ go i (i / 16) ∙ sym (moved-at n i l ∙ rw (le-leb n 21 h)))
       where
         go : (i b : ℕ) → cond (eqb b 0) (f (i % 16)) (getD planes i 0) ≡ cond (ltb b 1) (movedAt planes steps b (i % 16)) (getD planes i 0)
         go i zero = is (i % 16) (omega arith)
@@ -105,7 +109,8 @@ module _ (planes steps : List ℕ) where
       two-moved h h′ =
           ext-getD 0 (putWord 0 f (putWord 1 g planes)) (movedOf n planes steps) (put-length 0 f (putWord 1 g planes) 16 ∙ sym (moved-long n))
           (λ i k. let l : i < 48 = omega (arith, put-length 0 f (putWord 1 g planes) 16) in
-          put-at 0 f (putWord 1 g planes) i l ∙ ap (λ (x : ℕ). cond (eqb (i / 16) 0) (f (i % 16)) x) (put-at 1 g planes i l) ∙ go i (i / 16) ∙ sym (moved-at n i l ∙ rw (lt-leb n 21 h, le-leb n 42 h′)))
+          put-at 0 f (putWord 1 g planes) i l ∙ ap (λ (x : ℕ). cond (eqb (i / 16) 0) (f (i % 16)) x) (put-at 1 g planes i l) ∙ go i (i / 16)
+          ∙ sym (moved-at n i l ∙ rw (lt-leb n 21 h, le-leb n 42 h′)))
         where
           go : (i b : ℕ) → cond (eqb b 0) (f (i % 16)) (cond (eqb b 1) (g (i % 16)) (getD planes i 0)) ≡ cond (ltb b 2) (movedAt planes steps b (i % 16)) (getD planes i 0)
           go i zero = is (i % 16) (omega arith)
@@ -121,7 +126,8 @@ module _ (planes steps : List ℕ) where
           ∙ ap (λ (x : ℕ). cond (eqb (i / 16) 0) (f (i % 16)) x) (put-at 1 g (putWord 2 k planes) i l ∙ ap (λ (x : ℕ). cond (eqb (i / 16) 1) (g (i % 16)) x) (put-at 2 k planes i l))
           ∙ go i (i / 16) (omega arith) ∙ sym (moved-at n i l ∙ rw (lt-leb n 21 (omega arith), lt-leb n 42 h)))
         where
-          go : (i b : ℕ) → b < 3 → cond (eqb b 0) (f (i % 16)) (cond (eqb b 1) (g (i % 16)) (cond (eqb b 2) (k (i % 16)) (getD planes i 0))) ≡ cond (ltb b 3) (movedAt planes steps b (i % 16)) (getD planes i 0)
+          go : (i b : ℕ) → b < 3 →
+              cond (eqb b 0) (f (i % 16)) (cond (eqb b 1) (g (i % 16)) (cond (eqb b 2) (k (i % 16)) (getD planes i 0))) ≡ cond (ltb b 3) (movedAt planes steps b (i % 16)) (getD planes i 0)
           go i zero l = is (i % 16) (omega arith)
           go i (suc zero) l = is₁ (i % 16) (omega arith)
           go i (suc (suc zero)) l = is₂ (i % 16) (omega arith)

@@ -110,7 +110,8 @@ module _ {K : Code} (S : Search K) (L : Laws S) where
     rest-begins : (s : ℕ) (p : Path C) → Best K zs s p → take (length rest) (past s) ≡ rest
     rest-begins s p b =
         let (e, c) = splits s p b in
-        let h : IsPrefix (l ++ rest) (l ++ longer S y sums way s) = subst (λ (x : List C). IsPrefix x (l ++ longer S y sums way s)) (sym (more .1)) (subst (IsPrefix (common S zs)) e (common-common S L zs s p b)) in
+        let h : IsPrefix (l ++ rest) (l ++ longer S y sums way s) =
+        subst (λ (x : List C). IsPrefix x (l ++ longer S y sums way s)) (sym (more .1)) (subst (IsPrefix (common S zs)) e (common-common S L zs s p b)) in
         sym (take-append-le (length rest) (past s) (cell S y sums s .symbol ∷ []) (omega (arith, rest-few))) ∙ prefix-take rest (longer S y sums way s) (prefix-off l rest (longer S y sums way s) h)
 
     module _ (k : ℕ) (A : Agreed N (λ s. up (next s)) past n k) where
@@ -126,7 +127,8 @@ module _ {K : Code} (S : Search K) (L : Laws S) where
       agreed-common : (s : ℕ) → s < N → T (up (next s)) → Common K zs (l ++ take k (past s))
       agreed-common s h a t q b =
           let (e, c) = splits t q b in
-          let z : take k (longer S y sums way t) ≡ take k (past s) = take-append-le k (past t) (cell S y sums t .symbol ∷ []) (omega (arith, A .few)) ∙ A .shared t s (best-below K zs t q b) h (best-live t q b) a in
+          let z : take k (longer S y sums way t) ≡ take k (past s) =
+          take-append-le k (past t) (cell S y sums t .symbol ∷ []) (omega (arith, A .few)) ∙ A .shared t s (best-below K zs t q b) h (best-live t q b) a in
           rw (e, ← z) (prefix-onto l (take k (longer S y sums way t)) (longer S y sums way t) (take-prefix k (longer S y sums way t)))
 
       agreed-rest : (s : ℕ) → s < N → T (up (next s)) → take k (past s) ≡ rest
@@ -151,7 +153,8 @@ module _ {K : Code} (S : Search K) (L : Laws S) where
           omega (arith, ap length (released s (best-below K zs s p b) (best-live s p b)), length-append l (take k (past s)))
 
       -- pending then are the symbols taken and not released, and the ways less what is released are theirs
-      pub holds-next : (way′ : ℕ → List C) → ((s : ℕ) → s < N → T (up (next s)) → length (way (before S y sums s)) ≡ n → way′ s ≡ drop k (longer S y sums way s)) → Holds S (y ∷ ys) next way′ (suc n - k)
+      pub holds-next : (way′ : ℕ → List C) → ((s : ℕ) → s < N → T (up (next s)) → length (way (before S y sums s)) ≡ n → way′ s ≡ drop k (longer S y sums way s)) →
+          Holds S (y ∷ ys) next way′ (suc n - k)
       holds-next way′ is =
           record {
             less = m;

@@ -190,7 +190,8 @@ module _ (u : ℕ) where
   same-bit : (x y k : ℕ) → x < 2 → y < 2 → (x + k) % 2 ≡ (y + k) % 2 → x ≡ y
   same-bit x y k h l e = sym (twice x k h) ∙ rw e (twice y k l)
 
-  in-front : (a b c d e : Symbol) (l : List Symbol) → Valid u a → Meets (bitsOf a) (bitsOf b) (bitsOf c) (bitsOf d) (bitsOf e) → Allows u free (b ∷ c ∷ d ∷ e ∷ l) → Allows u free (a ∷ b ∷ c ∷ d ∷ e ∷ l)
+  in-front : (a b c d e : Symbol) (l : List Symbol) → Valid u a → Meets (bitsOf a) (bitsOf b) (bitsOf c) (bitsOf d) (bitsOf e) → Allows u free (b ∷ c ∷ d ∷ e ∷ l) →
+      Allows u free (a ∷ b ∷ c ∷ d ∷ e ∷ l)
   in-front a b c d e l va m r =
       let t = r .from in
       let k = b .y0 + c .i2 + b .i2 + d .i1 in

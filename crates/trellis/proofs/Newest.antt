@@ -172,7 +172,8 @@ module _ (u : ℕ) (M : Measure) (H : Choice M) (C : Chooses u M H) (same : (c d
 
       differ : s < 16 → t < 16 → (s′ t′ : ℕ) → In s′ (befores s) → In t′ (befores t) → s′ ≡ n → t′ ≡ n → between s′ s ≡ between t′ t → ⊥
       differ hs ht s′ t′ m l e f k =
-          let z : s ≡ t = one-subset n s t hs ht (subst (λ (x : ℕ). In x (befores s)) e m) (subst (λ (x : ℕ). In x (befores t)) f l) (ap (λ (x : ℕ). between x s) (sym e) ∙ k ∙ ap (λ (x : ℕ). between x t) f) in
+          let z : s ≡ t =
+          one-subset n s t hs ht (subst (λ (x : ℕ). In x (befores s)) e m) (subst (λ (x : ℕ). In x (befores t)) f l) (ap (λ (x : ℕ). between x s) (sym e) ∙ k ∙ ap (λ (x : ℕ). between x t) f) in
           omega arith
 
   pub newest-apart : (b : Start) → GoodStart b → (y : Heard) (ys : List Heard) → Apart (weiSearch u M H same b) y ys

@@ -49,10 +49,6 @@ module _ {P : Type 0} where
   bare-raise m absent = refl
   bare-raise m (alive w p) = refl
 
-  raise-zero : (o : Surv P) → raise 0 o ≡ o
-  raise-zero absent = refl
-  raise-zero (alive w p) = ap (λ (n : ℕ). alive n p) (let e : w + 0 ≡ w = omega arith in e)
-
   raise-swap : (d m : ℕ) (o : Surv P) → raise d (raise m o) ≡ raise m (raise d o)
   raise-swap d m absent = refl
   raise-swap d m (alive w p) = ap (λ (n : ℕ). alive n p) (let e : w + m + d ≡ w + d + m = omega arith in e)
@@ -130,7 +126,3 @@ module _ {K : Code} (S : Search K) (L : Laws S) where
         ∙ ap bare (acs-surv y ys s)
         ∙ ap bare (acs-off y s h)
         ∙ bare-raise m (acs S y row s)
-
-  -- the true row is less by 0
-  pub off-true : (ys : List Y) → Off S ys 0 (λ s. bare (surv S ys s))
-  off-true ys s h = sym (raise-zero (bare (surv S ys s)))

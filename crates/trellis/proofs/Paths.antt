@@ -1,7 +1,6 @@
 -- The sequences of the theory and the symbols that `wei` allows are the same.
 --   allowed-runs    every allowed sequence runs through symbols that are allowed from its first state
 --   from-drawn      symbols that are allowed from a first state are those of an allowed sequence, for as many received symbols
---   drawn-allows, allows-drawn   both ways, over symbols alone
 use mathlib.Core.Path.{_≡_, refl, sym, ap, subst, _∙_}
 use mathlib.Core.List.{List, [], _∷_, _++_, append-nil, append-assoc}
 use Prim.Native.Nat.{ℕ, _+_, _<_}
@@ -10,7 +9,7 @@ use lib.Dec.{T}
 use lib.ListN.{length}
 use Rattle.trellis.specs.Code.{Path, begin, step, last, symbols, Allowed}
 use Rattle.trellis.specs.Measure.{Start, mayStart, Measure, weiCode}
-use Rattle.trellis.specs.Allowed.{Allows, Runs, Drawn}
+use Rattle.trellis.specs.Allowed.{Runs, Drawn}
 use Rattle.wei.specs.State.{nextState}
 use Rattle.wei.specs.Symbol.{Symbol, Carries, AllowedFrom, ending}
 use Rattle.wei.proofs.States.{next-below}
@@ -52,7 +51,8 @@ module _ (u : ℕ) (M : Measure) (b : Start) where
   same-length (y ∷ ys) (z ∷ zs) (step p c s) e a = (a .0, a .1, same-length ys zs p (omega arith) (a .2))
 
   -- a sequence, and the symbols after it
-  goes-on : (ys zs : List Heard) (p : Path Symbol) (cs : List Symbol) → Allowed (weiCode u M b) ys p → AllowedFrom u (last p) cs → length zs ≡ length ys + length cs → Drawn u M b zs (symbols p ++ cs) (ending (last p) cs)
+  goes-on : (ys zs : List Heard) (p : Path Symbol) (cs : List Symbol) → Allowed (weiCode u M b) ys p → AllowedFrom u (last p) cs → length zs ≡ length ys + length cs →
+      Drawn u M b zs (symbols p ++ cs) (ending (last p) cs)
   goes-on ys zs p [] a r l = record { path = p; allowed = same-length ys zs p (omega arith) a; symbols-are = sym (append-nil (symbols p)); ends = refl }
   goes-on ys [] p (c ∷ cs) a r l = absurd (omega arith)
   goes-on ys (z ∷ zs) p (c ∷ cs) a r l =
@@ -62,10 +62,3 @@ module _ (u : ℕ) (M : Measure) (b : Start) where
 
   pub from-drawn : (s : ℕ) (cs : List Symbol) → s < 16 → T (mayStart b s) → AllowedFrom u s cs → (ys : List Heard) → length ys ≡ length cs → Drawn u M b ys cs (ending s cs)
   from-drawn s cs h k r ys l = goes-on [] ys (begin s) cs (h, k) r (omega arith)
-
-  -- ── over symbols alone ──
-  pub drawn-allows : (ys : List Heard) (p : Path Symbol) → Allowed (weiCode u M b) ys p → Allows u b (symbols p)
-  drawn-allows ys p a = let r = allowed-runs ys p a in record { from = r .from; from-below = r .from-below; from-start = r .from-start; allowed = r .allowed }
-
-  pub allows-drawn : (cs : List Symbol) → Allows u b cs → (ys : List Heard) → length ys ≡ length cs → (t : ℕ) × Drawn u M b ys cs t
-  allows-drawn cs k ys l = (ending (k .from) cs, from-drawn (k .from) cs (k .from-below) (k .from-start) (k .allowed) ys l)

@@ -2,11 +2,10 @@
 -- time: xs is what was heard, the oldest first, and zs what comes after it.
 --   spoken-longest   what is spoken are the words of the longest common beginning, whichever list that is
 --   answer-words     the answer's words are the words of the answer, whichever sequence that is
---   spoken-begins    what is spoken of xs begins what is spoken of xs and then zs
---   spoken-answer    and begins the answer's words for xs and then zs
---   answer-length, spoken-pending   one word for each symbol; what is spoken always lacks the newest
+--   spoken-answer    what is spoken of xs begins the answer's words for xs and then zs
+--   spoken-reach, spoken-pending    how many words are spoken; they always lack the newest
 --   spoken-below, answer-below      every word has 3 + 2u bits
-use mathlib.Core.Path.{_≡_, refl, sym, ap, subst, _∙_}
+use mathlib.Core.Path.{_≡_, refl, sym, ap, subst}
 use mathlib.Core.Bool.{true}
 use mathlib.Core.List.{List, [], _∷_, _++_, reverse, reverse-append, IsPrefix}
 use Prim.Native.Nat.{ℕ, _+_, _*_, _^_, _≤_, _<_}
@@ -23,9 +22,9 @@ use Rattle.trellis.specs.Same.{sameSymbol}
 use Rattle.trellis.specs.Pick.{Choice, Chooses, weiSearch}
 use Rattle.trellis.specs.Words.{word, turnAfter, firstTurn, words}
 use Rattle.trellis.specs.Said.{spokenWords, answerWords}
-use Rattle.trellis.proofs.Common.{path-length, reach-le}
+use Rattle.trellis.proofs.Common.{reach-le}
 use Rattle.trellis.proofs.Onward.{some-answer}
-use Rattle.trellis.proofs.Speak.{speak-length, spoken-length, answered-is, spoken-grows, spoken-final}
+use Rattle.trellis.proofs.Speak.{spoken-length, answered-is, spoken-grows, spoken-final}
 use Rattle.trellis.proofs.Theorems.{T4-only}
 use Rattle.trellis.proofs.WeiLaws.{wei-laws, wei-onward}
 use Rattle.trellis.proofs.IvEight.{allowed-valid}
@@ -76,19 +75,10 @@ module _ (u : ℕ) (M : Measure) (H : Choice M) (C : Chooses u M H) (b : Start) 
   final zs ys = spoken-final S laws (word u) turnAfter (firstTurn b) on zs ys
 
   -- ── in the order of time ──
-  pub spoken-begins : (xs zs : List Heard) → IsPrefix (spokenWords u M H b (reverse xs)) (spokenWords u M H b (reverse (xs ++ zs)))
-  spoken-begins xs zs = subst (λ (ys : List Heard). IsPrefix (spokenWords u M H b (reverse xs)) (spokenWords u M H b ys)) (sym (reverse-append xs zs)) (grows (reverse zs) (reverse xs))
-
   pub spoken-answer : (xs zs : List Heard) → IsPrefix (spokenWords u M H b (reverse xs)) (answerWords u M H b (reverse (xs ++ zs)))
   spoken-answer xs zs = subst (λ (ys : List Heard). IsPrefix (spokenWords u M H b (reverse xs)) (answerWords u M H b ys)) (sym (reverse-append xs zs)) (final (reverse zs) (reverse xs))
 
   -- ── how many ──
-  pub answer-length : (ys : List Heard) → length (answerWords u M H b ys) ≡ length ys
-  unfolding answerWords
-  answer-length ys =
-      let (p, a) = some-answer S laws on ys in
-      ap length (answered-is S laws (word u) turnAfter (firstTurn b) ys p a) ∙ speak-length turnAfter (word u) (firstTurn b) (symbols p) ∙ path-length K ys p (a .allowed)
-
   pub spoken-reach : (ys : List Heard) → length (spokenWords u M H b ys) ≡ reach (weiSearch u M H sameSymbol b) ys
   unfolding spokenWords
   spoken-reach ys = spoken-length S laws (word u) turnAfter (firstTurn b) ys

@@ -1,7 +1,6 @@
--- Words and symbols. The words of valid symbols have 3 + 2u bits; a beginning of the symbols has a beginning of the words; and from
--- one state and one turn, the words of the symbols of words are the words, and the symbols of the words of allowed symbols are
--- the symbols.
---   words-are, words-below   each word has no bit at or above 3 + 2u
+-- Words and symbols. The words of valid symbols have 3 + 2u bits; and from one state and one turn, the words of the symbols of words
+-- are the words, and the symbols of the words of allowed symbols are the symbols.
+--   words-are, every-word    each word has no bit at or above 3 + 2u
 --   symbols-allowed          the symbols of words are allowed from the sender's state
 --   words-back               words of the symbols of words
 --   symbols-back             symbols of the words of symbols
@@ -9,7 +8,7 @@
 --   first-turn               the turn before the first symbol is one, or is not known
 use mathlib.Core.Path.{_≡_, refl, sym, ap, ap₂, subst, _∙_}
 use mathlib.Core.Bool.{true}
-use mathlib.Core.List.{List, [], _∷_, IsPrefix}
+use mathlib.Core.List.{List, [], _∷_}
 use Prim.Native.Nat.{ℕ, zero, suc, _+_, _-_, _≤_, _*_, _/_, _%_, _^_, _<_}
 use native.Mathlib.Omega.{arith}
 use borrow.Author.Tests.{ltb-true}
@@ -17,8 +16,7 @@ use lib.ListN.{take}
 use Rattle.trellis.specs.Lists.{Every}
 use Rattle.trellis.specs.Speak.{speak}
 use Rattle.trellis.specs.Measure.{Start, free, named}
-use Rattle.trellis.specs.Words.{wordParts, word, turnAfter, wordsFrom, firstTurn, words, cleared, asHeard}
-use Rattle.trellis.proofs.Speak.{speak-prefix}
+use Rattle.trellis.specs.Words.{wordParts, word, wordsFrom, firstTurn, words, cleared, asHeard}
 use Rattle.wei.specs.declared.word.Parts.{Parts}
 use Rattle.wei.specs.Word.{isWord, unpacked, packed, InRange}
 use Rattle.wei.specs.Label.{turnOf, turnOn, unknown, turnSince}
@@ -101,13 +99,6 @@ module _ (u : ℕ) where
   pub every-word : (ns : List ℕ) → Every (λ n. isWord u n ≡ true) ns → Every (λ n. n < 2 ^ (3 + 2 * u)) ns
   every-word [] w = tt
   every-word (n ∷ ns) w = (subst (λ (k : ℕ). n < 2 ^ k) (let e : 3 + u + u ≡ 3 + 2 * u = omega arith in e) (ltb-true n (2 ^ (3 + u + u)) (w .0)), every-word ns (w .1))
-
-  pub words-below : (q : ℕ) (cs : List Symbol) → Every (Valid u) cs → Every (λ n. n < 2 ^ (3 + 2 * u)) (wordsFrom u q cs)
-  words-below q cs v = every-word (wordsFrom u q cs) (words-are q cs v)
-
-  -- a beginning of the symbols has a beginning of the words
-  pub words-prefix : (q : ℕ) (l m : List Symbol) → IsPrefix l m → IsPrefix (wordsFrom u q l) (wordsFrom u q m)
-  words-prefix q l m h = speak-prefix turnAfter (word u) q l m h
 
   pub symbols-allowed : (s q : ℕ) (ns : List ℕ) → AllowedFrom u s (symbolsFrom u s q ns)
   unfolding symbolsFrom

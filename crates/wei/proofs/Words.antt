@@ -39,7 +39,8 @@ none-above n k = go (decLt n (2 ^ k))
         ne-eqb (n / 2 ^ k) 0 (λ e. omega arith) ∙ sym (le-ltb n (2 ^ k) g)
 
 -- the five parts, one on the other
-pub joined : (u : ℕ) (p : Parts) → u ≤ 8 → InRange u p → bitOr (bitOr (bitOr (bitOr (p .i1) (p .i2 * 2 % 2 ^ 32)) (p .i3 * 4 % 2 ^ 32)) (p .w1 * 8 % 2 ^ 32)) (p .w2 * 2 ^ (3 + u) % 2 ^ 32) ≡ packed u p
+pub joined : (u : ℕ) (p : Parts) → u ≤ 8 → InRange u p →
+    bitOr (bitOr (bitOr (bitOr (p .i1) (p .i2 * 2 % 2 ^ 32)) (p .i3 * 4 % 2 ^ 32)) (p .w1 * 8 % 2 ^ 32)) (p .w2 * 2 ^ (3 + u) % 2 ^ 32) ≡ packed u p
 unfolding packed
 joined u p h r =
     let t : 2 ^ (3 + u) ≡ 8 * 2 ^ u = pow-add 2 3 u in
@@ -51,7 +52,8 @@ joined u p h r =
     let a3 : p .i3 * 4 + (p .i2 * 2 + p .i1) < 8 = omega arith in
     let a4 : p .w1 * 8 + (p .i3 * 4 + (p .i2 * 2 + p .i1)) < 2 ^ (3 + u) = omega (arith, r .w1-below) in
     let q : p .w2 * 2 ^ (3 + u) ≡ 8 * (2 ^ u * p .w2) = ap (λ (m : ℕ). p .w2 * m) t ∙ mul-comm (p .w2) (8 * 2 ^ u) ∙ mul-assoc 8 (2 ^ u) (p .w2) in
-    ap₂ bitOr (ap₂ bitOr (ap₂ bitOr (ap (bitOr (p .i1)) e2 ∙ or-shifted-r (p .i2) 1 (p .i1) (r .i1-below)) e3 ∙ or-shifted-r (p .i3) 2 (p .i2 * 2 + p .i1) a2) e4 ∙ or-shifted-r (p .w1) 3 (p .i3 * 4 + (p .i2 * 2 + p .i1)) a3) e5
+    ap₂ bitOr (ap₂ bitOr (ap₂ bitOr (ap (bitOr (p .i1)) e2 ∙ or-shifted-r (p .i2) 1 (p .i1) (r .i1-below)) e3 ∙ or-shifted-r (p .i3) 2 (p .i2 * 2 + p .i1) a2) e4
+    ∙ or-shifted-r (p .w1) 3 (p .i3 * 4 + (p .i2 * 2 + p .i1)) a3) e5
     ∙ or-shifted-r (p .w2) (3 + u) (p .w1 * 8 + (p .i3 * 4 + (p .i2 * 2 + p .i1))) a4
     ∙ omega arith
 

@@ -45,16 +45,32 @@ same-length : tie.Need-same-length Inv-loop μ-loop
 same-length c = c .before .before .before .before .before .before .before .loop .inv .long
 
 returns : tie.Need-returns Inv-loop μ-loop
-returns c = let p = c .before .before .before .before .before .before .before in let s = p .before .before in stop-fault (now (s .args .floats)) (now (s .args .out)) (p .loop .out) (p .loop .i) (p .loop .inv) _ _ (c .before .before .before .before .before .before .loop-test .taken) (c .before .before .before .hear-floats .ensures) (c .before .if1 .taken)
+returns c =
+    let p = c .before .before .before .before .before .before .before in
+    let s = p .before .before in
+    stop-fault (now (s .args .floats)) (now (s .args .out)) (p .loop .out) (p .loop .i) (p .loop .inv) _ _
+    (c .before .before .before .before .before .before .loop-test .taken) (c .before .before .before .hear-floats .ensures) (c .before .if1 .taken)
 
 add-if2 : tie.Need-add-if2 Inv-loop μ-loop
 add-if2 c = omega arith
 
+-- the way back, from a place in the code to one that comes before it
+abbrev to-in-loop : tie.Else1 Inv-loop μ-loop → tie.In-loop Inv-loop μ-loop
+to-in-loop c = c .before .before .before .before .before
+
+abbrev to-else1 : tie.After-out Inv-loop μ-loop → tie.Else1 Inv-loop μ-loop
+to-else1 c = c .before .before .before .before
+
 same-length-2 : tie.Need-same-length-2 Inv-loop μ-loop
-same-length-2 c = c .before .before .before .before .before .before .before .loop .inv .long
+same-length-2 c = to-in-loop (c .before) .before .loop .inv .long
 
 returns-2 : tie.Need-returns-2 Inv-loop μ-loop
-returns-2 c = let p = c .before .before .before .before .before .before .before in let s = p .before .before in stop-room (now (s .args .floats)) (now (s .args .out)) (p .loop .out) (p .loop .i) (p .loop .inv) _ _ (c .before .before .before .before .before .before .loop-test .taken) (c .before .before .before .hear-floats .ensures) (c .before .if1 .left) (c .if2 .taken)
+returns-2 c =
+    let at-in-loop = to-in-loop (c .before) in
+    let p = at-in-loop .before in
+    let s = p .before .before in
+    stop-room (now (s .args .floats)) (now (s .args .out)) (p .loop .out) (p .loop .i) (p .loop .inv) _ _ (at-in-loop .loop-test .taken)
+    (c .before .before .before .hear-floats .ensures) (c .before .if1 .left) (c .if2 .taken)
 
 put-pair-requires : tie.Need-put-pair-requires Inv-loop μ-loop
 put-pair-requires c κs = omega arith
@@ -66,7 +82,12 @@ loop-less : tie.Need-loop-less Inv-loop μ-loop
 loop-less c = omega arith
 
 loop-again : tie.Need-loop-again Inv-loop μ-loop
-loop-again c = let p = c .before .before .before .before .before .before .before .before .before .before in let s = p .before .before in go-on (now (s .args .floats)) (now (s .args .out)) (p .loop .out) (p .loop .i) (p .loop .inv) _ _ (c .before .before .before .before .before .before .before .before .before .loop-test .taken) (c .before .before .before .before .before .before .hear-floats .ensures) _ (c .before .before .before .before .if1 .left) (c .before .before .before .if2 .left) (c .before .put-pair .ensures)
+loop-again c =
+    let at-else1 = to-else1 c in
+    let p = to-in-loop at-else1 .before in
+    let s = p .before .before in
+    go-on (now (s .args .floats)) (now (s .args .out)) (p .loop .out) (p .loop .i) (p .loop .inv) _ _ (to-in-loop at-else1 .loop-test .taken)
+    (at-else1 .before .before .hear-floats .ensures) _ (at-else1 .if1 .left) (c .before .before .before .if2 .left) (c .before .put-pair .ensures)
 
 same-length-3 : tie.Need-same-length-3 Inv-loop μ-loop
 same-length-3 c = c .before .loop .inv .long

@@ -15,7 +15,10 @@ same-length : tie.Need-same-length
 same-length c = search needs
 
 returns-2 : tie.Need-returns-2
-returns-2 c = let s = c .before .before .before .before .before .before .before .before in samples-odd (now (s .args .floats)) (now (s .args .out)) (now (s .args .told)) _ (c .before .before .before .before .before .if1 .left) (c .before .before .before .before .if2 .taken) (c .before .before .tell .ensures)
+returns-2 c =
+    let s = c .before .before .before .before .before .before .before .before in
+    samples-odd (now (s .args .floats)) (now (s .args .out)) (now (s .args .told)) _ (c .before .before .before .before .before .if1 .left)
+    (c .before .before .before .before .if2 .taken) (c .before .before .tell .ensures)
 
 convert-requires : tie.Need-convert-requires
 convert-requires c κs = search needs
@@ -30,7 +33,11 @@ same-length-3 : tie.Need-same-length-3
 same-length-3 c = search needs
 
 returns-3 : tie.Need-returns-3
-returns-3 c = let s = c .before .before .before .before .before .before .before .before .before .before .before in samples-done (now (s .args .floats)) (now (s .args .out)) (now (s .args .told)) _ _ _ _ _ (c .before .before .before .before .before .before .before .before .if1 .left) (c .before .before .before .before .before .before .before .if2 .left) (c .before .before .before .before .before .convert .ensures) (c .before .before .tell2 .ensures)
+returns-3 c =
+    let s = c .before .before .before .before .before .before .before .before .before .before .before in
+    samples-done (now (s .args .floats)) (now (s .args .out)) (now (s .args .told)) _ _ _ _ _
+    (c .before .before .before .before .before .before .before .before .if1 .left) (c .before .before .before .before .before .before .before .if2 .left)
+    (c .before .before .before .before .before .convert .ensures) (c .before .before .tell2 .ensures)
 
 pub convert-list-spec : {M : Type 1} → statement M
 convert-list-spec =

@@ -18,7 +18,10 @@ same-length : tie.Need-same-length
 same-length c = search needs
 
 returns-2 : tie.Need-returns-2
-returns-2 c = let s = c .before .before .before .before .before in sample-by (s .args .x) (s .args .y) (now (s .args .out)) (c .before .before .before .hear-floats .result) _ (c .before .before .before .before .if1 .left) (c .before .before .before .hear-floats .ensures) (c .before .put-three .ensures)
+returns-2 c =
+    let s = c .before .before .before .before .before in
+    sample-by (s .args .x) (s .args .y) (now (s .args .out)) (c .before .before .before .hear-floats .result) _ (c .before .before .before .before .if1 .left)
+    (c .before .before .before .hear-floats .ensures) (c .before .put-three .ensures)
 
 pub convert-sample-spec : {M : Type 1} → statement M
 convert-sample-spec =

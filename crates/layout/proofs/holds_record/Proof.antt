@@ -22,8 +22,17 @@ shared-slice-read-is-half c = search needs
 is-half-requires : tie.Need-is-half-requires
 is-half-requires c κs = search needs
 
+-- the way back, from a place in the code to one that comes before it
+abbrev to-else1 : tie.After-is-half → tie.Else1
+to-else1 c = c .before .before .before .before
+
 returns-3 : tie.Need-returns-3
-returns-3 c = let s = c .before .before .before .before .before .before .before in let ws = now (s .args .words) in let no = sym (c .before .is-half .ensures) ∙ not-true (c .before .is-half .result) (c .if3 .taken) in sym (held-by (s .args .size) (s .args .tag) ws (c .before .before .before .before .before .if1 .left) (c .before .before .before .if2 .left) ∙ rw no)
+returns-3 c =
+    let at-else1 = to-else1 (c .before) in
+    let s = at-else1 .before .before in
+    let ws = now (s .args .words) in
+    let no = sym (c .before .is-half .ensures) ∙ not-true (c .before .is-half .result) (c .if3 .taken) in
+    sym (held-by (s .args .size) (s .args .tag) ws (at-else1 .if1 .left) (c .before .before .before .if2 .left) ∙ rw no)
 
 shared-slice-read-is-half-2 : tie.Need-shared-slice-read-is-half-2
 shared-slice-read-is-half-2 c = search needs
@@ -32,7 +41,13 @@ is-half-requires-2 : tie.Need-is-half-requires-2
 is-half-requires-2 c κs = search needs
 
 returns-4 : tie.Need-returns-4
-returns-4 c = let s = c .before .before .before .before .before .before .before .before .before .before in let ws = now (s .args .words) in let yes = sym (c .before .before .before .before .is-half .ensures) ∙ not-false (c .before .before .before .before .is-half .result) (c .before .before .before .if3 .left) in let no = sym (c .before .is-half2 .ensures) ∙ not-true (c .before .is-half2 .result) (c .if4 .taken) in sym (held-by (s .args .size) (s .args .tag) ws (c .before .before .before .before .before .before .before .before .if1 .left) (c .before .before .before .before .before .before .if2 .left) ∙ rw (yes, no))
+returns-4 c =
+    let at-is-half = c .before .before .before .before in
+    let s = to-else1 at-is-half .before .before in
+    let ws = now (s .args .words) in
+    let yes = sym (at-is-half .is-half .ensures) ∙ not-false (at-is-half .is-half .result) (c .before .before .before .if3 .left) in
+    let no = sym (c .before .is-half2 .ensures) ∙ not-true (c .before .is-half2 .result) (c .if4 .taken) in
+    sym (held-by (s .args .size) (s .args .tag) ws (to-else1 at-is-half .if1 .left) (at-is-half .before .before .if2 .left) ∙ rw (yes, no))
 
 shared-slice-read-is-half-3 : tie.Need-shared-slice-read-is-half-3
 shared-slice-read-is-half-3 c = search needs
@@ -41,7 +56,14 @@ is-half-requires-3 : tie.Need-is-half-requires-3
 is-half-requires-3 c κs = search needs
 
 returns-5 : tie.Need-returns-5
-returns-5 c = let s = c .before .before .before .before .before .before .before .before .before .before .before .before in let ws = now (s .args .words) in let yes = sym (c .before .before .before .before .before .before .is-half .ensures) ∙ not-false (c .before .before .before .before .before .before .is-half .result) (c .before .before .before .before .before .if3 .left) in let also = sym (c .before .before .before .is-half2 .ensures) ∙ not-false (c .before .before .before .is-half2 .result) (c .before .before .if4 .left) in c .is-half3 .ensures ∙ sym (held-by (s .args .size) (s .args .tag) ws (c .before .before .before .before .before .before .before .before .before .before .if1 .left) (c .before .before .before .before .before .before .before .before .if2 .left) ∙ rw (yes, also))
+returns-5 c =
+    let at-is-half2 = c .before .before .before in
+    let at-is-half = at-is-half2 .before .before .before in
+    let s = to-else1 at-is-half .before .before in
+    let ws = now (s .args .words) in
+    let yes = sym (at-is-half .is-half .ensures) ∙ not-false (at-is-half .is-half .result) (at-is-half2 .before .before .if3 .left) in
+    let also = sym (at-is-half2 .is-half2 .ensures) ∙ not-false (at-is-half2 .is-half2 .result) (c .before .before .if4 .left) in
+    c .is-half3 .ensures ∙ sym (held-by (s .args .size) (s .args .tag) ws (to-else1 at-is-half .if1 .left) (at-is-half .before .before .if2 .left) ∙ rw (yes, also))
 
 pub holds-record-spec : {M : Type 1} → statement M
 holds-record-spec =

@@ -19,7 +19,9 @@ words-before-requires : tie.Need-words-before-requires
 words-before-requires c κs = search needs
 
 agreed-requires : tie.Need-agreed-requires
-agreed-requires c κs = let f = c .before .before .before .before .before .before .before .before .before .before .before .before .before .pre .1 .0 .core-fits in (omega (arith, f .held, f .small-window), c .before .before .words-before .ensures)
+agreed-requires c κs =
+    let f = c .before .before .before .before .before .before .before .before .before .before .before .before .before .pre .1 .0 .core-fits in
+    (omega (arith, f .held, f .small-window), c .before .before .words-before .ensures)
 
 numbers-of-requires : tie.Need-numbers-of-requires
 numbers-of-requires c κs = search needs

@@ -28,14 +28,22 @@ look-ahead-requires c κs =
 add-kept : tie.Need-add-kept
 add-kept c = search needs
 
+-- the way back, from a place in the code to one that comes before it
+abbrev to-start : tie.After-look-ahead → tie.Start
+to-start c = c .before .before .before .before .before .before .before
+
+abbrev to-look-ahead : tie.After-struct-known4 → tie.After-look-ahead
+to-look-ahead c = c .before .before .before .before .before .before .before .before .before .before .before .before .before .before .before .before .before .before
+
 few-agreed : (l : tie.After-look-ahead) → l .look-ahead .result .agreed ≤ l .before .before .before .before .before .before .before .args .core .pending
-few-agreed l = let a = l .before .before .before .before .before .before .before .args in few (a .core) (a .sums .now) (a .planes .now) (a .picks .now) (heardAs (a .first) (a .second)) (a .out .now) (l .look-ahead .result) (l .look-ahead .ensures)
+few-agreed l = let a = to-start l .args in few (a .core) (a .sums .now) (a .planes .now) (a .picks .now) (heardAs (a .first) (a .second)) (a .out .now) (l .look-ahead .result) (l .look-ahead .ensures)
 
 low : (l : tie.After-look-ahead) → l .look-ahead .result .state < 16
-low l = let a = l .before .before .before .before .before .before .before .args in state-below (a .core) (a .sums .now) (a .planes .now) (a .picks .now) (heardAs (a .first) (a .second)) (a .out .now) (l .look-ahead .result) (l .look-ahead .ensures)
+low l =
+    let a = to-start l .args in state-below (a .core) (a .sums .now) (a .planes .now) (a .picks .now) (heardAs (a .first) (a .second)) (a .out .now) (l .look-ahead .result) (l .look-ahead .ensures)
 
 ways : (l : tie.After-look-ahead) → l .look-ahead .result .ways ≡ wordsBefore (l .before .before .before .before .before .before .before .args .planes .now) (l .look-ahead .result .steps) 0
-ways l = let a = l .before .before .before .before .before .before .before .args in ways-are (a .core) (a .sums .now) (a .planes .now) (a .picks .now) (heardAs (a .first) (a .second)) (a .out .now) (l .look-ahead .result) (l .look-ahead .ensures)
+ways l = let a = to-start l .args in ways-are (a .core) (a .sums .now) (a .planes .now) (a .picks .now) (heardAs (a .first) (a .second)) (a .out .now) (l .look-ahead .result) (l .look-ahead .ensures)
 
 sub-kept : tie.Need-sub-kept
 sub-kept c = omega (arith, few-agreed (c .before))
@@ -46,8 +54,9 @@ refused-requires-2 c κs = search needs
 returns-2 : tie.Need-returns-2
 returns-2 c =
     let l = c .before .before .before .before in
-    let a = l .before .before .before .before .before .before .before .args in
-    full (a .core) (a .sums .now) (a .planes .now) (a .picks .now) (heardAs (a .first) (a .second)) (a .out .now) (l .look-ahead .result) (l .look-ahead .ensures) (l .before .before .before .if1 .left) (c .refused2 .result) (c .refused2 .ensures) (c .before .if2 .taken)
+    let a = to-start l .args in
+    full (a .core) (a .sums .now) (a .planes .now) (a .picks .now) (heardAs (a .first) (a .second)) (a .out .now) (l .look-ahead .result) (l .look-ahead .ensures)
+    (l .before .before .before .if1 .left) (c .refused2 .result) (c .refused2 .ensures) (c .before .if2 .taken)
 
 refused-requires-3 : tie.Need-refused-requires-3
 refused-requires-3 c κs = search needs
@@ -55,26 +64,27 @@ refused-requires-3 c κs = search needs
 returns-3 : tie.Need-returns-3
 returns-3 c =
     let l = c .before .before .before .before .before in
-    let a = l .before .before .before .before .before .before .before .args in
-    short (a .core) (a .sums .now) (a .planes .now) (a .picks .now) (heardAs (a .first) (a .second)) (a .out .now) (l .look-ahead .result) (l .look-ahead .ensures) (l .before .before .before .if1 .left) (c .before .before .if2 .left) (c .refused3 .result) (c .refused3 .ensures) (c .before .if3 .taken)
+    let a = to-start l .args in
+    short (a .core) (a .sums .now) (a .planes .now) (a .picks .now) (heardAs (a .first) (a .second)) (a .out .now) (l .look-ahead .result) (l .look-ahead .ensures)
+    (l .before .before .before .if1 .left) (c .before .before .if2 .left) (c .refused3 .result) (c .refused3 .ensures) (c .before .if3 .taken)
 
 write-words-requires : tie.Need-write-words-requires
 write-words-requires c κs =
     let l = c .before .before .before .before .before .before .before in
-    let p = c .before .before .before .before .before .before .before .before .before .before .before .before .before .before .pre in
+    let p = to-start (c .before .before .before .before .before .before .before) .pre in
     (p .1 .0 .core-fits, low l, few-agreed l, c .before .before .before .if3 .left, p .1 .1)
 
 add-shift : tie.Need-add-shift
-add-shift c = let f = c .before .before .before .before .before .before .before .before .before .before .before .before .before .before .before .before .before .before .before .before .before .before .before .before .before .pre .1 .0 .core-fits in record { fits = omega (arith, f .held, f .small-window) }
+add-shift c = let f = to-start (to-look-ahead c) .pre .1 .0 .core-fits in record { fits = omega (arith, f .held, f .small-window) }
 
 shift-requires : tie.Need-shift-requires
-shift-requires c κs = ways (c .before .before .before .before .before .before .before .before .before .before .before .before .before .before .before .before .before .before)
+shift-requires c κs = ways (to-look-ahead c)
 
 keep-requires : tie.Need-keep-requires
-keep-requires c κs = let p = c .before .before .before .before .before .before .before .before .before .before .before .before .before .before .before .before .before .before .before .before .before .before .before .before .before .before .before .pre in (p .1 .0 .core-fits .slot-below, p .1 .1)
+keep-requires c κs = let p = to-start (to-look-ahead (c .before .before)) .pre in (p .1 .0 .core-fits .slot-below, p .1 .1)
 
 moved-on-requires : tie.Need-moved-on-requires
-moved-on-requires c κs = let e = c .before .before .before .before .before .before .before .before .before .before .before .before .before .before .before .before .before .before .before .before .before .before .before .before .before .before in (fresh e, e .before .before .before .before .pre .1 .0 .core-fits .slot-below)
+moved-on-requires c κs = let e = to-look-ahead (c .before .before .before .before .before) .before .before .before in (fresh e, e .before .before .before .before .pre .1 .0 .core-fits .slot-below)
 
 same-length : tie.Need-same-length
 same-length c = search needs
@@ -89,8 +99,10 @@ returns-4 c =
     let w = m .before .before .before .before .before .before .before .before .before .before .before in
     let e = w .before .before .before .before in
     let l = e .before .before .before .before in
-    let a = l .before .before .before .before .before .before .before .args in
-    done (a .core) (a .sums .now) (a .planes .now) (a .picks .now) (heardAs (a .first) (a .second)) (a .out .now) (l .look-ahead .result) (l .look-ahead .ensures) (l .before .before .before .if1 .left) (e .before .if2 .left) _ _ _ _ _ _ (e .if3 .left) (w .write-words .ensures .0) (w .write-words .ensures .1) refl (m .shift .ensures) (k .keep .ensures) (c .moved-on .ensures)
+    let a = to-start l .args in
+    done (a .core) (a .sums .now) (a .planes .now) (a .picks .now) (heardAs (a .first) (a .second)) (a .out .now) (l .look-ahead .result) (l .look-ahead .ensures)
+    (l .before .before .before .if1 .left) (e .before .if2 .left) _ _ _ _ _ _ (e .if3 .left) (w .write-words .ensures .0) (w .write-words .ensures .1) refl
+    (m .shift .ensures) (k .keep .ensures) (c .moved-on .ensures)
 
 pub take-symbol-spec : {M : Type 1} → statement M
 take-symbol-spec =

@@ -23,7 +23,8 @@ same-length c = search needs
 returns : tie.Need-returns
 returns c =
     let made = c .before .before .before .before .before in
-    number-put (made .decimal .last .1 .0) (made .before .before .before .fits .n .fits) (made .decimal .ensures .0) (made .decimal .ensures .1 .0) (made .decimal .ensures .1 .1) (c .before .before .put-text .ensures)
+    number-put (made .decimal .last .1 .0) (made .before .before .before .fits .n .fits) (made .decimal .ensures .0) (made .decimal .ensures .1 .0)
+    (made .decimal .ensures .1 .1) (c .before .before .put-text .ensures)
 
 pub put-number-spec : {M : Type 1} → statement M
 put-number-spec =

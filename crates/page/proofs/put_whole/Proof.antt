@@ -23,7 +23,8 @@ returns : tie.Need-returns
 returns c =
     let signed = c .before .before .before .before .before .before .before in
     let start = signed .before .before .before .before in
-    minus-put (start .args .x) (c .before .before .before .size .ensures ∙ same-size (start .args .x) (start .fits .x)) (minus-sign (start .args .x) (start .fits .x) (signed .before .before .if1 .taken))
+    minus-put (start .args .x) (c .before .before .before .size .ensures ∙ same-size (start .args .x) (start .fits .x))
+    (minus-sign (start .args .x) (start .fits .x) (signed .before .before .if1 .taken))
     (omega (arith, signed .put-byte .ensures .next)) (signed .put-byte .ensures) (c .before .before .put-number .ensures)
 
 size-requires-2 : tie.Need-size-requires-2
@@ -38,7 +39,8 @@ same-length-2 c = search needs
 returns-2 : tie.Need-returns-2
 returns-2 c =
     let start = c .before .before .before .before .before .before .before in
-    plain-put (start .args .x) (c .before .before .before .size2 .ensures ∙ same-size (start .args .x) (start .fits .x)) (no-sign (start .args .x) (start .fits .x) (c .before .before .before .before .before .if1 .left))
+    plain-put (start .args .x) (c .before .before .before .size2 .ensures ∙ same-size (start .args .x) (start .fits .x))
+    (no-sign (start .args .x) (start .fits .x) (c .before .before .before .before .before .if1 .left))
     (c .before .before .put-number2 .ensures)
 
 pub put-whole-spec : {M : Type 1} → statement M

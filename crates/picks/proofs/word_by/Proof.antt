@@ -49,8 +49,12 @@ pack-requires c κs =
     let n = c .before in
     let w = n .before .before .before in
     let s = w .before in
-    let a = s .args in
-    (s .pre .0, pack-in (a .u) (a .turn) (a .i3) (a .numbers) (a .k) (w .labels .result) (s .pre .0) (s .pre .2) (w .labels .ensures) (n .before .before .number-at .result) (n .number-at2 .result) (c .turn-since .result) (n .before .before .number-at .ensures) (n .number-at2 .ensures) (c .turn-since .ensures))
+    let a = s .args in (
+      s .pre .0,
+      pack-in (a .u) (a .turn) (a .i3) (a .numbers) (a .k) (w .labels .result) (s .pre .0) (s .pre .2) (w .labels .ensures)
+          (n .before .before .number-at .result) (n .number-at2 .result) (c .turn-since .result) (n .before .before .number-at .ensures) (n .number-at2 .ensures)
+          (c .turn-since .ensures),
+    )
 
 returns : tie.Need-returns
 returns c =
@@ -59,7 +63,9 @@ returns c =
     let w = n .before .before .before in
     let s = w .before in
     let a = s .args in
-    said (a .u) (a .turn) (a .i3) (a .numbers) (a .k) (w .labels .result) (s .pre .0) (s .pre .2) (w .labels .ensures) (n .before .before .number-at .result) (n .number-at2 .result) (t .turn-since .result) (n .before .before .number-at .ensures) (n .number-at2 .ensures) (t .turn-since .ensures) (c .pack .result) (c .pack .ensures)
+    said (a .u) (a .turn) (a .i3) (a .numbers) (a .k) (w .labels .result) (s .pre .0) (s .pre .2) (w .labels .ensures) (n .before .before .number-at .result)
+    (n .number-at2 .result) (t .turn-since .result) (n .before .before .number-at .ensures) (n .number-at2 .ensures) (t .turn-since .ensures) (c .pack .result)
+    (c .pack .ensures)
 
 pub word-by-spec : {M : Type 1} → statement M
 word-by-spec =

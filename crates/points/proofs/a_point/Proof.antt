@@ -48,7 +48,9 @@ cast-t13 c = let s = c .before .before in cast (s .args .t .now) (s .args .w * 2
 
 returns : tie.Need-returns
 unfolding aPoint
-returns c = let s = c .before .before in ap₂ (λ (a b : ℤ). record { x = a; y = b }) (value (s .args .t .now) (s .args .w * 2) (s .pre .0) (omega arith)) (value (s .args .t .now) (s .args .w * 2 + 1) (s .pre .0) (omega arith))
+returns c =
+    let s = c .before .before in
+    ap₂ (λ (a b : ℤ). record { x = a; y = b }) (value (s .args .t .now) (s .args .w * 2) (s .pre .0) (omega arith)) (value (s .args .t .now) (s .args .w * 2 + 1) (s .pre .0) (omega arith))
 
 pub a-point-spec : {M : Type 1} → statement M
 a-point-spec =

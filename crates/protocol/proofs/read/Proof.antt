@@ -20,7 +20,8 @@ tried-requires : tie.Need-tried-requires
 tried-requires c κs = search needs
 
 returns-3 : tie.Need-returns-3
-returns-3 c = line-alone _ _ (c .before .before .before .before .before .if1 .left) (c .before .before .before .if2 .left) (c .before .before .before2 .ensures) (c .before .if3 .taken) (c .tried .ensures)
+returns-3 c =
+    line-alone _ _ (c .before .before .before .before .before .if1 .left) (c .before .before .before .if2 .left) (c .before .before .before2 .ensures) (c .before .if3 .taken) (c .tried .ensures)
 
 slice-aggregate-tried : tie.Need-slice-aggregate-tried
 slice-aggregate-tried c = search needs
@@ -44,7 +45,10 @@ same-length : tie.Need-same-length
 same-length c = search needs
 
 returns-4 : tie.Need-returns-4
-returns-4 c = line-more _ _ (c .before .before .before .before .before .before .before .before .before .if1 .left) (c .before .before .before .before .before .before .before .if2 .left) (c .before .before .before .before .before .before .before2 .ensures) (c .before .before .before .before .before .if3 .left) (c .before .tried2 .ensures .0) (c .before .tried2 .ensures .1)
+returns-4 c =
+    line-more _ _ (c .before .before .before .before .before .before .before .before .before .if1 .left)
+    (c .before .before .before .before .before .before .before .if2 .left) (c .before .before .before .before .before .before .before2 .ensures)
+    (c .before .before .before .before .before .if3 .left) (c .before .tried2 .ensures .0) (c .before .tried2 .ensures .1)
 
 pub read-spec : {M : Type 1} → statement M
 read-spec =

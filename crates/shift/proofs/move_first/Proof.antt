@@ -52,8 +52,11 @@ loop-again c =
     let a = at .before .before .before .args in
     let s = at .loop .s in
     let e : s ≡ 16 * 0 + s = omega arith in
-    let v = c .longer-by .ensures ∙ ap (longer (getD (a .ways .now) s 0)) (c .before .wide .ensures) in
-    (omega arith, ap (λ (i : ℕ). set (at .loop .planes) i (c .longer-by .result)) e ∙ ap (λ (l : List ℕ). set l (16 * 0 + s) (c .longer-by .result)) (at .loop .inv .1) ∙ put-more 0 _ (a .planes .now) s (c .longer-by .result) (omega arith) (omega arith) v)
+    let v = c .longer-by .ensures ∙ ap (longer (getD (a .ways .now) s 0)) (c .before .wide .ensures) in (
+      omega arith,
+      ap (λ (i : ℕ). set (at .loop .planes) i (c .longer-by .result)) e ∙ ap (λ (l : List ℕ). set l (16 * 0 + s) (c .longer-by .result)) (at .loop .inv .1)
+          ∙ put-more 0 _ (a .planes .now) s (c .longer-by .result) (omega arith) (omega arith) v,
+    )
 
 returns : tie.Need-returns Inv-loop μ-loop
 returns c =

@@ -56,8 +56,11 @@ loop-again : tie.Need-loop-again Inv-loop μ-loop
 loop-again c =
     let at = c .before .before .before .before in
     let a = at .before .before .before .args in
-    let s = at .loop .s in
-    (omega arith, ap (λ (l : List ℕ). set l (16 * a .b + s) (c .longer-by .result)) (at .loop .inv .1) ∙ put-more (a .b) _ (a .planes .now) s (c .longer-by .result) (omega arith) (omega arith) (c .longer-by .ensures))
+    let s = at .loop .s in (
+      omega arith,
+      ap (λ (l : List ℕ). set l (16 * a .b + s) (c .longer-by .result)) (at .loop .inv .1)
+          ∙ put-more (a .b) _ (a .planes .now) s (c .longer-by .result) (omega arith) (omega arith) (c .longer-by .ensures),
+    )
 
 returns : tie.Need-returns Inv-loop μ-loop
 returns c =

@@ -55,7 +55,8 @@ returns-3 c =
     let e = w .before .before in
     let s = e .before in
     let a = s .args in
-    shift-three (a .n) (a .planes .now) (a .steps .now) (a .ways .now) (s .pre) _ _ _ (w .words-before .ensures) _ _ (x .words-before2 .ensures) (d .if2 .left) (v .move-up2 .ensures) (u .move-up3 .ensures) (c .move-first3 .ensures)
+    shift-three (a .n) (a .planes .now) (a .steps .now) (a .ways .now) (s .pre) _ _ _ (w .words-before .ensures) _ _ (x .words-before2 .ensures) (d .if2 .left)
+    (v .move-up2 .ensures) (u .move-up3 .ensures) (c .move-first3 .ensures)
 
 pub shift-spec : {M : Type 1} → statement M
 shift-spec =

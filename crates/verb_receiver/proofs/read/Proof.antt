@@ -24,7 +24,8 @@ returns : tie.Need-returns
 returns c = receiver-bad (c .before .before .before .before .before2 .ensures) (sym (c .enum-told .given .1) ∙ c .before .before .number-of .ensures)
 
 returns-2 : tie.Need-returns-2
-returns-2 c = receiver-plain (c .before .before .before .before .before .before .before2 .ensures) (c .if1 .taken) (sym (c .before .before .u .given .1) ∙ c .before .before .before .before .number-of .ensures)
+returns-2 c =
+    receiver-plain (c .before .before .before .before .before .before .before2 .ensures) (c .if1 .taken) (sym (c .before .before .u .given .1) ∙ c .before .before .before .before .number-of .ensures)
 
 add-window : tie.Need-add-window
 add-window c = search needs
@@ -44,7 +45,8 @@ window-requires c κs = search needs
 returns-3 : tie.Need-returns-3
 returns-3 c =
     c .window .ensures
-    ∙ receiver-more (c .before .before .before .before .before .before .before .before .before2 .ensures) (c .before .before .if1 .left) (sym (c .before .before .before .before .u .given .1) ∙ c .before .before .before .before .before .before .number-of .ensures)
+    ∙ receiver-more (c .before .before .before .before .before .before .before .before .before2 .ensures) (c .before .before .if1 .left)
+    (sym (c .before .before .before .before .u .given .1) ∙ c .before .before .before .before .before .before .number-of .ensures)
 
 pub read-spec : {M : Type 1} → statement M
 read-spec =

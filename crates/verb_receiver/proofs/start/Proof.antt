@@ -31,7 +31,8 @@ same-requires-2 : tie.Need-same-requires-2
 same-requires-2 c κs = search needs
 
 returns-3 : tie.Need-returns-3
-returns-3 c = start-more (c .before .before .before .before .before .before2 .ensures) _ _ _ _ (c .before .before .before .before .if1 .left) (sym (not-true _ (c .if3 .taken)) ∙ c .before .same2 .ensures) refl
+returns-3 c =
+    start-more (c .before .before .before .before .before .before2 .ensures) _ _ _ _ (c .before .before .before .before .if1 .left) (sym (not-true _ (c .if3 .taken)) ∙ c .before .same2 .ensures) refl
 
 add-number-of : tie.Need-add-number-of
 add-number-of c = search needs
@@ -54,13 +55,23 @@ enum-known-state c = search needs
 enum-told : tie.Need-enum-told
 enum-told c = search needs
 
+-- the way back, from a place in the code to one that comes before it
+abbrev to-else1 : tie.After-number-of → tie.Else1
+to-else1 c = c .before .before .before .before .before .before
+
 returns-4 : tie.Need-returns-4
 returns-4 c =
-    start-more (c .before .before .before .before .before .before .before .before .before .before2 .ensures) _ _ _ _ (c .before .before .before .before .before .before .before .before .if1 .left) (sym (not-false _ (c .before .before .before .before .if3 .left)) ∙ c .before .before .before .before .before .same2 .ensures) (sym (c .enum-told .given .1) ∙ c .before .before .number-of .ensures)
+    let at-else1 = to-else1 (c .before .before) in
+    start-more (at-else1 .before .before2 .ensures) _ _ _ _ (at-else1 .if1 .left)
+    (sym (not-false _ (c .before .before .before .before .if3 .left)) ∙ c .before .before .before .before .before .same2 .ensures)
+    (sym (c .enum-told .given .1) ∙ c .before .before .number-of .ensures)
 
 returns-5 : tie.Need-returns-5
 returns-5 c =
-    start-more (c .before .before .before .before .before .before .before .before .before .before .before2 .ensures) _ _ _ _ (c .before .before .before .before .before .before .before .before .before .if1 .left) (sym (not-false _ (c .before .before .before .before .before .if3 .left)) ∙ c .before .before .before .before .before .before .same2 .ensures) (sym (c .before .state .given .1) ∙ c .before .before .before .number-of .ensures)
+    let at-else1 = to-else1 (c .before .before .before) in
+    start-more (at-else1 .before .before2 .ensures) _ _ _ _ (at-else1 .if1 .left)
+    (sym (not-false _ (c .before .before .before .before .before .if3 .left)) ∙ c .before .before .before .before .before .before .same2 .ensures)
+    (sym (c .before .state .given .1) ∙ c .before .before .before .number-of .ensures)
 
 pub start-spec : {M : Type 1} → statement M
 start-spec =

@@ -24,7 +24,8 @@ enum-told : tie.Need-enum-told
 enum-told c = search needs
 
 returns-2 : tie.Need-returns-2
-returns-2 c = window-more (c .before .before .before .before .before .before2 .ensures) _ _ (c .before .before .before .before .if1 .left) (sym (c .enum-told .given .1) ∙ c .before .before .number-of .ensures)
+returns-2 c =
+    window-more (c .before .before .before .before .before .before2 .ensures) _ _ (c .before .before .before .before .if1 .left) (sym (c .enum-told .given .1) ∙ c .before .before .number-of .ensures)
 
 add-start : tie.Need-add-start
 add-start c = search needs
@@ -44,7 +45,9 @@ start-requires c κs = search needs
 returns-3 : tie.Need-returns-3
 returns-3 c =
     c .start .ensures
-    ∙ window-more (c .before .before .before .before .before .before .before .before .before2 .ensures) _ _ (c .before .before .before .before .before .before .before .if1 .left) (sym (c .before .before .before .window .given .1) ∙ c .before .before .before .before .before .number-of .ensures)
+    ∙ window-more (c .before .before .before .before .before .before .before .before .before2 .ensures) _ _
+    (c .before .before .before .before .before .before .before .if1 .left)
+    (sym (c .before .before .before .window .given .1) ∙ c .before .before .before .before .before .number-of .ensures)
 
 pub window-spec : {M : Type 1} → statement M
 window-spec =

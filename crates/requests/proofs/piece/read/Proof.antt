@@ -32,8 +32,18 @@ enum-told c = search needs
 returns : tie.Need-returns
 returns c = piece-bad (c .before .before .before .before .before2 .ensures) _ (sym (c .enum-told .given .1) ∙ c .before .before .cap-of .ensures)
 
+-- the way back, from a place in the code to one that comes before it
+abbrev to-before2 : tie.After-cap → tie.After-before2
+to-before2 c = c .before .before .before .before
+
+abbrev to-cap : tie.After-signed-list → tie.After-cap
+to-cap c = c .before .before .before .before .before
+
+abbrev to-signed-list : tie.After-known-told2 → tie.After-signed-list
+to-signed-list c = c .before .before .before .before
+
 returns-2 : tie.Need-returns-2
-returns-2 c = piece-alone (c .before .before .before .before .before .before .before2 .ensures) _ (c .if1 .taken) (sym (c .before .before .cap .given .1) ∙ c .before .before .before .before .cap-of .ensures)
+returns-2 c = piece-alone (to-before2 (c .before .before) .before2 .ensures) _ (c .if1 .taken) (sym (c .before .before .cap .given .1) ∙ c .before .before .before .before .cap-of .ensures)
 
 add-signed-list : tie.Need-add-signed-list
 add-signed-list c = search needs
@@ -61,7 +71,9 @@ same-length c = search needs
 
 returns-3 : tie.Need-returns-3
 returns-3 c =
-    piece-more (c .before .before .before .before .before .before .before .before .before .before .before .before .before2 .ensures) (c .before .before .before .before .before .before .if1 .left) (sym (c .before .before .before .before .before .before .before .before .cap .given .1) ∙ c .before .before .before .before .before .before .before .before .before .before .cap-of .ensures)
+    let at-cap = to-cap (c .before .before .before) in
+    piece-more (to-before2 at-cap .before2 .ensures) (c .before .before .before .before .before .before .if1 .left)
+    (sym (at-cap .cap .given .1) ∙ at-cap .before .before .cap-of .ensures)
     (lists-as (c .enum-told2 .given .1) (c .before .before .before .signed-list .ensures))
 
 same-length-2 : tie.Need-same-length-2
@@ -69,8 +81,11 @@ same-length-2 c = search needs
 
 returns-4 : tie.Need-returns-4
 returns-4 c =
-    piece-more (c .before .before .before .before .before .before .before .before .before .before .before .before .before .before2 .ensures) (c .before .before .before .before .before .before .before .if1 .left) (sym (c .before .before .before .before .before .before .before .before .before .cap .given .1) ∙ c .before .before .before .before .before .before .before .before .before .before .before .cap-of .ensures)
-    (lists-as (c .before .count .given .1) (c .before .before .before .before .signed-list .ensures))
+    let at-signed-list = to-signed-list c in
+    let at-cap = to-cap at-signed-list in
+    piece-more (to-before2 at-cap .before2 .ensures) (at-signed-list .before .before .before .if1 .left)
+    (sym (at-cap .cap .given .1) ∙ at-cap .before .before .cap-of .ensures)
+    (lists-as (c .before .count .given .1) (at-signed-list .signed-list .ensures))
 
 pub read-spec : {M : Type 1} → statement M
 read-spec =

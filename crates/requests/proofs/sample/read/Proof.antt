@@ -26,7 +26,9 @@ enum-told : tie.Need-enum-told
 enum-told c = search needs
 
 returns-2 : tie.Need-returns-2
-returns-2 c = two-read hex-reader request.Sample hexOf (c .before .before .before .before .before .before2 .ensures) (c .before .before .before .before .if1 .left) (sym (c .enum-told .given .1) ∙ c .before .before .hex .ensures) refl
+returns-2 c =
+    two-read hex-reader request.Sample hexOf (c .before .before .before .before .before .before2 .ensures) (c .before .before .before .before .if1 .left)
+    (sym (c .enum-told .given .1) ∙ c .before .before .hex .ensures) refl
 
 add-hex : tie.Need-add-hex
 add-hex c = search needs
@@ -49,13 +51,24 @@ enum-known-y c = search needs
 enum-told-2 : tie.Need-enum-told-2
 enum-told-2 c = search needs
 
+-- the way back, from a place in the code to one that comes before it
+abbrev to-hex : tie.After-hex2 → tie.After-hex
+to-hex c = c .before .before .before .before .before
+
 returns-3 : tie.Need-returns-3
 returns-3 c =
-    two-read hex-reader request.Sample hexOf (c .before .before .before .before .before .before .before .before .before .before .before2 .ensures) (c .before .before .before .before .before .before .before .before .before .if1 .left) (sym (c .before .before .before .before .before .x .given .1) ∙ c .before .before .before .before .before .before .before .hex .ensures) (sym (c .enum-told2 .given .1) ∙ c .before .before .hex2 .ensures)
+    let at-hex = to-hex (c .before .before) in
+    two-read hex-reader request.Sample hexOf (at-hex .before .before .before .before2 .ensures)
+    (at-hex .before .before .if1 .left) (sym (c .before .before .before .before .before .x .given .1) ∙ at-hex .hex .ensures)
+    (sym (c .enum-told2 .given .1) ∙ c .before .before .hex2 .ensures)
 
 returns-4 : tie.Need-returns-4
 returns-4 c =
-    two-read hex-reader request.Sample hexOf (c .before .before .before .before .before .before .before .before .before .before .before .before2 .ensures) (c .before .before .before .before .before .before .before .before .before .before .if1 .left) (sym (c .before .before .before .before .before .before .x .given .1) ∙ c .before .before .before .before .before .before .before .before .hex .ensures) (sym (c .before .y .given .1) ∙ c .before .before .before .hex2 .ensures)
+    let at-hex = to-hex (c .before .before .before) in
+    two-read hex-reader request.Sample hexOf (at-hex .before .before .before .before2 .ensures)
+    (at-hex .before .before .if1 .left)
+    (sym (c .before .before .before .before .before .before .x .given .1) ∙ at-hex .hex .ensures)
+    (sym (c .before .y .given .1) ∙ c .before .before .before .hex2 .ensures)
 
 pub read-spec : {M : Type 1} → statement M
 read-spec =

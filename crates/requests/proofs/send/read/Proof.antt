@@ -26,7 +26,9 @@ enum-told : tie.Need-enum-told
 enum-told c = search needs
 
 returns-2 : tie.Need-returns-2
-returns-2 c = two-read cap-reader request.Send anyNumber (c .before .before .before .before .before .before2 .ensures) (c .before .before .before .before .if1 .left) (sym (c .enum-told .given .1) ∙ c .before .before .number-of .ensures) refl
+returns-2 c =
+    two-read cap-reader request.Send anyNumber (c .before .before .before .before .before .before2 .ensures) (c .before .before .before .before .if1 .left)
+    (sym (c .enum-told .given .1) ∙ c .before .before .number-of .ensures) refl
 
 add-cap-of : tie.Need-add-cap-of
 add-cap-of c = search needs
@@ -49,13 +51,25 @@ enum-known-cap c = search needs
 enum-told-2 : tie.Need-enum-told-2
 enum-told-2 c = search needs
 
+-- the way back, from a place in the code to one that comes before it
+abbrev to-number-of : tie.After-cap-of → tie.After-number-of
+to-number-of c = c .before .before .before .before .before
+
 returns-3 : tie.Need-returns-3
 returns-3 c =
-    two-read cap-reader request.Send anyNumber (c .before .before .before .before .before .before .before .before .before .before .before2 .ensures) (c .before .before .before .before .before .before .before .before .before .if1 .left) (sym (c .before .before .before .before .before .word .given .1) ∙ c .before .before .before .before .before .before .before .number-of .ensures) (sym (c .enum-told2 .given .1) ∙ c .before .before .cap-of .ensures)
+    let at-number-of = to-number-of (c .before .before) in
+    two-read cap-reader request.Send anyNumber (at-number-of .before .before .before .before2 .ensures)
+    (at-number-of .before .before .if1 .left)
+    (sym (c .before .before .before .before .before .word .given .1) ∙ at-number-of .number-of .ensures)
+    (sym (c .enum-told2 .given .1) ∙ c .before .before .cap-of .ensures)
 
 returns-4 : tie.Need-returns-4
 returns-4 c =
-    two-read cap-reader request.Send anyNumber (c .before .before .before .before .before .before .before .before .before .before .before .before2 .ensures) (c .before .before .before .before .before .before .before .before .before .before .if1 .left) (sym (c .before .before .before .before .before .before .word .given .1) ∙ c .before .before .before .before .before .before .before .before .number-of .ensures) (sym (c .before .cap .given .1) ∙ c .before .before .before .cap-of .ensures)
+    let at-number-of = to-number-of (c .before .before .before) in
+    two-read cap-reader request.Send anyNumber (at-number-of .before .before .before .before2 .ensures)
+    (at-number-of .before .before .if1 .left)
+    (sym (c .before .before .before .before .before .before .word .given .1) ∙ at-number-of .number-of .ensures)
+    (sym (c .before .cap .given .1) ∙ c .before .before .before .cap-of .ensures)
 
 pub read-spec : {M : Type 1} → statement M
 read-spec =

@@ -34,7 +34,8 @@ returns c =
     let v₁ = low .before in
     let v₀ = v₁ .before in
     let a = v₀ .before .args in
-    best (a .sums .now) (a .costs .now) (a .t) _ _ _ _ _ _ _ (v₀ .way-by .ensures) (v₁ .way-by2 .ensures) (v₂ .way-by3 .ensures) (v₃ .way-by4 .ensures) (low .nearer .ensures) (high .nearer2 .ensures) (c .nearer3 .ensures)
+    best (a .sums .now) (a .costs .now) (a .t) _ _ _ _ _ _ _ (v₀ .way-by .ensures) (v₁ .way-by2 .ensures) (v₂ .way-by3 .ensures) (v₃ .way-by4 .ensures)
+    (low .nearer .ensures) (high .nearer2 .ensures) (c .nearer3 .ensures)
 
 pub best-into-spec : {M : Type 1} → statement M
 best-into-spec =

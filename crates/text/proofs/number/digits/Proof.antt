@@ -30,24 +30,28 @@ returns-2 : tie.Need-returns-2 Inv-loop μ-loop
 returns-2 c =
     other-byte (c .before .before .before .before .loop .inv .2) _ _ (c .before .before .before .loop-test .taken) (c .before .digit .ensures) (c .if2 .taken)
 
+-- the way back, from a place in the code to one that comes before it
+abbrev to-loop : tie.Else2 Inv-loop μ-loop → tie.At-loop Inv-loop μ-loop
+to-loop c = c .before .before .before .before
+
 mul-n : tie.Need-mul-n Inv-loop μ-loop
 mul-n c =
     record {
       fits =
-          omega (arith, mul-le-mul (c .before .before .before .before .loop .inv .1) (c .before .before .before .before .before .before .before .pre .1));
+          omega (arith, mul-le-mul (to-loop c .loop .inv .1) (to-loop c .before .before .before .pre .1));
     }
 
 add-n : tie.Need-add-n Inv-loop μ-loop
 add-n c =
     record {
       fits =
-          omega (arith, mul-le-mul (c .before .before .before .before .loop .inv .1) (c .before .before .before .before .before .before .before .pre .1));
+          omega (arith, mul-le-mul (to-loop c .loop .inv .1) (to-loop c .before .before .before .pre .1));
     }
 
 returns-3 : tie.Need-returns-3 Inv-loop μ-loop
 returns-3 c =
     too-large
-    (further (c .before .before .before .before .before .loop .inv .2) (c .before .before .before .before .loop-test .taken) (c .before .before .digit .ensures) (c .before .if2 .left))
+    (further (to-loop (c .before) .loop .inv .2) (c .before .before .before .before .loop-test .taken) (c .before .before .digit .ensures) (c .before .if2 .left))
     _ (search needs) (c .if3 .taken)
 
 add-i : tie.Need-add-i Inv-loop μ-loop
@@ -60,7 +64,7 @@ loop-again : tie.Need-loop-again Inv-loop μ-loop
 loop-again c = (
   omega arith,
   omega arith,
-  further (c .before .before .before .before .before .loop .inv .2) (c .before .before .before .before .loop-test .taken) (c .before .before .digit .ensures) (c .before .if2 .left),
+  further (to-loop (c .before) .loop .inv .2) (c .before .before .before .before .loop-test .taken) (c .before .before .digit .ensures) (c .before .if2 .left),
 )
 
 cast-t14 : tie.Need-cast-t14 Inv-loop μ-loop

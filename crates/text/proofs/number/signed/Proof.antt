@@ -74,7 +74,13 @@ returns-4 c =
     (plain-whole _ (c .before .before .before .before .before .if1 .left) (c .before .before .before .if2 .left))
 
 cast-t15 : tie.Need-cast-t15
-cast-t15 c = record { sfits = omega (arith, got-most 10 2147483647 (c .before .before .before .before .before .before .before .before .args .s .now) (sym (c .before .n2 .given .1) ∙ c .before .before .before .decimal2 .ensures)) }
+cast-t15 c =
+    record {
+      sfits = omega (
+        arith,
+        got-most 10 2147483647 (c .before .before .before .before .before .before .before .before .args .s .now) (sym (c .before .n2 .given .1) ∙ c .before .before .before .decimal2 .ensures),
+      );
+    }
 
 returns-5 : tie.Need-returns-5
 returns-5 c =

@@ -37,7 +37,8 @@ loop-less : tie.Need-loop-less Inv-loop μ-loop
 loop-less c = search needs
 
 loop-again : tie.Need-loop-again Inv-loop μ-loop
-loop-again c = (omega arith, agree _ _ _ (c .before .before .before .before .before .if1 .left) (c .before .before .before .loop-test .taken) (c .if2 .left) ∙ c .before .before .before .before .loop .inv .1)
+loop-again c =
+    (omega arith, agree _ _ _ (c .before .before .before .before .before .if1 .left) (c .before .before .before .loop-test .taken) (c .if2 .left) ∙ c .before .before .before .before .loop .inv .1)
 
 returns-3 : tie.Need-returns-3 Inv-loop μ-loop
 returns-3 c = sym (all-agree _ _ _ (c .before .before .if1 .left) (c .loop-test .left)) ∙ c .before .loop .inv .1

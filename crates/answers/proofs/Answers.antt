@@ -76,7 +76,8 @@ regroup : (s n a b c d e : List ℕ) → n ++ (s ++ a ++ (s ++ b ++ (s ++ c ++ (
 regroup s n a b c d e = simp (append-assoc, append-nil)
 
 pub all-sent : (n : ℕ) (out : List ℤ) → n ≡ 0 → 4 ≤ length out
-    → decimal n ++ (bytes " " ++ whole (getD out 0 (pos 0)) ++ (bytes " " ++ whole (getD out 1 (pos 0)))) ++ (bytes " " ++ whole (getD out 2 (pos 0)) ++ (bytes " " ++ whole (getD out 3 (pos 0)))) ++ bytes "\n" ≡ sentLine n out
+    → decimal n ++ (bytes " " ++ whole (getD out 0 (pos 0)) ++ (bytes " " ++ whole (getD out 1 (pos 0)))) ++
+    (bytes " " ++ whole (getD out 2 (pos 0)) ++ (bytes " " ++ whole (getD out 3 (pos 0)))) ++ bytes "\n" ≡ sentLine n out
 unfolding sentLine
 all-sent n out e h =
     let w : ℕ → List ℕ = λ i. whole (getD out i (pos 0)) in

@@ -154,7 +154,8 @@ module _ (n : ℕ) (S : Steady n) (more : n < 4294967295) where
   next-newest s h = ap (λ (l : List ℕ). subsetIn l s 0) moved-is ∙ newest-subset (rx .core .pending + 1) (rx .planes) steps s h
 
   next-older : (s : ℕ) → s < 16 → 2 ≤ keptOf rx zeros → subsetIn (movedOf (rx .core .pending + 1) (rx .planes) (nextSteps rx zeros)) s 1 ≡ getD steps (prevIn steps s) 0 % 8
-  next-older s h k = ap (λ (l : List ℕ). subsetIn l s 1) moved-is ∙ older-subset (rx .core .pending + 1) (rx .planes) steps s h 0 (omega arith) (omega arith) ∙ S .newest (prevIn steps s) (omega arith) (omega arith)
+  next-older s h k =
+      ap (λ (l : List ℕ). subsetIn l s 1) moved-is ∙ older-subset (rx .core .pending + 1) (rx .planes) steps s h 0 (omega arith) (omega arith) ∙ S .newest (prevIn steps s) (omega arith) (omega arith)
 
   grown-steady : (machineOf (told (suc n)) ≡ grown rx zeros) → Steady (suc n)
   unfolding grown
@@ -169,7 +170,8 @@ module _ (n : ℕ) (S : Steady n) (more : n < 4294967295) where
 
 steady-after : (n : ℕ) → n ≤ 4294967295 → Steady n
 unfolding machineAfter opened freshSums
-steady-after zero h = record { fine = fine-opened (ofWidth 0) 64 free refl (omega arith) (omega arith) tt; sums = refl; few = omega arith; newest = λ s l k. absurd (omega arith); older = λ s l k. absurd (omega arith) }
+steady-after zero h =
+    record { fine = fine-opened (ofWidth 0) 64 free refl (omega arith) (omega arith) tt; sums = refl; few = omega arith; newest = λ s l k. absurd (omega arith); older = λ s l k. absurd (omega arith) }
 steady-after (suc n) h =
     let s = steady-after n (omega arith) in
     grown-steady n s (omega arith) (grown-told (told n) (s .fine) zeros)

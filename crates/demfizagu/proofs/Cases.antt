@@ -178,7 +178,8 @@ module _ (state : List ℕ) (piece : List ℤ) (out told : List ℕ) where
     hear-written l h f =
         let e = is .taken in
         rw (le-ltb (length told) 3 enough)
-        (answered-written ran state out told a o t n is number tells (ltb 0 (ran .taken)) l (lt-ltb 0 (ran .taken) (omega arith)) f (hearing-reads (receiverIn state) (pieceOf piece) (length out) (λ z. h (e ∙ z))))
+        (answered-written ran state out told a o t n is number tells (ltb 0 (ran .taken)) l (lt-ltb 0 (ran .taken) (omega arith)) f
+        (hearing-reads (receiverIn state) (pieceOf piece) (length out) (λ z. h (e ∙ z))))
 
   -- a state that holds no receiver
   pub hear-none : holds receiverLength receiverTag state ≡ false → 3 ≤ length told → (t : List ℕ) (n : ℕ) → n ≡ 9 → t ≡ toldOf 0 0 0 told → Answers (hearCall state piece out told) n state out t
@@ -213,7 +214,8 @@ module _ (state : List ℕ) (piece : List ℤ) (out told : List ℕ) (yes : hold
   all-there = length-take-le 72 (drop picksAt state) (rw length-drop (omega (arith, held receiverLength receiverTag state yes .long)))
 
   module _ (f : Copied) (loaded : f ≡ copiedIn state) (h : Heard) (sums planes picks o : List ℕ)
-      (was : receives.Is (hearing (receives.partsOf (receives.lentLive true picks₀) (f .core) (f .sums) (f .planes) picks₀) (pieceOf piece) (length out)) out (receives.answerOf (receives.lentLive true picks₀) h sums planes picks) o)
+      (was : receives.Is (hearing (receives.partsOf (receives.lentLive true picks₀) (f .core) (f .sums) (f .planes) picks₀) (pieceOf piece) (length out)) out
+      (receives.answerOf (receives.lentLive true picks₀) h sums planes picks) o)
       (enough : 3 ≤ length told) (t : List ℕ) (n : ℕ) (number : n ≡ givenOf (h .why) .number) (tells : t ≡ toldOf (h .taken) (h .written) (givenOf (h .why) .place) told) where
     abbrev a : Answer
     a = receives.answerOf true h sums planes picks
@@ -221,7 +223,8 @@ module _ (state : List ℕ) (piece : List ℤ) (out told : List ℕ) (yes : hold
     is : receives.Is (hearing (receiverIn state) (pieceOf piece) (length out)) out a o
     is =
         subst (λ (rx : Receiver). receives.Is (hearing rx (pieceOf piece) (length out)) out a o) (front-is f loaded)
-        (subst (λ (b : Bool). receives.Is (hearing (receives.partsOf b (f .core) (f .sums) (f .planes) picks₀) (pieceOf piece) (length out)) out (receives.answerOf b h sums planes picks) o) (lent-live true picks₀ all-there) was)
+        (subst (λ (b : Bool). receives.Is (hearing (receives.partsOf b (f .core) (f .sums) (f .planes) picks₀) (pieceOf piece) (length out)) out (receives.answerOf b h sums planes picks) o)
+        (lent-live true picks₀ all-there) was)
 
     -- where nothing was taken they come back as they were
     unchanged : h .taken ≡ 0 → around picks ≡ state
@@ -256,13 +259,15 @@ module _ (state out told : List ℕ) where
     unfolding finishCall ends same
     finish-kept h =
         rw (le-ltb (length told) 3 enough)
-        (answered-kept ends state out told a o t n (is .always) number tells (eqb (givenOf (ends .why) .number) 0) (ne-eqb _ _ (λ z. h (same ∙ z))) (finishing-keeps (receiverIn state) (length out) (λ z. h (same ∙ z))))
+        (answered-kept ends state out told a o t n (is .always) number tells (eqb (givenOf (ends .why) .number) 0) (ne-eqb _ _ (λ z. h (same ∙ z)))
+        (finishing-keeps (receiverIn state) (length out) (λ z. h (same ∙ z))))
 
     pub finish-written : (l : List ℕ) → n ≡ 0 → ReceiverStored (a .receiver) state l → Answers (finishCall state out told) n l o t
     unfolding finishCall ends same
     finish-written l h f =
         rw (le-ltb (length told) 3 enough)
-        (answered-written ends state out told a o t n (is .always) number tells (eqb (givenOf (ends .why) .number) 0) l (eq-eqb _ _ (sym same ∙ h)) f (finishing-reads (receiverIn state) (length out) (sym same ∙ h)))
+        (answered-written ends state out told a o t n (is .always) number tells (eqb (givenOf (ends .why) .number) 0) l (eq-eqb _ _ (sym same ∙ h)) f
+        (finishing-reads (receiverIn state) (length out) (sym same ∙ h)))
 
     pub finish-long : n ≡ 0 → receiverLength ≤ length state
     unfolding ends same

@@ -13,6 +13,7 @@ opens-settled read c n m state other a b = (a .number ∙ sym (b .number), a .st
 pub sends-settled : (c : Sending) (n m : ℕ) (state other : List ℕ) (out after : List ℤ) → Sends c n state out → Sends c m other after → (n ≡ m) × (state ≡ other) × (out ≡ after)
 sends-settled c n m state other out after a b = (a .number ∙ sym (b .number), a .state-is ∙ sym (b .state-is), a .out-is ∙ sym (b .out-is))
 
-pub answers-settled : (c : Call) (n m : ℕ) (state other out after told then : List ℕ) → Answers c n state out told → Answers c m other after then → (n ≡ m) × (state ≡ other) × (out ≡ after) × (told ≡ then)
+pub answers-settled : (c : Call) (n m : ℕ) (state other out after told then : List ℕ) → Answers c n state out told → Answers c m other after then →
+    (n ≡ m) × (state ≡ other) × (out ≡ after) × (told ≡ then)
 answers-settled c n m state other out after told then a b =
     (a .number ∙ sym (b .number), a .state-is ∙ sym (b .state-is), a .out-is ∙ sym (b .out-is), a .told-is ∙ sym (b .told-is))

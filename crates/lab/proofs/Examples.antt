@@ -53,6 +53,8 @@ unfolding decimal whole sentLine reasonText saidText heardLine sampleLine
 examples = refl
 
 -- a comment, an empty line, both openings of a sender, a word, and a last line that no newline follows and that lacks its CAP
-pub session : lastLine 65536 (streaming 65536 (record { desk = closedDesk; line = []; text = [] }) (bytes "# a comment\n\nsender 9\nsender 0\nsend 5 4\npending\nsample 3F800000 7f800000\nsend 5")) .text ≡ bytes "1\n0\n0 -1 -1 1 1\n0\n5 place 1\n?\n"
+pub session : lastLine 65536
+    (streaming 65536 (record { desk = closedDesk; line = []; text = [] }) (bytes "# a comment\n\nsender 9\nsender 0\nsend 5 4\npending\nsample 3F800000 7f800000\nsend 5")) .text
+    ≡ bytes "1\n0\n0 -1 -1 1 1\n0\n5 place 1\n?\n"
 unfolding answering acting requestOf verbOf numberOf hexOf digitOf decimal whole sentLine sampleLine heardBits shut sound opening sending symbolOf after four firstPoint secondPoint lastLabel pointOf aPoint coordinates unpacked nextState secondLabel
 session = refl

@@ -149,7 +149,9 @@ module _ (d : Desk) where
   line-named [] list = refl
   line-named (v ∷ []) list = pending-alone v _ _
   line-named (v ∷ t ∷ ts) list = by (sameBytes v (bytes "piece")) where
-    by : (b : Bool) → acting d (cond b (pieceOf (length list) (t ∷ ts)) (sendVerb v (t ∷ ts))) (cond b (filledBy (capNumber t) ts list) list) ≡ acting d (cond b (pieceOf (length list) (t ∷ ts)) (sendVerb v (t ∷ ts))) (firstWholes (length list) ts)
+    by : (b : Bool) →
+        acting d (cond b (pieceOf (length list) (t ∷ ts)) (sendVerb v (t ∷ ts))) (cond b (filledBy (capNumber t) ts list) list)
+        ≡ acting d (cond b (pieceOf (length list) (t ∷ ts)) (sendVerb v (t ∷ ts))) (firstWholes (length list) ts)
     by true = piece-named (capNumber t) ts list
     by false = send-verb v (t ∷ ts) _ _
 
@@ -157,7 +159,9 @@ module _ (d : Desk) where
   unfolding acting requestOf coordinatesOf
   read-named [] list h = refl
   read-named (b ∷ s) list h = rw (← h) (by (eqb b 35)) where
-    by : (t : Bool) → acting d (cond t request.Nothing (lineOf (length list) (tokens (b ∷ s)))) (cond t list (lineFills (tokens (b ∷ s)) list)) ≡ acting d (cond t request.Nothing (lineOf (length list) (tokens (b ∷ s)))) (firstWholes (length list) (drop 2 (tokens (b ∷ s))))
+    by : (t : Bool) →
+        acting d (cond t request.Nothing (lineOf (length list) (tokens (b ∷ s)))) (cond t list (lineFills (tokens (b ∷ s)) list))
+        ≡ acting d (cond t request.Nothing (lineOf (length list) (tokens (b ∷ s)))) (firstWholes (length list) (drop 2 (tokens (b ∷ s))))
     by true = refl
     by false = line-named (tokens (b ∷ s)) list
 

@@ -103,7 +103,10 @@ module _ (rx : Receiver) (e : End rx) (out : List ℕ) (r : Answer) (o : List �
   hears-nine q p = ⊎-elim closed going (end-known rx e)
     where
       closed : rx ≡ shut → (givenOf (r .why) .number ≡ 9) ↔ (rx .live ≡ false)
-      closed z = (λ _. ap (λ (x : Receiver). x .live) z ∙ shut-live, λ _. ap (λ (g : Reason). g .number) (p .always .given ∙ ap (λ (x : Ran). givenOf (x .why)) (ap (λ (k : Receiver). hearing k q (length out)) z ∙ shut-hears q (length out))))
+      closed z = (
+        λ _. ap (λ (x : Receiver). x .live) z ∙ shut-live,
+        λ _. ap (λ (g : Reason). g .number) (p .always .given ∙ ap (λ (x : Ran). givenOf (x .why)) (ap (λ (k : Receiver). hearing k q (length out)) z ∙ shut-hears q (length out))),
+      )
 
       going : Known rx → (givenOf (r .why) .number ≡ 9) ↔ (rx .live ≡ false)
       going k = (
@@ -115,7 +118,10 @@ module _ (rx : Receiver) (e : End rx) (out : List ℕ) (r : Answer) (o : List �
   finishes-nine p = ⊎-elim closed going (end-known rx e)
     where
       closed : rx ≡ shut → (givenOf (r .why) .number ≡ 9) ↔ (rx .live ≡ false)
-      closed z = (λ _. ap (λ (x : Receiver). x .live) z ∙ shut-live, λ _. ap (λ (g : Reason). g .number) (p .always .given ∙ ap (λ (x : Ran). givenOf (x .why)) (ap (λ (q : Receiver). finishing q (length out)) z ∙ shut-finishes (length out))))
+      closed z = (
+        λ _. ap (λ (x : Receiver). x .live) z ∙ shut-live,
+        λ _. ap (λ (g : Reason). g .number) (p .always .given ∙ ap (λ (x : Ran). givenOf (x .why)) (ap (λ (q : Receiver). finishing q (length out)) z ∙ shut-finishes (length out))),
+      )
 
       going : Known rx → (givenOf (r .why) .number ≡ 9) ↔ (rx .live ≡ false)
       going k = (

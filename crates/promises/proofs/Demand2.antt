@@ -73,7 +73,9 @@ ended-fine ac w b took ws (ends {ws = vs} {rx = q} k out o r h z) = follows ac w
 pub least : (ac : Accord) (w : ℕ) (b : Start) (took : List (Two Received)) (ws : List ℕ) → Ended ac w b took ws → LeastWords ac b took ws
 least ac w b took ws k =
     let L = wei-laws (ac .u) (lineMeasure ac) (lineChoice ac) (line-chooses ac) sameSymbol (startOf b) in
-    let (p, a) = some-answer (weiSearch (ac .u) (lineMeasure ac) (lineChoice ac) sameSymbol (startOf b)) L (wei-onward (ac .u) (lineMeasure ac) (startOf b) (ended-fine ac w b took ws k .good-start)) (reverse took) in
+    let (p, a) =
+    some-answer (weiSearch (ac .u) (lineMeasure ac) (lineChoice ac) sameSymbol (startOf b)) L
+    (wei-onward (ac .u) (lineMeasure ac) (startOf b) (ended-fine ac w b took ws k .good-start)) (reverse took) in
     record {
       path = p;
       is-answer = a;
@@ -98,7 +100,8 @@ module _ (ac : Accord) (w : ℕ) (b : Start) (z : StartsAtZero b) (sent : List �
   clean-talk : (ws : List ℕ) (rx : Receiver) → Talk ac w b (cleanly ac sent) ws rx → IsPrefix ws (asHeard (startOf b) sent)
   clean-talk ws rx k =
       let f = follows ac w b (cleanly ac sent) ws rx k in
-      rw (f .said) (subst (IsPrefix (speakerOf (toldOf ac w b (cleanly ac sent)) .spoken (reverse (cleanly ac sent)))) (clean-answer (f .fine)) (speaks (toldOf ac w b (cleanly ac sent)) (f .fine) .within (reverse (cleanly ac sent))))
+      rw (f .said) (subst (IsPrefix (speakerOf (toldOf ac w b (cleanly ac sent)) .spoken (reverse (cleanly ac sent)))) (clean-answer (f .fine))
+      (speaks (toldOf ac w b (cleanly ac sent)) (f .fine) .within (reverse (cleanly ac sent))))
 
 -- a sender's run, heard 128 times
 sent-cleanly : (ac : Accord) (sent : List ℕ) (ps : List ℤ) (s : Sender) → sender.Talk ac sent ps s → symbolsOf (allOnLine ps) ≡ cleanly ac sent
@@ -123,7 +126,9 @@ module _ (ac : Accord) (w : ℕ) (b : Start) (z : StartsAtZero b) (sent : List �
       (drop m (asHeard (startOf b) sent), ap (λ (l : List ℕ). l ++ drop m (asHeard (startOf b) sent)) (heard-take (startOf b) m sent) ∙ take-append-drop m (asHeard (startOf b) sent))
 
   pub first-back : (m : ℕ) (ws : List ℕ) → Ended ac w b (take m (symbolsOf (allOnLine ps))) ws → ws ≡ take m (asHeard (startOf b) sent)
-  first-back m ws h = clean-ended ac w b z (take m sent) (every-take (λ n. isWord (ac .u) n ≡ true) m sent words-sent) ws (subst (λ (l : List (Two Received)). Ended ac w b l ws) (some-taken m) h) ∙ heard-take (startOf b) m sent
+  first-back m ws h =
+      clean-ended ac w b z (take m sent) (every-take (λ n. isWord (ac .u) n ≡ true) m sent words-sent) ws (subst (λ (l : List (Two Received)). Ended ac w b l ws) (some-taken m) h)
+      ∙ heard-take (startOf b) m sent
 
 pub as-floats : (ac : Accord) (sent : List ℕ) (ps : List ℤ) (s : Sender) → sender.Talk ac sent ps s → floatsHeard ps ≡ samplesAt (allOnLine ps)
 as-floats ac sent ps s k =

@@ -36,11 +36,17 @@ use Rattle.told.specs.Told.{codeOf, wordsOf}
 
 module _ (ac : Accord) (b : measure.Start) (g : GoodStart b) (took : List (Two Received)) where
   pub some-longest : (l : List Symbol) × Longest (codeOf ac b) (reverse took) l
-  some-longest = (_, T4 (weiSearch (ac .u) (lineMeasure ac) (lineChoice ac) sameSymbol b) (wei-laws (ac .u) (lineMeasure ac) (lineChoice ac) (line-chooses ac) sameSymbol b) (wei-onward (ac .u) (lineMeasure ac) b g) took)
+  some-longest = (
+    _,
+    T4 (weiSearch (ac .u) (lineMeasure ac) (lineChoice ac) sameSymbol b) (wei-laws (ac .u) (lineMeasure ac) (lineChoice ac) (line-chooses ac) sameSymbol b)
+        (wei-onward (ac .u) (lineMeasure ac) b g) took,
+  )
 
   pub one-longest : (l m : List Symbol) → Longest (codeOf ac b) (reverse took) l → Longest (codeOf ac b) (reverse took) m → l ≡ m
   one-longest l m h k =
-      let only = T4-only (weiSearch (ac .u) (lineMeasure ac) (lineChoice ac) sameSymbol b) (wei-laws (ac .u) (lineMeasure ac) (lineChoice ac) (line-chooses ac) sameSymbol b) (wei-onward (ac .u) (lineMeasure ac) b g) took in
+      let only =
+      T4-only (weiSearch (ac .u) (lineMeasure ac) (lineChoice ac) sameSymbol b) (wei-laws (ac .u) (lineMeasure ac) (lineChoice ac) (line-chooses ac) sameSymbol b)
+      (wei-onward (ac .u) (lineMeasure ac) b g) took in
       only l h ∙ sym (only m k)
 
 module _ (ac : Accord) (w : ℕ) (b : Start) (took : List (Two Received)) (ws : List ℕ) where
@@ -49,12 +55,14 @@ module _ (ac : Accord) (w : ℕ) (b : Start) (took : List (Two Received)) (ws : 
       let f = follows ac w b took ws rx k in
       f .said ∙ spoken.spoken-longest (ac .u) (lineMeasure ac) (lineChoice ac) (line-chooses ac) (startOf b) (f .fine .good-start) took l h
 
-  pub final : (rx : Receiver) → Talk ac w b took ws rx → (zs : List (Two Received)) (p : Path Symbol) → Answer (codeOf ac (startOf b)) (reverse (took ++ zs)) p → IsPrefix ws (wordsOf ac (startOf b) (symbols p))
+  pub final : (rx : Receiver) → Talk ac w b took ws rx → (zs : List (Two Received)) (p : Path Symbol) → Answer (codeOf ac (startOf b)) (reverse (took ++ zs)) p →
+      IsPrefix ws (wordsOf ac (startOf b) (symbols p))
   final rx k zs p a =
       let f = follows ac w b took ws rx k in
       let g = f .fine .good-start in
       rw (f .said)
-      (subst (IsPrefix (spokenWords (ac .u) (lineMeasure ac) (lineChoice ac) (startOf b) (reverse took))) (spoken.answer-words (ac .u) (lineMeasure ac) (lineChoice ac) (line-chooses ac) (startOf b) g (took ++ zs) p a)
+      (subst (IsPrefix (spokenWords (ac .u) (lineMeasure ac) (lineChoice ac) (startOf b) (reverse took)))
+      (spoken.answer-words (ac .u) (lineMeasure ac) (lineChoice ac) (line-chooses ac) (startOf b) g (took ++ zs) p a)
       (spoken.spoken-answer (ac .u) (lineMeasure ac) (lineChoice ac) (line-chooses ac) (startOf b) g took zs))
 
   pub whole : Ended ac w b took ws → (p : Path Symbol) → Answer (codeOf ac (startOf b)) (reverse took) p → ws ≡ wordsOf ac (startOf b) (symbols p)

@@ -42,7 +42,8 @@ pub record Follows (ac : Accord) (w : ℕ) (b : Start) (took : List (Two Receive
   pub said : ws ≡ speakerOf (toldOf ac w b took) .spoken (reverse took)
 
 -- nothing taken and nothing written
-idle : (ac : Accord) (w : ℕ) (b : Start) (took : List (Two Received)) (ws : List ℕ) (rx s : Receiver) (zs : List (Two Received)) (o : List ℕ) (m n : ℕ) → Follows ac w b took ws rx → m ≡ 0 → n ≡ 0 → s ≡ rx →
+idle : (ac : Accord) (w : ℕ) (b : Start) (took : List (Two Received)) (ws : List ℕ) (rx s : Receiver) (zs : List (Two Received)) (o : List ℕ) (m n : ℕ) →
+    Follows ac w b took ws rx → m ≡ 0 → n ≡ 0 → s ≡ rx →
     Follows ac w b (took ++ take m zs) (ws ++ take n o) s
 idle ac w b took ws rx s zs o m n f p q e =
     let a : took ++ take m zs ≡ took = ap (λ (k : ℕ). took ++ take k zs) p ∙ append-nil took in
@@ -55,7 +56,8 @@ module _ (ac : Accord) (w : ℕ) (b : Start) (took : List (Two Received)) (ws : 
 
   -- a piece that goes symbol by symbol
   walks : (zs : List (Two Received)) (e : WalkEnded (speakerOf t) (judgeOf t)) → walk (speakerOf t) (judgeOf t) (reverse took) zs (length out) ≡ e →
-      Pays (record { reason = e .why; taken = e .taken; words = e .said; told = withHeard t (e .heard) }) out r o → Follows ac w b (took ++ take (r .taken) zs) (ws ++ take (r .written) o) (r .receiver)
+      Pays (record { reason = e .why; taken = e .taken; words = e .said; told = withHeard t (e .heard) }) out r o → Follows ac w b (took ++ take (r .taken) zs)
+      (ws ++ take (r .written) o) (r .receiver)
   walks zs e z k =
       let h : reverse (e .heard) ≡ took ++ take (e .taken) zs =
       ap (λ (x : WalkEnded (speakerOf t) (judgeOf t)). reverse (x .heard)) (sym z) ∙ walk-heard (speakerOf t) (judgeOf t) (reverse took) zs (length out)

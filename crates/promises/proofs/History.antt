@@ -61,7 +61,14 @@ module _ (ac : Accord) (w : ℕ) (b : Start) where
   fine-end (y ∷ ys) f =
       let few : length ys < 4294967295 = omega (arith, f .few) in
       let g : Fine (after ys) =
-      record { agreed = f .agreed; some-window = f .some-window; small-window = f .small-window; good-start = f .good-start; few = omega arith; each = fine-same (after ys) (y ∷ ys) ys (f .each .2) } in
+      record {
+        agreed = f .agreed;
+        some-window = f .some-window;
+        small-window = f .small-window;
+        good-start = f .good-start;
+        few = omega arith;
+        each = fine-same (after ys) (y ∷ ys) ys (f .each .2);
+      } in
       subst End (hearing-owes (after ys) g (pieceOf (fourOf y)) 64 .receiver ∙ ap machineOf (heard-one (after ys) g y (f .each .0) few (f .each .1))) (heard (fine-end ys g) (pieceOf (fourOf y)) 64)
 
 -- so for each number there is an end that has been told so many; and one that has been told 4,294,967,295 answers 7

@@ -67,8 +67,11 @@ hears-refused rx e q out r o h z = ⊎-elim closed going (end-known rx e)
   where
     closed : rx ≡ shut → (r .receiver ≡ rx) × (r .written ≡ 0) × (o ≡ out)
     closed s =
-        let ran = ap (λ (k : Receiver). hearing k q (length out)) s ∙ shut-hears q (length out) in
-        (h .always .receiver ∙ ap (λ (x : Ran). x .receiver) ran ∙ sym s, h .always .written ∙ ap (λ (x : Ran). length (x .words)) ran, h .always .output ∙ ap (λ (x : Ran). x .words ++ drop (length (x .words)) out) ran)
+        let ran = ap (λ (k : Receiver). hearing k q (length out)) s ∙ shut-hears q (length out) in (
+          h .always .receiver ∙ ap (λ (x : Ran). x .receiver) ran ∙ sym s,
+          h .always .written ∙ ap (λ (x : Ran). length (x .words)) ran,
+          h .always .output ∙ ap (λ (x : Ran). x .words ++ drop (length (x .words)) out) ran,
+        )
 
     going : Known rx → (r .receiver ≡ rx) × (r .written ≡ 0) × (o ≡ out)
     going k =

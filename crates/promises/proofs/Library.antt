@@ -68,7 +68,8 @@ record Answered (r : Ran) (out : List ℕ) (n : ℕ) (state o told : List ℕ) :
   place-is : getD told 2 0 ≡ givenOf (r .why) .place
 
 -- a `told` of three places is written
-answered : (c : Call) (changed : Bool) (r : Ran) (state out told : List ℕ) → c ≡ callOf changed r state out told → (n : ℕ) (state′ o told′ : List ℕ) → library.Answers c n state′ o told′ → Answered r out n state′ o told′
+answered : (c : Call) (changed : Bool) (r : Ran) (state out told : List ℕ) → c ≡ callOf changed r state out told → (n : ℕ) (state′ o told′ : List ℕ) →
+    library.Answers c n state′ o told′ → Answered r out n state′ o told′
 unfolding toldOf
 answered c changed r state out told e n state′ o told′ a =
     record {
@@ -112,7 +113,10 @@ module _ (k : Accord) (w : ℕ) (b : Start) where
   unfolding receiverOpening
   opened-talk before state n p z = go (ltb (length before) receiverLength) p
     where
-      go : (c : Bool) → library.Opens receiverIn (cond c (record { number = 8; state = before; end = receiverIn before }) (record { number = givenOf (opening k w b .why) .number; state = wordsOfReceiver (opening k w b .receiver) ++ drop receiverLength before; end = opening k w b .receiver })) n state →
+      go : (c : Bool) →
+          library.Opens receiverIn
+          (cond c (record { number = 8; state = before; end = receiverIn before })
+          (record { number = givenOf (opening k w b .why) .number; state = wordsOfReceiver (opening k w b .receiver) ++ drop receiverLength before; end = opening k w b .receiver })) n state →
           ends.Talk k w b [] [] (receiverIn state)
       go true q = absurd (omega (arith, q .number))
       go false q = subst (ends.Talk k w b [] []) (sym (q .reads)) (ends.opens (record { receiver = opening k w b .receiver; why = opening k w b .why }) (opening-opens k w b) (sym (q .number) ∙ z))
@@ -146,7 +150,8 @@ module _ (k : Accord) (w : ℕ) (b : Start) where
 abbrev whyOf : ℕ → Why
 whyOf n = cond (eqb n 0) Done (cond (eqb n 4) BadWord (cond (eqb n 8) NoRoom (cond (eqb n 9) Closed BadWidth)))
 
-sent-by : (s : Sender) (word : ℕ) (out o : List ℤ) → o ≡ sender.sending s word out .output → sends.Sends s word out (record { sender = sender.sending s word out .sender; why = whyOf (sender.sending s word out .number) }) o
+sent-by : (s : Sender) (word : ℕ) (out o : List ℤ) → o ≡ sender.sending s word out .output →
+    sends.Sends s word out (record { sender = sender.sending s word out .sender; why = whyOf (sender.sending s word out .number) }) o
 sent-by s word out o e =
     record {
       number = named (sender.sending s word out) (exactly.outcome s word out);
@@ -169,7 +174,10 @@ module _ (k : Accord) where
   unfolding senderOpening
   opened-sends before state n p z = go (ltb (length before) senderLength) p
     where
-      go : (c : Bool) → library.Opens senderIn (cond c (record { number = 8; state = before; end = senderIn before }) (record { number = sender.opening k .number; state = wordsOfSender (sender.opening k .sender) ++ drop senderLength before; end = sender.opening k .sender })) n state →
+      go : (c : Bool) →
+          library.Opens senderIn
+          (cond c (record { number = 8; state = before; end = senderIn before })
+          (record { number = sender.opening k .number; state = wordsOfSender (sender.opening k .sender) ++ drop senderLength before; end = sender.opening k .sender })) n state →
           run.Talk k [] [] (senderIn state)
       go true q = absurd (omega (arith, q .number))
       go false q = subst (run.Talk k [] []) (sym (q .reads)) (run.opens (record { sender = sender.opening k .sender; why = Done }) (opened-by k (sym (q .number) ∙ z)) refl)
@@ -180,11 +188,13 @@ module _ (k : Accord) where
   sent ws ps state (calls.LibrarySends.takes {ws = vs} {ps = qs} {state = s} h word n out o s′ a z) =
       let g = sender.sending (senderIn s) word out in
       rw (a .reads)
-      (run.takes (sent vs qs s h) word out o (record { sender = g .sender; why = whyOf (g .number) }) (sent-by (senderIn s) word out o (a .out-is)) (sent-by (senderIn s) word out o (a .out-is) .number ∙ sym (a .number) ∙ z))
+      (run.takes (sent vs qs s h) word out o (record { sender = g .sender; why = whyOf (g .number) }) (sent-by (senderIn s) word out o (a .out-is))
+      (sent-by (senderIn s) word out o (a .out-is) .number ∙ sym (a .number) ∙ z))
   sent ws ps state (calls.LibrarySends.refuses {state = s} h word n out o s′ a z) =
       let g = sender.sending (senderIn s) word out in
       rw (a .reads)
-      (run.refuses (sent ws ps s h) word out o (record { sender = g .sender; why = whyOf (g .number) }) (sent-by (senderIn s) word out o (a .out-is)) (λ e. z (a .number ∙ sym (sent-by (senderIn s) word out o (a .out-is) .number) ∙ e)))
+      (run.refuses (sent ws ps s h) word out o (record { sender = g .sender; why = whyOf (g .number) }) (sent-by (senderIn s) word out o (a .out-is))
+      (λ e. z (a .number ∙ sym (sent-by (senderIn s) word out o (a .out-is) .number) ∙ e)))
   sent ws ps state (calls.LibrarySends.copied {state = s} h other e) = subst (run.Talk k ws ps) (sym e) (sent ws ps s h)
 
 -- ---- the demands
@@ -193,14 +203,16 @@ module _ (k : Accord) (w : ℕ) (b : Start) (took : List (Two Received)) (ws : L
   pub exact : (state : List ℕ) → LibraryHears k w b took ws state → (l : List Symbol) → Longest (codeOf k (startOf b)) (reverse took) l → ws ≡ wordsOf k (startOf b) l
   exact state h = demand3.exact k w b took ws (receiverIn state) (talks k w b took ws state h)
 
-  pub final : (state : List ℕ) → LibraryHears k w b took ws state → (zs : List (Two Received)) (p : Path Symbol) → IsAnswer (codeOf k (startOf b)) (reverse (took ++ zs)) p → IsPrefix ws (wordsOf k (startOf b) (symbols p))
+  pub final : (state : List ℕ) → LibraryHears k w b took ws state → (zs : List (Two Received)) (p : Path Symbol) →
+      IsAnswer (codeOf k (startOf b)) (reverse (took ++ zs)) p → IsPrefix ws (wordsOf k (startOf b) (symbols p))
   final state h = demand3.final k w b took ws (receiverIn state) (talks k w b took ws state h)
 
   pub whole : LibraryEnded k w b took ws → (p : Path Symbol) → IsAnswer (codeOf k (startOf b)) (reverse took) p → ws ≡ wordsOf k (startOf b) (symbols p)
   whole e = demand3.whole k w b took ws (ended k w b took ws e)
 
   -- the number, the place in told[2], and the counts of a piece after such a run
-  pub numbers : (state : List ℕ) → LibraryHears k w b took ws state → (piece : List ℤ) (out told : List ℕ) → 3 ≤ length told → (n : ℕ) (state′ o told′ : List ℕ) → library.Answers (hearCall state piece out told) n state′ o told′ →
+  pub numbers : (state : List ℕ) → LibraryHears k w b took ws state → (piece : List ℤ) (out told : List ℕ) → 3 ≤ length told → (n : ℕ) (state′ o told′ : List ℕ) →
+      library.Answers (hearCall state piece out told) n state′ o told′ →
       table.PieceGives (follows.toldOf k w b took) (pieceOf piece) (length out) (taken told′) (written told′) (record { number = n; place = getD told′ 2 0 })
   numbers state h piece out told long n state′ o told′ a =
       let d = heard-by state out told long n state′ o told′ piece a in
@@ -210,5 +222,6 @@ module _ (k : Accord) (w : ℕ) (b : Start) (took : List (Two Received)) (ws : L
       (demand1.hears (follows.toldOf k w b took) (f .fine) (receiverIn state) (f .machine) out (answer r) o (pieceOf piece)
       (doors.hears (receiverIn state) (pieceOf piece) out (answer r) o (is-answer r out n state′ o told′ d)) (givenOf (r .why)) .0 refl)
 
-pub round-trip : (k : Accord) (w : ℕ) (b : Start) → StartsAtZero b → (words : List ℕ) (ps : List ℤ) (state ws : List ℕ) → calls.LibrarySends k words ps state → LibraryEnded k w b (symbolsOf (allOnLine ps)) ws → ws ≡ asHeard (startOf b) words
+pub round-trip : (k : Accord) (w : ℕ) (b : Start) → StartsAtZero b → (words : List ℕ) (ps : List ℤ) (state ws : List ℕ) → calls.LibrarySends k words ps state →
+    LibraryEnded k w b (symbolsOf (allOnLine ps)) ws → ws ≡ asHeard (startOf b) words
 round-trip k w b z words ps state ws s e = demand2.round-trip k w b z words ps (senderIn state) (sent k words ps state s) ws (ended k w b (symbolsOf (allOnLine ps)) ws e)

@@ -31,7 +31,8 @@ module _ (t : Told) (g : GoodStart (t .start)) where
   pub spoken-many : (ys : List (Two Received)) (l : List Symbol) → Is ys l → length (speakerOf t .spoken ys) ≡ length l
   spoken-many ys l h =
       ap (λ (zs : List (Two Received)). length (speakerOf t .spoken zs)) (sym (reverse-reverse ys))
-      ∙ ap length (spoken-longest (t .accord .u) (lineMeasure (t .accord)) (lineChoice (t .accord)) (line-chooses (t .accord)) (t .start) g (reverse ys) l (subst (λ (zs : List (Two Received)). Is zs l) (sym (reverse-reverse ys)) h))
+      ∙ ap length (spoken-longest (t .accord .u) (lineMeasure (t .accord)) (lineChoice (t .accord)) (line-chooses (t .accord)) (t .start) g (reverse ys) l
+      (subst (λ (zs : List (Two Received)). Is zs l) (sym (reverse-reverse ys)) h))
       ∙ speak-length turnAfter (word (t .accord .u)) (firstTurn (t .start)) l
 
   -- 5 and 7 have passed

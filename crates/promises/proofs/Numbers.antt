@@ -44,7 +44,8 @@ pub sender-opening-case : (ac : Accord) → table.SenderOpens ac (sender.opening
 unfolding sender.opening
 sender-opening-case ac = go (isAccord ac) refl
   where
-    go : (b : Bool) → isAccord ac ≡ b → table.SenderOpens ac (cond {A = sender.Given} b (record { number = 0; sender = sender.fresh ac; output = [] }) (record { number = 1; sender = sender.shut; output = [] }) .number)
+    go : (b : Bool) → isAccord ac ≡ b →
+        table.SenderOpens ac (cond {A = sender.Given} b (record { number = 0; sender = sender.fresh ac; output = [] }) (record { number = 1; sender = sender.shut; output = [] }) .number)
     go true e = table.SenderOpens.done e
     go false e = table.SenderOpens.one e
 
@@ -185,7 +186,8 @@ heard-then t ys zs room =
 
 module _ (t : Told) (q : Piece) (room : ℕ) where
   pub piece-case : let d = pieceOwed t q room in table.PieceGives t q room (d .taken) (length (d .words)) (d .reason)
-  piece-case = piece-cases t q room (λ d. table.PieceGives t q room (d .taken) (length (d .words)) (d .reason)) (λ z. walked z (went t (t .heard) (q .symbols) room)) (λ z. table.PieceGives.ten z refl refl)
+  piece-case =
+      piece-cases t q room (λ d. table.PieceGives t q room (d .taken) (length (d .words)) (d .reason)) (λ z. walked z (went t (t .heard) (q .symbols) room)) (λ z. table.PieceGives.ten z refl refl)
     where
       e : Ended (speakerOf t) (judgeOf t)
       e = endedOf t q room
@@ -194,7 +196,8 @@ module _ (t : Told) (q : Piece) (room : ℕ) where
       walked z (all m w k) = subst (table.PieceGives t q room (e .taken) (length (e .said))) (sym w) (table.PieceGives.whole z m k)
       walked z (some y later d w n k) =
           table.PieceGives.stopped z y later d k (e .why) n
-          (subst (table.SymbolGives t (reverse (take (e .taken) (q .symbols)) ++ t .heard) y (room - length (e .said))) (sym (w ∙ ap (λ (l : List (Two Received)). judgeSymbol t l y (room - length (e .said))) (heard-then t (t .heard) (q .symbols) room)))
+          (subst (table.SymbolGives t (reverse (take (e .taken) (q .symbols)) ++ t .heard) y (room - length (e .said)))
+          (sym (w ∙ ap (λ (l : List (Two Received)). judgeSymbol t l y (room - length (e .said))) (heard-then t (t .heard) (q .symbols) room)))
           (said-case t (reverse (take (e .taken) (q .symbols)) ++ t .heard) y (room - length (e .said))))
 
 pub apart : (b : Bool) → b ≡ true → b ≡ false → ⊥

@@ -16,13 +16,15 @@ use Rattle.openings.specs.declared.Start.the-variants.{Free, At}
 use Rattle.openings.specs.Opening.{opening}
 pub use Rattle.cases.proofs.Computed.{closed-row, uneven-row, sample-row, many-row, window-row, room-row, finish-row}
 
-pub sender-reached : (sender.opening (ofWidth 9) .number ≡ 1) × (sender.sending sender.shut 0 [] .number ≡ 9) × (sender.sending (sender.fresh (ofWidth 0)) 8 [] .number ≡ 4) × (sender.sending (sender.fresh (ofWidth 0)) 7 [] .number ≡ 8)
+pub sender-reached : (sender.opening (ofWidth 9) .number ≡ 1) × (sender.sending sender.shut 0 [] .number ≡ 9)
+    × (sender.sending (sender.fresh (ofWidth 0)) 8 [] .number ≡ 4) × (sender.sending (sender.fresh (ofWidth 0)) 7 [] .number ≡ 8)
 unfolding sender.opening sender.sending
 sender-reached = (refl, refl, refl, refl)
 
 abbrev openingRow : Why → ℕ
 openingRow w = givenOf w .number
 
-pub opening-reached : (openingRow (opening (ofWidth 9) 0 (At 16) .why) ≡ 1) × (openingRow (opening (ofWidth 8) 0 (At 16) .why) ≡ 2) × (openingRow (opening (ofWidth 8) 65 Free .why) ≡ 2) × (openingRow (opening (ofWidth 8) 64 (At 16) .why) ≡ 3)
+pub opening-reached : (openingRow (opening (ofWidth 9) 0 (At 16) .why) ≡ 1) × (openingRow (opening (ofWidth 8) 0 (At 16) .why) ≡ 2)
+    × (openingRow (opening (ofWidth 8) 65 Free .why) ≡ 2) × (openingRow (opening (ofWidth 8) 64 (At 16) .why) ≡ 3)
 unfolding opening
 opening-reached = (refl, refl, refl, refl)

@@ -68,15 +68,18 @@ module _ (ac : Accord) (w : ℕ) (b : Start) (f : Fine (toldOf ac w b [])) (y : 
   taken-first : (room : ℕ) → judgeSymbol t [] y room ≡ reason 0
   taken-first room =
       said-is t [] y room (reason 0)
-      (table.SymbolGives.taken good (omega arith) (omega (arith, said-nothing, f .some-window)) (omega (arith, said-nothing, length-drop (length (speakerOf t .spoken [])) (speakerOf t .spoken (y ∷ [])))))
+      (table.SymbolGives.taken good (omega arith) (omega (arith, said-nothing, f .some-window))
+      (omega (arith, said-nothing, length-drop (length (speakerOf t .spoken [])) (speakerOf t .spoken (y ∷ [])))))
 
   pub first-taken : (out : List ℕ) (r : Answer) (o : List ℕ) → Hears (machineOf t) (pieceOf (fourOf y)) out r o → (r .taken ≡ 1) × (givenOf (r .why) ≡ reason 0)
   first-taken out r o h = go (r .taken) (givenOf (r .why)) (hears t f (machineOf t) refl out r o (pieceOf (fourOf y)) h (givenOf (r .why)) .0 refl)
     where
       -- the one symbol would have to be refused
-      never : (m : ℕ) (z : Two Received) (later : List (Two Received)) (g : Reason) → drop m (y ∷ []) ≡ z ∷ later → table.SymbolGives t (reverse (take m (y ∷ [])) ++ []) z (length out - r .written) g → g .number ≡ 0
+      never : (m : ℕ) (z : Two Received) (later : List (Two Received)) (g : Reason) → drop m (y ∷ []) ≡ z ∷ later →
+          table.SymbolGives t (reverse (take m (y ∷ [])) ++ []) z (length out - r .written) g → g .number ≡ 0
       never zero z later g d s =
-          ap (λ (x : Reason). x .number) (sym (said-is t [] z (length out - r .written) g s) ∙ ap (λ (x : Two Received). judgeSymbol t [] x (length out - r .written)) (let e : z ≡ y = cc in e) ∙ taken-first (length out - r .written))
+          ap (λ (x : Reason). x .number) (sym (said-is t [] z (length out - r .written) g s)
+          ∙ ap (λ (x : Two Received). judgeSymbol t [] x (length out - r .written)) (let e : z ≡ y = cc in e) ∙ taken-first (length out - r .written))
       never (suc m) z later g d s = absurd (omega (arith, ap length d, length-drop (suc m) (y ∷ [])))
 
       go : (m : ℕ) (g : Reason) → table.PieceGives t (pieceOf (fourOf y)) (length out) m (r .written) g → (m ≡ 1) × (g ≡ reason 0)
@@ -126,7 +129,8 @@ module _ (t : Told) where
   unfolding walk
   heard-many [] ys room = omega arith
   heard-many (z ∷ zs) ys room =
-      go (judgeSymbol t ys z room) (eqb (judgeSymbol t ys z room .number) 0) (walk (speakerOf t) (judgeOf t) (z ∷ ys) zs (room - length (fresh (speakerOf t) ys z))) (heard-many zs (z ∷ ys) (room - length (fresh (speakerOf t) ys z)))
+      go (judgeSymbol t ys z room) (eqb (judgeSymbol t ys z room .number) 0) (walk (speakerOf t) (judgeOf t) (z ∷ ys) zs (room - length (fresh (speakerOf t) ys z)))
+      (heard-many zs (z ∷ ys) (room - length (fresh (speakerOf t) ys z)))
     where
       go : (j : Reason) (b : Bool) (e : WalkEnded (speakerOf t) (judgeOf t)) → length (e .heard) ≡ length (z ∷ ys) + e .taken →
           length (after (speakerOf t) (judgeOf t) ys z j b e .heard) ≡ length ys + after (speakerOf t) (judgeOf t) ys z j b e .taken

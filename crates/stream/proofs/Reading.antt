@@ -28,7 +28,8 @@ over-is (negsuc n) e = ne-eqb (ofZ w64 (negsuc n)) 0 (λ h. let z : pos 0 ≡ ne
 
 -- what the machine makes of a read that answered z
 pub took-is : (lab : Lab) (z : ℤ) (most : ℕ) {n : ℕ} → SFits w64 z → n ≡ clamped (toZ w64 (ofZ w64 z)) most
-    → _≡_ {A = Turn} (record { lab = record { desk = lab .desk; part = lab .part; at = lab .at; on = leZ (pos 0) (toZ w64 (ofZ w64 z)) }; from = 0; to = n; ends = eqb (ofZ w64 z) 0 }) (took lab z most)
+    → _≡_ {A = Turn} (record { lab = record { desk = lab .desk; part = lab .part; at = lab .at; on = leZ (pos 0) (toZ w64 (ofZ w64 z)) }; from = 0; to = n; ends = eqb (ofZ w64 z) 0 })
+    (took lab z most)
 took-is lab z most f e =
     let on : leZ (pos 0) (toZ w64 (ofZ w64 z)) ≡ fine z = ap (leZ (pos 0)) (toZ-ofZ f) ∙ fine-is z in
     let ends : eqb (ofZ w64 z) 0 ≡ over z = over-is z (toZ-ofZ f) in

@@ -44,7 +44,8 @@ run most c (d ∷ ds) = by (eqb d 10) refl (λ c'. run most c' ds) where
 newline : (ds : List ℕ) → lengthBefore 10 ds < length ds → take (suc (lengthBefore 10 ds)) ds ≡ take (lengthBefore 10 ds) ds ++ 10 ∷ []
 newline [] h = absurd (omega arith)
 newline (d ∷ ds) h = by (eqb d 10) refl h (λ k. newline ds k) where
-  by : (b : Bool) → eqb d 10 ≡ b → cond b 0 (suc (lengthBefore 10 ds)) < length (d ∷ ds) → (lengthBefore 10 ds < length ds → take (suc (lengthBefore 10 ds)) ds ≡ take (lengthBefore 10 ds) ds ++ 10 ∷ [])
+  by : (b : Bool) → eqb d 10 ≡ b → cond b 0 (suc (lengthBefore 10 ds)) < length (d ∷ ds) →
+      (lengthBefore 10 ds < length ds → take (suc (lengthBefore 10 ds)) ds ≡ take (lengthBefore 10 ds) ds ++ 10 ∷ [])
       → take (suc (cond b 0 (suc (lengthBefore 10 ds)))) (d ∷ ds) ≡ take (cond b 0 (suc (lengthBefore 10 ds))) (d ∷ ds) ++ 10 ∷ []
   by true e k f = ap (λ (x : ℕ). x ∷ []) (eqb-true d 10 e)
   by false e k f = ap (λ (l : List ℕ). d ∷ l) (f (omega arith))
@@ -66,7 +67,8 @@ module _ (most : ℕ) (c : Course) (chunk : List ℕ) (from n : ℕ) (cut : Cuts
       ∙ sym (cut-anywhere most c (take from chunk) (take n (drop from chunk)))
       ∙ ap (streaming most c) (sym (take-add from n chunk))
 
-  pub to-the-newline : {room : ℕ} → room ≡ most → from + n < length chunk → ended room (grown (streaming most c (take from chunk)) (take (from + n - from) (drop from chunk))) ≡ streaming most c (take (from + n + 1) chunk)
+  pub to-the-newline : {room : ℕ} → room ≡ most → from + n < length chunk →
+      ended room (grown (streaming most c (take from chunk)) (take (from + n - from) (drop from chunk))) ≡ streaming most c (take (from + n + 1) chunk)
   to-the-newline same h =
       let ds : List ℕ = drop from chunk in
       let some : lengthBefore 10 ds < length ds = omega (arith, is, length-drop from chunk) in
@@ -110,7 +112,8 @@ module _ {c : Course} {before line : List ℕ} {lab : Lab} {page : List ℕ} (z 
   pub after-flush : {r : Lab} → r .desk ≡ lab .desk → r .part ≡ lab .part → r .at ≡ lab .at → Stands c before line r page
   after-flush d e f = record { holds = holds-as d e (z .holds); text = z .text ∙ ap (λ (n : ℕ). before ++ take n page) (sym f) }
 
-  pub after-reply : (most : ℕ) {r : Lab} {page' : List ℕ} (line' : List ℕ) → lab .at ≤ length page → Replies (answering most (lab .desk) (c .line)) lab page r page' → Stands (ended most c) before line' r page'
+  pub after-reply : (most : ℕ) {r : Lab} {page' : List ℕ} (line' : List ℕ) → lab .at ≤ length page → Replies (answering most (lab .desk) (c .line)) lab page r page' →
+      Stands (ended most c) before line' r page'
   after-reply most {r} {page'} line' h p =
       let g : Result = answering most (c .desk) (c .line) in
       let same : answering most (lab .desk) (c .line) ≡ g = ap (λ (d : Desk). answering most d (c .line)) (z .holds .desk) in
@@ -192,7 +195,8 @@ no-last most c {line} g e f =
     let none : length (c .line) ≡ 0 = ap length (sym (g .kept f)) ∙ ap (λ (n : ℕ). length (take n line)) e in
     sym (ap (λ (b : Bool). cond b c (ended most c)) (eq-eqb (length (c .line)) 0 none))
 
-pub some-last : (most : ℕ) (c : Course) {line : List ℕ} {part : Part} → Gathered line part (c .line) → part .held ≤ length line → (part .held ≡ 0 → part .long ≡ false → ⊥) → ended most c ≡ lastLine most c
+pub some-last : (most : ℕ) (c : Course) {line : List ℕ} {part : Part} → Gathered line part (c .line) → part .held ≤ length line →
+    (part .held ≡ 0 → part .long ≡ false → ⊥) → ended most c ≡ lastLine most c
 some-last most c {line} {part} g h some = sym (ap (λ (b : Bool). cond b c (ended most c)) (ne-eqb (length (c .line)) 0 (by (part .long) refl))) where
   by : (b : Bool) → part .long ≡ b → length (c .line) ≡ 0 → ⊥
   by true e z = omega (arith, g .too-long e)

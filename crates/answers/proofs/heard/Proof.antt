@@ -17,7 +17,13 @@ said-requires : tie.Need-said-requires
 said-requires c κs = omega (arith, counts-near _ _ (c .before .before .before .before .before .before .before .counts .ensures), reason-near _ (c .before .before .before .reason .ensures))
 
 end-requires : tie.Need-end-requires
-end-requires c κs = omega (arith, counts-near _ _ (c .before .before .before .before .before .before .before .before .before .before .before .counts .ensures), reason-near _ (c .before .before .before .before .before .before .before .reason .ensures), said-near _ (c .before .before .before .said .ensures))
+end-requires c κs =
+    omega (
+      arith,
+      counts-near _ _ (c .before .before .before .before .before .before .before .before .before .before .before .counts .ensures),
+      reason-near _ (c .before .before .before .before .before .before .before .reason .ensures),
+      said-near _ (c .before .before .before .said .ensures),
+    )
 
 same-length : tie.Need-same-length
 same-length c = search needs
@@ -25,10 +31,13 @@ same-length c = search needs
 returns : tie.Need-returns
 unfolding heardLine
 returns c =
-    let counted = counts-near _ _ (c .before .before .before .before .before .before .before .before .before .before .before .before .before .before .counts .ensures) in
-    let reasoned = reason-near _ (c .before .before .before .before .before .before .before .before .before .before .reason .ensures) in
-    let told = said-near _ (c .before .before .before .before .before .before .said .ensures) in
-    joined (omega arith) (joined (omega arith) (joined (omega arith) (c .before .before .before .before .before .before .before .before .before .before .before .before .before .before .counts .ensures) (c .before .before .before .before .before .before .before .before .before .before .reason .ensures)) (c .before .before .before .before .before .before .said .ensures)) (c .before .before .end .ensures)
+    let at-said = c .before .before .before .before .before .before in
+    let at-reason = at-said .before .before .before .before in
+    let at-counts = at-reason .before .before .before .before in
+    let counted = counts-near _ _ (at-counts .counts .ensures) in
+    let reasoned = reason-near _ (at-reason .reason .ensures) in
+    let told = said-near _ (at-said .said .ensures) in
+    joined (omega arith) (joined (omega arith) (joined (omega arith) (at-counts .counts .ensures) (at-reason .reason .ensures)) (at-said .said .ensures)) (c .before .before .end .ensures)
 
 pub heard-spec : {M : Type 1} → statement M
 heard-spec =

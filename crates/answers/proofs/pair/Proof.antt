@@ -20,8 +20,11 @@ same-length c = search needs
 
 returns : tie.Need-returns
 returns c =
-    let near = next-near _ (c .before .before .before .before .before .before .next-whole .ensures) in
-    joined (omega arith) (joined (omega arith) (says-whole _ (c .before .before .before .before .before .before .before .before .before .before .before .before .before .fits .x) (c .before .before .before .before .before .before .before .before .before .before .put-whole .ensures)) (says-next _ (c .before .before .before .before .before .before .before .before .before .before .before .before .before .fits .y) (c .before .before .before .before .before .before .next-whole .ensures))) (c .before .before .end .ensures)
+    let at-next-whole = c .before .before .before .before .before .before in
+    let start = at-next-whole .before .before .before .before .before .before .before in
+    let near = next-near _ (at-next-whole .next-whole .ensures) in
+    joined (omega arith) (joined (omega arith) (says-whole _ (start .fits .x) (at-next-whole .before .before .before .before .put-whole .ensures))
+    (says-next _ (start .fits .y) (at-next-whole .next-whole .ensures))) (c .before .before .end .ensures)
 
 pub pair-spec : {M : Type 1} → statement M
 pair-spec =

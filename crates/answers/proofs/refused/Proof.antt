@@ -21,7 +21,8 @@ same-length c = search needs
 returns : tie.Need-returns
 returns c =
     let short = decimal-short (c .before .before .before .before .before .before .before .before .before .before .before .before .before .args .k) in
-    joined (omega arith) (joined (omega arith) (c .before .before .before .before .before .before .before .before .before .before .put-byte .ensures) (c .before .before .before .before .before .before .place .ensures)) (c .before .before .end .ensures)
+    joined (omega arith) (joined (omega arith) (c .before .before .before .before .before .before .before .before .before .before .put-byte .ensures)
+    (c .before .before .before .before .before .before .place .ensures)) (c .before .before .end .ensures)
 
 pub refused-spec : {M : Type 1} → statement M
 refused-spec =

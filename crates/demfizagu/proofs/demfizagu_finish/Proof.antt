@@ -33,7 +33,8 @@ returns-2 c =
     let l = f .before .before in
     let e = l .before .before in
     let a = e .before .before .before .before .args in
-    finish-kept (now (a .state)) (now (a .out)) (now (a .told)) (e .if1 .left) _ _ _ _ (rw (l .load-receiver .ensures) at (f .finish .ensures)) (g .answer .ensures .0) (g .answer .ensures .1) (c .if2 .taken)
+    finish-kept (now (a .state)) (now (a .out)) (now (a .told)) (e .if1 .left) _ _ _ _ (rw (l .load-receiver .ensures) at (f .finish .ensures)) (g .answer .ensures .0)
+    (g .answer .ensures .1) (c .if2 .taken)
 
 store-receiver-requires : tie.Need-store-receiver-requires
 store-receiver-requires c κs =
@@ -42,7 +43,8 @@ store-receiver-requires c κs =
     let l = f .before .before in
     let e = l .before .before in
     let a = e .before .before .before .before .args in
-    finish-long (now (a .state)) (now (a .out)) (now (a .told)) (e .if1 .left) _ _ _ _ (rw (l .load-receiver .ensures) at (f .finish .ensures)) (g .answer .ensures .0) (g .answer .ensures .1) (c .before .before .if2 .left)
+    finish-long (now (a .state)) (now (a .out)) (now (a .told)) (e .if1 .left) _ _ _ _ (rw (l .load-receiver .ensures) at (f .finish .ensures)) (g .answer .ensures .0)
+    (g .answer .ensures .1) (c .before .before .if2 .left)
 
 same-length-4 : tie.Need-same-length-4
 same-length-4 c = search needs
@@ -60,7 +62,8 @@ returns-3 c =
     let l = f .before .before in
     let e = l .before .before in
     let a = e .before .before .before .before .args in
-    finish-written (now (a .state)) (now (a .out)) (now (a .told)) (e .if1 .left) _ _ _ _ (rw (l .load-receiver .ensures) at (f .finish .ensures)) (g .answer .ensures .0) (g .answer .ensures .1) _ (c .before .before .before .before .before .if2 .left) (c .before .before .store-receiver .ensures)
+    finish-written (now (a .state)) (now (a .out)) (now (a .told)) (e .if1 .left) _ _ _ _ (rw (l .load-receiver .ensures) at (f .finish .ensures)) (g .answer .ensures .0)
+    (g .answer .ensures .1) _ (c .before .before .before .before .before .if2 .left) (c .before .before .store-receiver .ensures)
 
 pub demfizagu-finish-spec : {M : Type 1} → statement M
 demfizagu-finish-spec =

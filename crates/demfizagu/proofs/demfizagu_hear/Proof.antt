@@ -40,9 +40,19 @@ same-length c = search needs
 same-length-2 : tie.Need-same-length-2
 same-length-2 c = search needs
 
+-- the way back, from a place in the code to one that comes before it
+abbrev to-start : tie.After-holds-receiver → tie.Start
+to-start c = c .before .before .before .before .before .before
+
+abbrev to-load-front : tie.After-hear-lent → tie.After-load-front
+to-load-front c = c .before .before .before .before .before .before .before .before
+
+abbrev to-hear-lent : tie.After-answer2 → tie.After-hear-lent
+to-hear-lent c = c .before .before .before .before .before .before
+
 returns-2 : tie.Need-returns-2
 returns-2 c =
-    let a = c .before .before .before .before .before .before .before .before .before .before .before .args in
+    let a = to-start (c .before .before .before .before .before) .args in
     let g = c .before .before .answer .ensures in
     let none = sym (c .before .before .before .before .before .holds-receiver .ensures) ∙ not-true _ (c .before .before .before .before .if2 .taken) in
     hear-none (now (a .state)) (now (a .piece)) (now (a .out)) (now (a .told)) none (c .before .before .before .before .before .before .before .if1 .left) _ _ (g .0) (g .1)
@@ -76,17 +86,19 @@ same-length-5 c = search needs
 
 returns-3 : tie.Need-returns-3
 returns-3 c =
-    let d = c .before .before .before .before .before .before .before .before .before .before in
-    let e = d .before .before .before .before .before .before .before .before .before .before in
-    let f = d .before .before .before .before .before .before .before .before in
-    let a = e .before .before .before .before .before .before .before .args in
-    lent-kept (now (a .state)) (now (a .piece)) (now (a .out)) (now (a .told)) (yes e) (f .load-front .result) (f .load-front .ensures) (d .hear-lent .result) _ _ _ _ (d .hear-lent .ensures) (e .before .before .before .if1 .left) _ _ (c .before .before .before .before .answer2 .ensures .0) (c .before .before .before .before .answer2 .ensures .1) (c .if3 .taken)
+    let at-answer2 = c .before .before .before .before in
+    let d = to-hear-lent at-answer2 in
+    let e = to-load-front d .before .before in
+    let f = to-load-front d in
+    let a = to-start (e .before) .args in
+    lent-kept (now (a .state)) (now (a .piece)) (now (a .out)) (now (a .told)) (yes e) (f .load-front .result) (f .load-front .ensures) (d .hear-lent .result) _ _ _ _
+    (d .hear-lent .ensures) (e .before .before .before .if1 .left) _ _ (at-answer2 .answer2 .ensures .0) (at-answer2 .answer2 .ensures .1) (c .if3 .taken)
 
 store-front-requires : tie.Need-store-front-requires
 store-front-requires c κs =
-    let d = c .before .before .before .before .before .before .before .before .before .before .before .before in
-    let e = d .before .before .before .before .before .before .before .before .before .before in
-    let a = e .before .before .before .before .before .before .before .args in
+    let d = to-hear-lent (c .before .before .before .before .before .before) in
+    let e = to-load-front d .before .before in
+    let a = to-start (e .before) .args in
     around-long (now (a .state)) (now (a .piece)) (now (a .out)) (now (a .told)) (yes e) (picks d)
 
 same-length-6 : tie.Need-same-length-6
@@ -100,11 +112,14 @@ same-length-8 c = search needs
 
 returns-4 : tie.Need-returns-4
 returns-4 c =
-    let d = c .before .before .before .before .before .before .before .before .before .before .before .before .before .before .before in
-    let e = d .before .before .before .before .before .before .before .before .before .before in
-    let f = d .before .before .before .before .before .before .before .before in
-    let a = e .before .before .before .before .before .before .before .args in
-    lent-written (now (a .state)) (now (a .piece)) (now (a .out)) (now (a .told)) (yes e) (f .load-front .result) (f .load-front .ensures) (d .hear-lent .result) _ _ _ _ (d .hear-lent .ensures) (e .before .before .before .if1 .left) _ _ (c .before .before .before .before .before .before .before .before .before .answer2 .ensures .0) (c .before .before .before .before .before .before .before .before .before .answer2 .ensures .1) _ (sized d) (c .before .before .before .before .before .if3 .left) (c .before .before .store-front .ensures)
+    let at-answer2 = c .before .before .before .before .before .before .before .before .before in
+    let d = to-hear-lent at-answer2 in
+    let e = to-load-front d .before .before in
+    let f = to-load-front d in
+    let a = to-start (e .before) .args in
+    lent-written (now (a .state)) (now (a .piece)) (now (a .out)) (now (a .told)) (yes e) (f .load-front .result) (f .load-front .ensures) (d .hear-lent .result) _ _ _ _
+    (d .hear-lent .ensures) (e .before .before .before .if1 .left) _ _ (at-answer2 .answer2 .ensures .0) (at-answer2 .answer2 .ensures .1) _ (sized d)
+    (c .before .before .before .before .before .if3 .left) (c .before .before .store-front .ensures)
 
 pub demfizagu-hear-spec : {M : Type 1} → statement M
 demfizagu-hear-spec =

@@ -24,11 +24,19 @@ is-open-requires-2 c κs = search needs
 
 returns-2 : tie.Need-returns-2
 unfolding openIn
-returns-2 c = rw (sym (rw (c .before .before .before .before .before .load-receiver .ensures) at (c .before .before .before .before .is-open .ensures)) ∙ c .before .before .before .if1 .left, sym (rw (c .before .before .load-sender .ensures) at (c .before .is-open2 .ensures)) ∙ c .if2 .taken)
+returns-2 c =
+    rw (
+      sym (rw (c .before .before .before .before .before .load-receiver .ensures) at (c .before .before .before .before .is-open .ensures)) ∙ c .before .before .before .if1 .left,
+      sym (rw (c .before .before .load-sender .ensures) at (c .before .is-open2 .ensures)) ∙ c .if2 .taken,
+    )
 
 returns-3 : tie.Need-returns-3
 unfolding openIn
-returns-3 c = rw (sym (rw (c .before .before .before .before .before .load-receiver .ensures) at (c .before .before .before .before .is-open .ensures)) ∙ c .before .before .before .if1 .left, sym (rw (c .before .before .load-sender .ensures) at (c .before .is-open2 .ensures)) ∙ c .if2 .left)
+returns-3 c =
+    rw (
+      sym (rw (c .before .before .before .before .before .load-receiver .ensures) at (c .before .before .before .before .is-open .ensures)) ∙ c .before .before .before .if1 .left,
+      sym (rw (c .before .before .load-sender .ensures) at (c .before .is-open2 .ensures)) ∙ c .if2 .left,
+    )
 
 pub demfizagu-is-open-spec : {M : Type 1} → statement M
 demfizagu-is-open-spec =

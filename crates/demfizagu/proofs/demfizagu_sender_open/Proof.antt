@@ -22,7 +22,10 @@ same-length : tie.Need-same-length
 same-length c = search needs
 
 returns-2 : tie.Need-returns-2
-returns-2 c = let s = c .before .before .before .before .before .before .before .before .before in sender-opened (now (s .args .state)) _ (ofWidth (s .args .u)) _ _ (c .before .before .before .before .before .before .before .if1 .left) (c .before .before .before .before .before .before .open-sender .ensures) (c .number .ensures) (c .before .before .before .store-sender .ensures)
+returns-2 c =
+    let s = c .before .before .before .before .before .before .before .before .before in
+    sender-opened (now (s .args .state)) _ (ofWidth (s .args .u)) _ _ (c .before .before .before .before .before .before .before .if1 .left)
+    (c .before .before .before .before .before .before .open-sender .ensures) (c .number .ensures) (c .before .before .before .store-sender .ensures)
 
 pub demfizagu-sender-open-spec : {M : Type 1} → statement M
 demfizagu-sender-open-spec =

@@ -18,7 +18,9 @@ same-length : tie.Need-same-length
 same-length c = search needs
 
 returns-2 : tie.Need-returns-2
-returns-2 c k w b e = receiver-opened (now (c .before .before .before .before .before .before .before .before .args .state)) _ k w b _ _ (c .before .before .before .before .before .before .if1 .left) e (c .number .ensures) (c .before .before .before .store-receiver .ensures)
+returns-2 c k w b e =
+    receiver-opened (now (c .before .before .before .before .before .before .before .before .args .state)) _ k w b _ _
+    (c .before .before .before .before .before .before .if1 .left) e (c .number .ensures) (c .before .before .before .store-receiver .ensures)
 
 pub opened-spec : {M : Type 1} → statement M
 opened-spec = tie.close (tie.spec returns store-receiver-requires number-requires same-length returns-2)

@@ -27,7 +27,9 @@ enum-known-asked-2 : tie.Need-enum-known-asked-2
 enum-known-asked-2 c = search needs
 
 send-requires : tie.Need-send-requires
-send-requires c κs = (omega (arith, sizes-of _ (c .before .before .before .asked2 .given .1) (c .before .before .before .before .before .before .before .pre .fit), c .before .before .before .before .before .before .before .pre .coordinates-long), c .before .before .before .before .before .before .before .pre .room)
+send-requires c κs =
+    let start = c .before .before .before .before .before .before .before in
+    (omega (arith, sizes-of _ (c .before .before .before .asked2 .given .1) (start .pre .fit), start .pre .coordinates-long), start .pre .room)
 
 enum-known-asked-3 : tie.Need-enum-known-asked-3
 enum-known-asked-3 c = search needs

@@ -6,13 +6,17 @@ use Rattle.lines.proofs.gather.Statement.{statement}
 use Rattle.lines.proofs.gather.Tie as tie
 
 returns : tie.Need-returns
-returns c = (c .before .before .before .pre, λ s g. stays-long (c .before .before .before .args .bytes .now) g (c .if1 .taken))
+returns c =
+    let start = c .before .before .before in
+    (start .pre, λ s g. stays-long (start .args .bytes .now) g (c .if1 .taken))
 
 sub-if2 : tie.Need-sub-if2
 sub-if2 c = search needs
 
 returns-2 : tie.Need-returns-2
-returns-2 c = (omega arith, λ s g. grows-long (c .before .before .before .before .args .bytes .now) g (c .before .if1 .left) (c .before .before .before .before .pre) (c .if2 .taken))
+returns-2 c =
+    let start = c .before .before .before .before in
+    (omega arith, λ s g. grows-long (start .args .bytes .now) g (c .before .if1 .left) (start .pre) (c .if2 .taken))
 
 put-text-requires : tie.Need-put-text-requires
 put-text-requires c κs = search needs
@@ -21,7 +25,9 @@ same-length : tie.Need-same-length
 same-length c = search needs
 
 returns-3 : tie.Need-returns-3
-returns-3 c = (search needs, λ s g. grows (c .before .before .before .before .before .before .before .before .args .bytes .now) g (c .before .before .before .before .before .if1 .left) (c .before .before .before .before .before .before .before .before .pre) (c .before .before .put-text .ensures))
+returns-3 c =
+    let start = c .before .before .before .before .before .before .before .before in
+    (search needs, λ s g. grows (start .args .bytes .now) g (c .before .before .before .before .before .if1 .left) (start .pre) (c .before .before .put-text .ensures))
 
 pub gather-spec : {M : Type 1} → statement M
 gather-spec =

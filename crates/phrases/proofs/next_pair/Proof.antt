@@ -17,9 +17,10 @@ same-length c = search needs
 
 returns : tie.Need-returns
 returns c =
-    let near = next-near _ (c .before .before .before .before .before .before .next-whole .ensures) in
-    let fits = c .before .before .before .before .before .before .before .before .before .fits in
-    joined (omega arith) (says-next _ (fits .x) (c .before .before .before .before .before .before .next-whole .ensures)) (says-next _ (fits .y) (c .before .before .next-whole2 .ensures))
+    let at-next-whole = c .before .before .before .before .before .before in
+    let near = next-near _ (at-next-whole .next-whole .ensures) in
+    let fits = at-next-whole .before .before .before .fits in
+    joined (omega arith) (says-next _ (fits .x) (at-next-whole .next-whole .ensures)) (says-next _ (fits .y) (c .before .before .next-whole2 .ensures))
 
 pub next-pair-spec : {M : Type 1} → statement M
 next-pair-spec = tie.close (tie.spec next-whole-requires next-whole-requires-2 same-length returns)

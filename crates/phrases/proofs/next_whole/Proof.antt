@@ -16,7 +16,9 @@ same-length : tie.Need-same-length
 same-length c = search needs
 
 returns : tie.Need-returns
-returns c = joined (omega arith) (c .before .before .before .before .before .before .put-byte .ensures) (says-whole _ (c .before .before .before .before .before .before .before .before .before .fits .x) (c .before .before .put-whole .ensures))
+returns c =
+    joined (omega arith) (c .before .before .before .before .before .before .put-byte .ensures)
+    (says-whole _ (c .before .before .before .before .before .before .before .before .before .fits .x) (c .before .before .put-whole .ensures))
 
 pub next-whole-spec : {M : Type 1} → statement M
 next-whole-spec = tie.close (tie.spec put-byte-requires put-whole-requires same-length returns)

@@ -35,7 +35,8 @@ same-length-2 c = search needs
 
 returns-2 : tie.Need-returns-2
 returns-2 c =
-    puts-as (with-place _ _ (c .before .before .before .before .before .before .before .before .before .before .number .ensures) _ (c .before .before .before .before .before .if1 .left) (c .before .before .before .place .ensures))
+    puts-as (with-place _ _ (c .before .before .before .before .before .before .before .before .before .before .number .ensures) _
+    (c .before .before .before .before .before .if1 .left) (c .before .before .before .place .ensures))
     (joined (omega arith) (says-number (c .before .before .before .before .before .before .before .before .put-number .ensures)) (c .before .before .place2 .ensures))
 
 pub reason-spec : {M : Type 1} → statement M

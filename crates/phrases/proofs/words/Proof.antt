@@ -50,7 +50,9 @@ loop-again c = (
   omega arith,
   search needs,
   puts-as (one-word _ _ (c .before .before .before .before .before .before .before .before .before .before .loop-test .taken))
-      (joined (omega arith) (joined (omega arith) (c .before .before .before .before .before .before .before .before .before .before .before .loop .inv .3) (c .before .before .before .before .before .before .before .before .put-byte .ensures)) (puts-as (ap decimal (c .before .before .before .wide .ensures)) (says-number (c .before .before .put-number .ensures)))),
+      (joined (omega arith) (joined (omega arith) (c .before .before .before .before .before .before .before .before .before .before .before .loop .inv .3)
+      (c .before .before .before .before .before .before .before .before .put-byte .ensures)) (puts-as (ap decimal (c .before .before .before .wide .ensures))
+      (says-number (c .before .before .put-number .ensures)))),
 )
 
 same-length : tie.Need-same-length Inv-loop μ-loop

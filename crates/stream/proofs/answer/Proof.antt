@@ -26,15 +26,27 @@ same-length-3 c = search needs
 same-length-4 : tie.Need-same-length-4
 same-length-4 c = search needs
 
+-- the way back, from a place in the code to one that comes before it
+abbrev to-start : tie.After-hear-chunk → tie.Start
+to-start c = c .before .before .before .before .before .before .before .before .before .before .before .before
+
+abbrev to-hear-end : tie.After-flush → tie.After-hear-end
+to-hear-end c = c .before .before .before .before .before .before .before
+
+abbrev to-hear-chunk : tie.After-struct-known → tie.After-hear-chunk
+to-hear-chunk c = c .before .before .before .before .before .before .before .before .before
+
 returns : tie.Need-returns
 returns c =
-    let start = c .before .before .before .before .before .before .before .before .before .before .before .before .before .before .before .before .before .before in
-    let heard = c .before .before .before .before .before .before .before .hear-end .ensures in
-    let ends = c .before .before .before .before .before .before .before .before .before .before .before .before .if1 .taken in (
+    let at-hear-end = to-hear-end c in
+    let start = at-hear-end .before .before .before .before .before .before .before .before .before .before .before in
+    let heard = at-hear-end .hear-end .ensures in
+    let ends = at-hear-end .before .before .before .before .before .if1 .taken in (
       (start .pre .1 .0, refl, sym ends, omega (arith, ap (λ (p : Part). p .held) (c .flush .ensures .1), heard .0 .1)),
       (
         λ e h. clash (start .args .last .ends) ends e,
-        λ k h. stands-as (the-end _ k (start .args .last) (start .args .chunk .now) _ ends) (after-flush (heard .1 k (k .text) (begun _ h)) (c .flush .ensures .0) (c .flush .ensures .1) (c .flush .ensures .2)),
+        λ k h. stands-as (the-end _ k (start .args .last) (start .args .chunk .now) _ ends)
+            (after-flush (heard .1 k (k .text) (begun _ h)) (c .flush .ensures .0) (c .flush .ensures .1) (c .flush .ensures .2)),
       ),
     )
 
@@ -52,11 +64,20 @@ hear-chunk-requires c κs = search needs
 
 add-till : tie.Need-add-till
 add-till c =
-    let start = c .before .before .before .before .before .before .before .before .before .before .before .before .before .before .before .before .before .before .before .before .before in
-    omega (arith, c .before .before .before .before .before .before .before .before .before .hear-chunk .ensures .1 .0 .0, lent-part (start .args .last) (start .args .chunk .now) (start .pre .1 .0) (start .pre .1 .1), start .pre .1 .0, start .pre .1 .1, start .good)
+    let start = to-start (to-hear-chunk c) in
+    omega (
+      arith,
+      to-hear-chunk c .hear-chunk .ensures .1 .0 .0,
+      lent-part (start .args .last) (start .args .chunk .now) (start .pre .1 .0) (start .pre .1 .1),
+      start .pre .1 .0,
+      start .pre .1 .1,
+      start .good,
+    )
 
 flush-requires-2 : tie.Need-flush-requires-2
-flush-requires-2 c κs = omega (arith, c .before .before .before .before .before .before .before .before .before .before .hear-chunk .ensures .0 .0, c .before .before .before .before .before .before .before .before .before .before .hear-chunk .kept .1 .1 .1 .0, c .before .before .before .before .before .before .before .before .before .before .before .before .before .before .before .before .before .before .before .before .before .before .pre .0 .page-long)
+flush-requires-2 c κs =
+    let at-hear-chunk = to-hear-chunk (c .before) in
+    omega (arith, at-hear-chunk .hear-chunk .ensures .0 .0, at-hear-chunk .hear-chunk .kept .1 .1 .1 .0, to-start at-hear-chunk .pre .0 .page-long)
 
 same-length-5 : tie.Need-same-length-5
 same-length-5 c = search needs
@@ -72,14 +93,16 @@ same-length-8 c = search needs
 
 returns-2 : tie.Need-returns-2
 returns-2 c =
-    let start = c .before .before .before .before .before .before .before .before .before .before .before .before .before .before .before .before .before .before .before .before .before .before .before in
-    let heard = c .before .before .before .before .before .before .before .before .before .before .before .hear-chunk .ensures in
-    let ends = c .before .before .before .before .before .before .before .before .before .before .before .before .before .before .before .before .before .if1 .left in
+    let at-hear-chunk = to-hear-chunk (c .before .before) in
+    let start = to-start at-hear-chunk in
+    let heard = at-hear-chunk .hear-chunk .ensures in
+    let ends = at-hear-chunk .before .before .before .before .before .before .if1 .left in
     let long = lent-part (start .args .last) (start .args .chunk .now) (start .pre .1 .0) (start .pre .1 .1) in (
       (omega (arith, heard .1 .0 .0, long, start .pre .1 .0), refl, sym ends, omega (arith, ap (λ (p : Part). p .held) (c .flush2 .ensures .1), heard .0 .1)),
       (
         λ e h. omega (arith, heard .1 .0 .1 (omega (arith, long, h))),
-        λ k h. stands-as (some-bytes _ k (start .args .last) (start .args .chunk .now) (omega (arith, heard .1 .0 .0, long)) ends) (after-flush (heard .1 .1 k (k .text) (begun _ h)) (c .flush2 .ensures .0) (c .flush2 .ensures .1) (c .flush2 .ensures .2)),
+        λ k h. stands-as (some-bytes _ k (start .args .last) (start .args .chunk .now) (omega (arith, heard .1 .0 .0, long)) ends)
+            (after-flush (heard .1 .1 k (k .text) (begun _ h)) (c .flush2 .ensures .0) (c .flush2 .ensures .1) (c .flush2 .ensures .2)),
       ),
     )
 

@@ -1,5 +1,5 @@
 -- `hear_chunk`: the bytes up to the next newline grow the line, and the newline has it answered; what the page holds is what was answered.
-use Prim.Native.Nat.{ℕ, _-_, _≤_}
+use Prim.Native.Nat.{ℕ, _+_, _-_, _≤_, _<_}
 use mathlib.Core.Path.{_≡_, refl, _∙_}
 use mathlib.Core.List.{List}
 use native.Mathlib.Omega.{arith}
@@ -24,7 +24,9 @@ abbrev μ-loop : tie.MeasureT-loop
 μ-loop chunk line₀ page₀ coordinates₀ words₀ now₀ from₀ line page coordinates words now from = length chunk - from
 
 loop-holds : tie.Need-loop-holds Inv-loop μ-loop
-loop-holds c = (search needs, (omega (arith, c .before .before .before .before .pre .1 .0), c .before .before .before .before .pre .1 .1, λ _. c .before .before .before .before .pre .1 .0), λ k b z. z)
+loop-holds c =
+    let start = c .before .before .before .before in
+    (search needs, (omega (arith, start .pre .1 .0), start .pre .1 .1, λ _. start .pre .1 .0), λ k b z. z)
 
 sub-before : tie.Need-sub-before Inv-loop μ-loop
 sub-before c = search needs
@@ -65,41 +67,82 @@ same-length-3 c = search needs
 same-length-4 : tie.Need-same-length-4 Inv-loop μ-loop
 same-length-4 c = search needs
 
+-- the way back, from a place in the code to one that comes before it
+abbrev to-start : tie.At-loop Inv-loop μ-loop → tie.Start Inv-loop μ-loop
+to-start c = c .before .before .before .before .before
+
+abbrev to-loop : tie.After-before2 Inv-loop μ-loop → tie.At-loop Inv-loop μ-loop
+to-loop c = c .before .before .before .before .before
+
+abbrev to-reply : tie.After-slice-known6 Inv-loop μ-loop → tie.After-reply Inv-loop μ-loop
+to-reply c = c .before .before .before .before .before
+
+abbrev to-gather : tie.After-slice-known6 Inv-loop μ-loop → tie.After-gather Inv-loop μ-loop
+to-gather c = to-reply c .before .before .before .before .before .before .before .before
+
+abbrev to-before2 : tie.After-slice-known6 Inv-loop μ-loop → tie.After-before2 Inv-loop μ-loop
+to-before2 c = to-gather c .before .before .before .before
+
+abbrev to-then1 : tie.After-slice-known6 Inv-loop μ-loop → tie.Then1 Inv-loop μ-loop
+to-then1 c = to-before2 c .before .before
+
 returns : tie.Need-returns Inv-loop μ-loop
-returns c = (
-  (c .before .before .before .before .before .before .before .before .before .before .before .before .loop .inv .1 .0, omega (arith, c .before .before .before .gather .ensures .0, c .before .before .before .before .before .before .before .before .before .before .before .before .loop .inv .0 .1)),
-  (
-    (omega (arith, c .if2 .taken), λ h. omega (arith, c .if2 .taken)),
-    λ k b z. let l = c .before .before .before .before .before .before .before .before .before .before .before .before .loop in
-        let stands = l .inv .2 k b z in
-        stands-as (to-the-end _ k (c .before .before .before .before .before .before .before .before .before .before .before .before .before .before .before .before .before .args .chunk .now) (l .from) (c .before .before .before .before .before .before .before .before2 .result) (c .before .before .before .before .before .before .before .before2 .ensures)) (after-gather stands _ refl refl (c .before .before .before .gather .ensures .1 _ (stands .holds .part))),
-  ),
-)
+returns c =
+    let at-gather = c .before .before .before in
+    let at-before2 = at-gather .before .before .before .before in
+    let at-loop = to-loop at-before2 in (
+      (at-loop .loop .inv .1 .0, omega (arith, at-gather .gather .ensures .0, at-loop .loop .inv .0 .1)),
+      (
+        (omega (arith, c .if2 .taken), λ h. omega (arith, c .if2 .taken)),
+        λ k b z. let l = at-loop .loop in
+            let stands = l .inv .2 k b z in
+            stands-as (to-the-end _ k (to-start at-loop .args .chunk .now) (l .from) (at-before2 .before2 .result) (at-before2 .before2 .ensures))
+            (after-gather stands _ refl refl (at-gather .gather .ensures .1 _ (stands .holds .part))),
+      ),
+    )
 
 reply-requires : tie.Need-reply-requires Inv-loop μ-loop
-reply-requires c κs = (c .before .before .before .before .before .before .before .before .before .before .before .before .before .before .before .before .loop .inv .0 .2, (leb-true (c .before .before .before .before .before .before .before .before .before .before .before .before .before .before .before .before .loop .now .at) 32768 (c .before .before .before .before .before .before .before .before .before .before .before .before .before .if1 .taken), omega (arith, c .before .before .before .before .before .before .before .gather .ensures .0, c .before .before .before .before .before .before .before .gather .kept .1 .0)))
+reply-requires c κs =
+    let at-gather = c .before .before .before .before .before .before .before in
+    let at-loop = to-loop (at-gather .before .before .before .before) in (
+      at-loop .loop .inv .0 .2,
+      (
+        leb-true (at-loop .loop .now .at) 32768 (at-gather .before .before .before .before .before .before .if1 .taken),
+        omega (arith, at-gather .gather .ensures .0, at-gather .gather .kept .1 .0),
+      ),
+    )
+
+-- there is a newline in what is left of the chunk
+found : (c : tie.After-slice-known6 Inv-loop μ-loop) →
+    to-loop (to-before2 c) .loop .from + to-before2 c .before2 .result < length (to-start (to-loop (to-before2 c)) .args .chunk .now)
+found c =
+    let b = to-before2 c in
+    let l = to-loop b .loop in
+    omega (arith, token-end (to-start (to-loop b) .args .chunk .now) (l .from) (l .inv .0 .0) (b .before2 .ensures), to-reply c .before .before .before .before .before .if2 .left)
 
 add-from : tie.Need-add-from Inv-loop μ-loop
-add-from c = omega (arith, (token-end (c .before .before .before .before .before .before .before .before .before .before .before .before .before .before .before .before .before .before .before .before .before .before .before .before .before .before .before .args .chunk .now) (c .before .before .before .before .before .before .before .before .before .before .before .before .before .before .before .before .before .before .before .before .before .before .loop .from) (c .before .before .before .before .before .before .before .before .before .before .before .before .before .before .before .before .before .before .before .before .before .before .loop .inv .0 .0) (c .before .before .before .before .before .before .before .before .before .before .before .before .before .before .before .before .before .before2 .ensures)), c .before .before .before .before .before .before .before .before .before .before .before .before .before .before .before .before .before .before .before .before .before .before .before .before .before .before .before .good)
+add-from c = omega (arith, found c, to-start (to-loop (to-before2 c)) .good)
 
 loop-less : tie.Need-loop-less Inv-loop μ-loop
-loop-less c = omega (arith, (token-end (c .before .before .before .before .before .before .before .before .before .before .before .before .before .before .before .before .before .before .before .before .before .before .before .before .before .before .before .args .chunk .now) (c .before .before .before .before .before .before .before .before .before .before .before .before .before .before .before .before .before .before .before .before .before .before .loop .from) (c .before .before .before .before .before .before .before .before .before .before .before .before .before .before .before .before .before .before .before .before .before .before .loop .inv .0 .0) (c .before .before .before .before .before .before .before .before .before .before .before .before .before .before .before .before .before .before2 .ensures)))
+loop-less c = omega (arith, found c)
 
 loop-again : tie.Need-loop-again Inv-loop μ-loop
 loop-again c = (
   (
-    omega (arith, (token-end (c .before .before .before .before .before .before .before .before .before .before .before .before .before .before .before .before .before .before .before .before .before .before .before .before .before .before .before .args .chunk .now) (c .before .before .before .before .before .before .before .before .before .before .before .before .before .before .before .before .before .before .before .before .before .before .loop .from) (c .before .before .before .before .before .before .before .before .before .before .before .before .before .before .before .before .before .before .before .before .before .before .loop .inv .0 .0) (c .before .before .before .before .before .before .before .before .before .before .before .before .before .before .before .before .before .before2 .ensures))),
-    c .before .before .before .before .before .before .before .before .before .before .before .before .before .gather .kept .1 .0 ∙ c .before .before .before .before .before .before .before .before .before .before .before .before .before .before .before .before .before .before .before .before .before .before .loop .inv .0 .1,
-    lent-on (c .before .before .before .before .before .before .before .before .before .before .before .before .before .before .before .before .before .before .before .before .before .before .loop .inv .0 .2) (c .before .before .before .before .before .reply .kept .1 .1 .0) (c .before .before .before .before .before .reply .kept .1 .1 .1 .0) (c .before .before .before .before .before .reply .kept .1 .1 .1 .1 .0),
+    omega (arith, found c),
+    to-gather c .gather .kept .1 .0 ∙ to-loop (to-before2 c) .loop .inv .0 .1,
+    let r = to-reply c .reply .kept .1 .1 in
+        lent-on (to-loop (to-before2 c) .loop .inv .0 .2) (r .0) (r .1 .0) (r .1 .1 .0),
   ),
-  (omega (arith, c .before .before .before .before .before .reply .ensures .0 .0, leb-true (c .before .before .before .before .before .before .before .before .before .before .before .before .before .before .before .before .before .before .before .before .before .before .loop .now .at) 32768 (c .before .before .before .before .before .before .before .before .before .before .before .before .before .before .before .before .before .before .before .if1 .taken)), omega (arith, c .before .before .before .before .before .reply .ensures .0 .1), λ e. absurd (omega (arith, e))),
-  λ k b z. let l = c .before .before .before .before .before .before .before .before .before .before .before .before .before .before .before .before .before .before .before .before .before .before .loop in
+  let r = to-reply c .reply .ensures .0 in
+      (omega (arith, r .0, leb-true (to-loop (to-before2 c) .loop .now .at) 32768 (to-then1 c .if1 .taken)), omega (arith, r .1), λ e. absurd (omega (arith, e))),
+  λ k b z. let at-before2 = to-before2 c in
+      let l = to-loop at-before2 .loop in
       let stands = l .inv .2 k b z in
-      let grown = after-gather stands _ refl refl (c .before .before .before .before .before .before .before .before .before .before .before .before .before .gather .ensures .1 _ (stands .holds .part)) in
-      let most = c .before .before .before .before .before .before .before .before .before .before .before .before .before .gather .kept .1 .0 ∙ l .inv .0 .1 in
-      stands-as
-      (to-the-newline _ k (c .before .before .before .before .before .before .before .before .before .before .before .before .before .before .before .before .before .before .before .before .before .before .before .before .before .before .before .args .chunk .now) (l .from) (c .before .before .before .before .before .before .before .before .before .before .before .before .before .before .before .before .before .before2 .result) (c .before .before .before .before .before .before .before .before .before .before .before .before .before .before .before .before .before .before2 .ensures) most (omega (arith, (token-end (c .before .before .before .before .before .before .before .before .before .before .before .before .before .before .before .before .before .before .before .before .before .before .before .before .before .before .before .args .chunk .now) (c .before .before .before .before .before .before .before .before .before .before .before .before .before .before .before .before .before .before .before .before .before .before .loop .from) (c .before .before .before .before .before .before .before .before .before .before .before .before .before .before .before .before .before .before .before .before .before .before .loop .inv .0 .0) (c .before .before .before .before .before .before .before .before .before .before .before .before .before .before .before .before .before .before2 .ensures)))))
-      (after-reply grown _ _ (omega (arith, l .inv .0 .2 .page-long, leb-true (l .now .at) 32768 (c .before .before .before .before .before .before .before .before .before .before .before .before .before .before .before .before .before .before .before .if1 .taken))) (c .before .before .before .before .before .reply .ensures .1 _ (grown .holds .part))),
+      let grown = after-gather stands _ refl refl (to-gather c .gather .ensures .1 _ (stands .holds .part)) in
+      let most = to-gather c .gather .kept .1 .0 ∙ l .inv .0 .1 in
+      stands-as (to-the-newline _ k (to-start (to-loop at-before2) .args .chunk .now) (l .from) (at-before2 .before2 .result) (at-before2 .before2 .ensures) most (found c))
+      (after-reply grown _ _ (omega (arith, l .inv .0 .2 .page-long, leb-true (l .now .at) 32768 (to-then1 c .if1 .taken))) (to-reply c .reply .ensures .1 _ (grown .holds .part))),
 )
 
 same-length-5 : tie.Need-same-length-5 Inv-loop μ-loop
@@ -115,10 +158,11 @@ same-length-8 : tie.Need-same-length-8 Inv-loop μ-loop
 same-length-8 c = search needs
 
 returns-2 : tie.Need-returns-2 Inv-loop μ-loop
-returns-2 c = (
-  (c .before .before .before .loop .inv .1 .0, omega (arith, c .before .before .before .loop .inv .1 .1, c .before .before .before .loop .inv .0 .1)),
-  ((c .before .before .before .loop .inv .0 .0, λ _. some-heard (c .before .before .before .loop .from) (c .before .before .before .loop .inv .1 .2) (leb-false (c .before .before .before .loop .now .at) 32768 (c .if1 .left))), c .before .before .before .loop .inv .2),
-)
+returns-2 c =
+    let at-loop = c .before .before .before in (
+      (at-loop .loop .inv .1 .0, omega (arith, at-loop .loop .inv .1 .1, at-loop .loop .inv .0 .1)),
+      ((at-loop .loop .inv .0 .0, λ _. some-heard (at-loop .loop .from) (at-loop .loop .inv .1 .2) (leb-false (at-loop .loop .now .at) 32768 (c .if1 .left))), at-loop .loop .inv .2),
+    )
 
 same-length-9 : tie.Need-same-length-9 Inv-loop μ-loop
 same-length-9 c = search needs

@@ -8,7 +8,9 @@ use Rattle.stream.proofs.refill.Statement.{statement}
 use Rattle.stream.proofs.refill.Tie as tie
 
 returns : tie.Need-returns
-returns c = still-there (c .before .before .before .pre .0) (c .before .before .before .pre .1) (c .if1 .taken) refl
+returns c =
+    let start = c .before .before .before in
+    still-there (start .pre .0) (start .pre .1) (c .if1 .taken) refl
 
 read-requires : tie.Need-read-requires
 read-requires c κs = search needs
@@ -26,7 +28,9 @@ same-length : tie.Need-same-length
 same-length c = search needs
 
 returns-2 : tie.Need-returns-2
-returns-2 c = read-anew {chunk' = c .before .before .before .before .before .read .last .1 .0} (toZ w64 (ofZ w64 (c .before .before .before .before .before .read .result))) (c .before .before .before .before .before .before .before .before .if1 .left) (c .before .before .before .before .before .read .kept .1 .0) (c .took .ensures)
+returns-2 c =
+    let at-read = c .before .before .before .before .before in
+    read-anew {chunk' = at-read .read .last .1 .0} (toZ w64 (ofZ w64 (at-read .read .result))) (at-read .before .before .before .if1 .left) (at-read .read .kept .1 .0) (c .took .ensures)
 
 pub refill-spec : {M : Type 1} → statement M
 refill-spec =

@@ -33,47 +33,62 @@ loop-holds c = (search needs, search needs, search needs, none-served _ (c .befo
 refill-requires : tie.Need-refill-requires Inv-loop μ-loop
 refill-requires c κs = search needs
 
+-- the way back, from a place in the code to one that comes before it
+abbrev to-loop : tie.After-refill Inv-loop μ-loop → tie.At-loop Inv-loop μ-loop
+to-loop c = c .before .before .before
+
+abbrev to-refill : tie.Joined1 Inv-loop μ-loop → tie.After-refill Inv-loop μ-loop
+to-refill c = c .before .before .before .before .before .before .before .before .before .before .before .before .before .before .before .before
+
+abbrev to-answer : tie.Joined1 Inv-loop μ-loop → tie.After-answer Inv-loop μ-loop
+to-answer c = c .before .before .before .before .before .before .before .before
+
+abbrev to-in-loop : tie.Else2 Inv-loop μ-loop → tie.In-loop Inv-loop μ-loop
+to-in-loop c = c .before .before .before .before .before .before .before .before .before .before .before .before .before .before .before .before .before .before .before .before
+
 answer-requires : tie.Need-answer-requires Inv-loop μ-loop
 answer-requires c κs =
-    let l = c .before .before .before .before .before .before .before .before .before .before .loop .inv in
+    let at-loop = to-loop (c .before .before .before .before .before .before .before) in
+    let l = at-loop .loop .inv in
     let r = c .before .before .before .before .before .before .before .refill in (
-      lent-on (c .before .before .before .before .before .before .before .before .before .before .before .before .before .before .before .before .before .pre) (l .0 .2) (l .1 .0) (l .1 .1),
+      lent-on (at-loop .before .before .before .before .before .before .before .pre) (l .0 .2) (l .1 .0) (l .1 .1),
       (r .ensures .0 .0, omega (arith, r .ensures .0 .1, r .kept .1 .0), omega (arith, ap (λ (p : Part). p .held) (r .ensures .0 .3), l .2 .2)),
     )
 
 same-length : tie.Need-same-length Inv-loop μ-loop
-same-length c = c .before .before .before .before .before .before .before .before .before .before .before .before .before .before .before .before .refill .kept .1 .0 ∙ c .before .before .before .before .before .before .before .before .before .before .before .before .before .before .before .before .before .before .before .loop .inv .0 .0
+same-length c = to-refill c .refill .kept .1 .0 ∙ to-loop (to-refill c) .loop .inv .0 .0
 
 same-length-2 : tie.Need-same-length-2 Inv-loop μ-loop
-same-length-2 c = c .before .before .before .before .before .before .before .before .answer .kept .1 .1 .0 ∙ c .before .before .before .before .before .before .before .before .before .before .before .before .before .before .before .before .before .before .before .loop .inv .0 .1
+same-length-2 c = to-answer c .answer .kept .1 .1 .0 ∙ to-loop (to-refill c) .loop .inv .0 .1
 
 same-length-3 : tie.Need-same-length-3 Inv-loop μ-loop
-same-length-3 c = c .before .before .before .before .before .before .before .before .answer .kept .1 .1 .1 .0 ∙ c .before .before .before .before .before .before .before .before .before .before .before .before .before .before .before .before .before .before .before .loop .inv .0 .2
+same-length-3 c = to-answer c .answer .kept .1 .1 .1 .0 ∙ to-loop (to-refill c) .loop .inv .0 .2
 
 same-length-4 : tie.Need-same-length-4 Inv-loop μ-loop
-same-length-4 c = c .before .before .before .before .before .before .before .before .answer .kept .1 .1 .1 .1 .0 ∙ c .before .before .before .before .before .before .before .before .before .before .before .before .before .before .before .before .before .before .before .loop .inv .1 .0
+same-length-4 c = to-answer c .answer .kept .1 .1 .1 .1 .0 ∙ to-loop (to-refill c) .loop .inv .1 .0
 
 same-length-5 : tie.Need-same-length-5 Inv-loop μ-loop
-same-length-5 c = c .before .before .before .before .before .before .before .before .answer .kept .1 .1 .1 .1 .1 .0 ∙ c .before .before .before .before .before .before .before .before .before .before .before .before .before .before .before .before .before .before .before .loop .inv .1 .1
+same-length-5 c = to-answer c .answer .kept .1 .1 .1 .1 .1 .0 ∙ to-loop (to-refill c) .loop .inv .1 .1
 
 returns : tie.Need-returns Inv-loop μ-loop
 returns c = search needs
 
 sub-turns : tie.Need-sub-turns Inv-loop μ-loop
-sub-turns c = omega (arith, c .before .before .before .before .before .before .before .before .before .before .before .before .before .before .before .before .before .before .before .before .loop-test .taken)
+sub-turns c = omega (arith, to-in-loop c .loop-test .taken)
 
 loop-less : tie.Need-loop-less Inv-loop μ-loop
-loop-less c = omega (arith, c .before .before .before .before .before .before .before .before .before .before .before .before .before .before .before .before .before .before .before .before .loop-test .taken)
+loop-less c = omega (arith, to-in-loop c .loop-test .taken)
 
 loop-again : tie.Need-loop-again Inv-loop μ-loop
 loop-again c =
-    let l = c .before .before .before .before .before .before .before .before .before .before .before .before .before .before .before .before .before .before .before .before .before .loop .inv in
+    let l = to-in-loop c .before .loop .inv in
     let r = c .before .before .before .before .before .before .before .before .before .before .before .before .before .before .before .before .before .before .refill in
     let a = c .before .before .before .before .before .before .before .before .before .before .answer in (
       (r .kept .1 .0 ∙ l .0 .0, a .kept .1 .1 .0 ∙ l .0 .1, a .kept .1 .1 .1 .0 ∙ l .0 .2),
       (a .kept .1 .1 .1 .1 .0 ∙ l .1 .0, a .kept .1 .1 .1 .1 .1 .0 ∙ l .1 .1),
       (a .ensures .0 .0, omega (arith, a .ensures .0 .1, r .ensures .0 .1, r .kept .1 .0), omega (arith, a .ensures .0 .3, a .kept .1 .1 .0)),
-      served-on (r .result) (r .last .1 .0) (a .result .from) (sym (a .ensures .0 .2) ∙ c .before .before .if1 .left) (a .kept .1 .1 .0) (served-as (r .ensures .0 .2) (r .ensures .0 .3) (l .3)) (a .ensures .1 .1),
+      served-on (r .result) (r .last .1 .0) (a .result .from) (sym (a .ensures .0 .2) ∙ c .before .before .if1 .left) (a .kept .1 .1 .0)
+          (served-as (r .ensures .0 .2) (r .ensures .0 .3) (l .3)) (a .ensures .1 .1),
     )
 
 same-length-6 : tie.Need-same-length-6 Inv-loop μ-loop

@@ -14,13 +14,19 @@ finish-requires : tie.Need-finish-requires
 finish-requires c κs = search needs
 
 slice-reshare-prefix-heard : tie.Need-slice-reshare-prefix-heard
-slice-reshare-prefix-heard c = omega (arith, finishes-fit _ _ _ _ (c .before .before .before .finish .ensures), c .before .before .before .finish .kept .1 .0)
+slice-reshare-prefix-heard c =
+    let at-finish = c .before .before .before in
+    omega (arith, finishes-fit _ _ _ _ (at-finish .finish .ensures), at-finish .finish .kept .1 .0)
 
 slice-aggregate-heard : tie.Need-slice-aggregate-heard
-slice-aggregate-heard c = sym (length-take-le _ _ (omega (arith, finishes-fit _ _ _ _ (c .before .before .before .before .finish .ensures), c .before .before .before .before .finish .kept .1 .0)))
+slice-aggregate-heard c =
+    let at-finish = c .before .before .before .before in
+    sym (length-take-le _ _ (omega (arith, finishes-fit _ _ _ _ (at-finish .finish .ensures), at-finish .finish .kept .1 .0)))
 
 heard-requires : tie.Need-heard-requires
-heard-requires c κs = omega (arith, short (c .before .before .before .before .finish .result .written) (c .before .before .before .before .finish .last .1 .0) (finishes-fit _ _ _ _ (c .before .before .before .before .finish .ensures)))
+heard-requires c κs =
+    let at-finish = c .before .before .before .before in
+    omega (arith, short (at-finish .finish .result .written) (at-finish .finish .last .1 .0) (finishes-fit _ _ _ _ (at-finish .finish .ensures)))
 
 with-receiver-requires : tie.Need-with-receiver-requires
 with-receiver-requires c κs = search needs
@@ -33,10 +39,12 @@ same-length-2 c = search needs
 
 returns : tie.Need-returns
 returns c =
-    let heard = c .before .before .before .before .before .before .before .before .before .finish .ensures in
-    let few = short (c .before .before .before .before .before .before .before .before .before .finish .result .written) (c .before .before .before .before .before .before .before .before .before .finish .last .1 .0) (finishes-fit _ _ _ _ heard) in
-    does (c .with-receiver .ensures) (ap (withReceiver (c .before .before .before .before .before .before .before .before .before .before .before .before .before .before .args .desk)) (heard .always .receiver)) (heard-text (heard .always))
-    (omega (arith, heard-near _ _ _ (c .before .before .before .before .heard .ensures))) (c .before .before .before .before .heard .ensures)
+    let at-heard = c .before .before .before .before in
+    let at-finish = at-heard .before .before .before .before .before in
+    let heard = at-finish .finish .ensures in
+    let few = short (at-finish .finish .result .written) (at-finish .finish .last .1 .0) (finishes-fit _ _ _ _ heard) in
+    does (c .with-receiver .ensures) (ap (withReceiver (at-finish .before .before .before .before .before .args .desk)) (heard .always .receiver)) (heard-text (heard .always))
+    (omega (arith, heard-near _ _ _ (at-heard .heard .ensures))) (at-heard .heard .ensures)
 
 pub finished-spec : {M : Type 1} → statement M
 finished-spec =

@@ -30,9 +30,11 @@ same-length c = search needs
 returns : tie.Need-returns
 unfolding acting
 returns c =
-    let opened = c .before .before .before .before .before .before .before .open-sender .ensures in
-    does (c .with-sender .ensures) (ap (withSender (c .before .before .before .before .before .before .before .before .before .args .desk)) (opened .sender)) (ap numberLine (c .before .before .before .before .before .number .ensures ∙ opened .number))
-    (omega (arith, number-near _ (c .before .before .before .before .number2 .ensures))) (c .before .before .before .before .number2 .ensures)
+    let at-number2 = c .before .before .before .before in
+    let opened = at-number2 .before .before .before .open-sender .ensures in
+    does (c .with-sender .ensures) (ap (withSender (at-number2 .before .before .before .before .before .args .desk)) (opened .sender))
+    (ap numberLine (at-number2 .before .number .ensures ∙ opened .number))
+    (omega (arith, number-near _ (at-number2 .number2 .ensures))) (at-number2 .number2 .ensures)
 
 pub open-sender-spec : {M : Type 1} → statement M
 open-sender-spec =

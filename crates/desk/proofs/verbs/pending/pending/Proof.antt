@@ -20,7 +20,8 @@ same-length c = search needs
 
 returns : tie.Need-returns
 unfolding acting
-returns c = does refl refl (ap numberLine (c .before .before .before .before .pending .ensures)) (omega (arith, number-near _ (c .before .before .number .ensures))) (c .before .before .number .ensures)
+returns c =
+    does refl refl (ap numberLine (c .before .before .before .before .pending .ensures)) (omega (arith, number-near _ (c .before .before .number .ensures))) (c .before .before .number .ensures)
 
 pub pending-spec : {M : Type 1} → statement M
 pending-spec = tie.close (tie.spec pending-requires number-requires same-length returns)

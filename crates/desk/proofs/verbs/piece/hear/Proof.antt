@@ -21,7 +21,9 @@ slice-aggregate-heard-2 : tie.Need-slice-aggregate-heard-2
 slice-aggregate-heard-2 c = sym (length-take-le _ _ (c .before .before .before .before .pre .0))
 
 heard-requires : tie.Need-heard-requires
-heard-requires c κs = omega (arith, short _ (c .before .before .before .before .before .args .words .now) (c .before .before .before .before .before .pre .1), c .before .before .before .before .before .pre .3)
+heard-requires c κs =
+    let start = c .before .before .before .before .before in
+    omega (arith, short _ (start .args .words .now) (start .pre .1), start .pre .3)
 
 same-length : tie.Need-same-length
 same-length c = search needs

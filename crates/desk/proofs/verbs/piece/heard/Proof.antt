@@ -14,13 +14,19 @@ hear-requires : tie.Need-hear-requires
 hear-requires c κs = search needs
 
 slice-reshare-prefix-heard : tie.Need-slice-reshare-prefix-heard
-slice-reshare-prefix-heard c = omega (arith, hears-fit _ _ _ _ _ (c .before .before .before .hear .ensures), c .before .before .before .hear .kept .1 .1 .0)
+slice-reshare-prefix-heard c =
+    let at-hear = c .before .before .before in
+    omega (arith, hears-fit _ _ _ _ _ (at-hear .hear .ensures), at-hear .hear .kept .1 .1 .0)
 
 slice-aggregate-heard : tie.Need-slice-aggregate-heard
-slice-aggregate-heard c = sym (length-take-le _ _ (omega (arith, hears-fit _ _ _ _ _ (c .before .before .before .before .hear .ensures), c .before .before .before .before .hear .kept .1 .1 .0)))
+slice-aggregate-heard c =
+    let at-hear = c .before .before .before .before in
+    sym (length-take-le _ _ (omega (arith, hears-fit _ _ _ _ _ (at-hear .hear .ensures), at-hear .hear .kept .1 .1 .0)))
 
 heard-requires : tie.Need-heard-requires
-heard-requires c κs = omega (arith, short (c .before .before .before .before .hear .result .written) (c .before .before .before .before .hear .last .1 .1 .0) (hears-fit _ _ _ _ _ (c .before .before .before .before .hear .ensures)))
+heard-requires c κs =
+    let at-hear = c .before .before .before .before in
+    omega (arith, short (at-hear .hear .result .written) (at-hear .hear .last .1 .1 .0) (hears-fit _ _ _ _ _ (at-hear .hear .ensures)))
 
 with-receiver-requires : tie.Need-with-receiver-requires
 with-receiver-requires c κs = search needs
@@ -33,10 +39,12 @@ same-length-2 c = search needs
 
 returns : tie.Need-returns
 returns c =
-    let heard = c .before .before .before .before .before .before .before .before .before .hear .ensures in
-    let few = short (c .before .before .before .before .before .before .before .before .before .hear .result .written) (c .before .before .before .before .before .before .before .before .before .hear .last .1 .1 .0) (hears-fit _ _ _ _ _ heard) in
-    does (c .with-receiver .ensures) (ap (withReceiver (c .before .before .before .before .before .before .before .before .before .before .before .before .before .before .args .desk)) (heard .always .receiver)) (heard-text (heard .always))
-    (omega (arith, heard-near _ _ _ (c .before .before .before .before .heard .ensures))) (c .before .before .before .before .heard .ensures)
+    let at-heard = c .before .before .before .before in
+    let at-hear = at-heard .before .before .before .before .before in
+    let heard = at-hear .hear .ensures in
+    let few = short (at-hear .hear .result .written) (at-hear .hear .last .1 .1 .0) (hears-fit _ _ _ _ _ heard) in
+    does (c .with-receiver .ensures) (ap (withReceiver (at-hear .before .before .before .before .before .args .desk)) (heard .always .receiver)) (heard-text (heard .always))
+    (omega (arith, heard-near _ _ _ (at-heard .heard .ensures))) (at-heard .heard .ensures)
 
 pub heard-spec : {M : Type 1} → statement M
 heard-spec =

@@ -29,10 +29,12 @@ same-length-2 c = search needs
 returns : tie.Need-returns
 unfolding acting
 returns c =
-    let start = c .before .before .before .before .before .before .before .before .before .before .before .before .before .args in
-    let sent = c .before .before .before .before .before .before .before .before .before .send .ensures in
+    let at-sent = c .before .before .before .before in
+    let start = at-sent .before .before .before .before .before .before .before .before .before .args in
+    let sent = at-sent .before .before .before .before .before .send .ensures in
     does (c .with-sender .ensures) (sent-desk (start .desk) (start .desk .sender) (start .word) (start .out .now) (sent .sender))
-    (sent-text (start .desk) (start .desk .sender) (start .word) (start .out .now) (c .before .before .before .before .before .before .number .ensures ∙ sent .number) (sent .output)) (omega (arith, sent-near _ _ (c .before .before .before .before .sent .ensures))) (c .before .before .before .before .sent .ensures)
+    (sent-text (start .desk) (start .desk .sender) (start .word) (start .out .now) (at-sent .before .before .number .ensures ∙ sent .number) (sent .output))
+    (omega (arith, sent-near _ _ (at-sent .sent .ensures))) (at-sent .sent .ensures)
 
 pub sent-spec : {M : Type 1} → statement M
 sent-spec =

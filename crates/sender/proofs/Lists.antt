@@ -3,7 +3,8 @@
 --   one-word                 a list of one word
 --   cut-done, cut-refused    a list cut in two: the first part was sent whole, or refused somewhere
 --   cut                      the same of the definition
---   list-end, list-sound     the sender after a list is an end again, and open where the list was sent whole
+--   list-end, list-sound     the sender after a list is an end again, and open where it was open
+--   list-kept, list-fits     where no word was sent the sender is as it was; what is written has room
 --   Going, start, go-on, stop, end   the loop
 use mathlib.Core.Path.{_≡_, refl, sym, ap, ap₂, subst, _∙_}
 use mathlib.Core.Bool.{Bool, true, false, cond}
@@ -54,6 +55,24 @@ one-word s n out = go (sound s) (eqb (sending s n out .number) 0) refl refl
     go false true e f = absurd (omega (arith, nine s n out .1 e, eqb-true (sending s n out .number) 0 f))
     go false false e f = closed-word s n out e
 
+-- ---- the two ways of a word in a list, and of a list
+
+pub onward-by : (P : GivenList → Type 0) (g : Given) (rest : GivenList) → (g .number ≡ 0 → P (givenList (rest .number) (rest .sender) (rest .sent + 1) (take 4 (g .output) ++ rest .output))) →
+    ((g .number ≡ 0 → ⊥) → P (givenList (g .number) (g .sender) 0 (g .output))) → P (onward g rest)
+onward-by P g rest f h = go (eqb (g .number) 0) refl
+  where
+    go : (b : Bool) → eqb (g .number) 0 ≡ b → P (cond b (givenList (rest .number) (rest .sender) (rest .sent + 1) (take 4 (g .output) ++ rest .output)) (givenList (g .number) (g .sender) 0 (g .output)))
+    go true e = f (eqb-true (g .number) 0 e)
+    go false e = h (eqb-false (g .number) 0 e)
+
+pub list-by : (P : GivenList → Type 0) (s : Sender) (ns : List ℕ) (out : List ℤ) → P (sendingAll s ns out) → P (givenList 9 s 0 out) → P (sendingList s ns out)
+unfolding sendingList
+list-by P s ns out p q = go (sound s)
+  where
+    go : (b : Bool) → P (cond b (sendingAll s ns out) (givenList 9 s 0 out))
+    go true = p
+    go false = q
+
 -- ---- a list cut in two
 
 -- k words were sent and wrote `front`, and the words after them give `rest`
@@ -95,41 +114,27 @@ first-refused g h r q ns = rw (ne-eqb (g .number) 0 h) (rw (ne-eqb (g .number) 0
 pub cut : (s : Sender) (ms ns : List ℕ) (out : List ℤ) → sendingAll s (ms ++ ns) out ≡ joined (sendingAll s ms out) ns
 unfolding sendingAll
 cut s [] ns out = ap (λ (k : ℕ). givenList (sendingAll s ns out .number) (sendingAll s ns out .sender) k (sendingAll s ns out .output)) (sym (zero-add (sendingAll s ns out .sent)))
-cut s (n ∷ ms) ns out = go (eqb (sending s n out .number) 0) refl (cut (sending s n out .sender) ms ns (drop 4 (sending s n out .output)))
+cut s (n ∷ ms) ns out =
+    go (eqb (sending s n out .number) 0) refl (cut (sending s n out .sender) ms ns (drop 4 (sending s n out .output)))
   where
-    rest : GivenList
-    rest = sendingAll (sending s n out .sender) ms (drop 4 (sending s n out .output))
-
-    both : GivenList
-    both = sendingAll (sending s n out .sender) (ms ++ ns) (drop 4 (sending s n out .output))
-
-    go : (b : Bool) → eqb (sending s n out .number) 0 ≡ b → both ≡ joined rest ns → onward (sending s n out) both ≡ joined (onward (sending s n out) rest) ns
+    go : (b : Bool) → eqb (sending s n out .number) 0 ≡ b → sendingAll (sending s n out .sender) (ms ++ ns) (drop 4 (sending s n out .output)) ≡ joined (sendingAll (sending s n out .sender) ms (drop 4 (sending s n out .output))) ns →
+        onward (sending s n out) (sendingAll (sending s n out .sender) (ms ++ ns) (drop 4 (sending s n out .output))) ≡ joined (onward (sending s n out) (sendingAll (sending s n out .sender) ms (drop 4 (sending s n out .output)))) ns
     go true e ih =
         let z = eqb-true (sending s n out .number) 0 e in
-        ap (onward (sending s n out)) ih ∙ first-more (sending s n out) z (sent-room s n out z) rest ns
-    go false e ih = first-refused (sending s n out) (eqb-false (sending s n out .number) 0 e) both rest ns
+        ap (onward (sending s n out)) ih ∙ first-more (sending s n out) z (sent-room s n out z) _ ns
+    go false e ih = first-refused (sending s n out) (eqb-false (sending s n out .number) 0 e) _ _ ns
 
 -- ---- the promise of a list
 
 all-end : (s : Sender) (ns : List ℕ) (out : List ℤ) → End s → End (sendingAll s ns out .sender)
 unfolding sendingAll
 all-end s [] out z = z
-all-end s (n ∷ ns) out z = go (eqb (sending s n out .number) 0) (all-end (sending s n out .sender) ns (drop 4 (sending s n out .output)) (called z n out))
-  where
-    rest : GivenList
-    rest = sendingAll (sending s n out .sender) ns (drop 4 (sending s n out .output))
-
-    go : (b : Bool) → End (rest .sender) → End (cond b (givenList (rest .number) (rest .sender) (rest .sent + 1) (take 4 (sending s n out .output) ++ rest .output)) (givenList (sending s n out .number) (sending s n out .sender) 0 (sending s n out .output)) .sender)
-    go true y = y
-    go false y = called z n out
+all-end s (n ∷ ns) out z =
+    let g = sending s n out in
+    onward-by (λ r. End (r .sender)) g (sendingAll (g .sender) ns (drop 4 (g .output))) (λ _. all-end (g .sender) ns (drop 4 (g .output)) (called z n out)) (λ _. called z n out)
 
 pub list-end : (s : Sender) (ns : List ℕ) (out : List ℤ) → End s → End (sendingList s ns out .sender)
-unfolding sendingList
-list-end s ns out z = go (sound s)
-  where
-    go : (b : Bool) → End (cond b (sendingAll s ns out) (givenList 9 s 0 out) .sender)
-    go true = all-end s ns out z
-    go false = z
+list-end s ns out z = list-by (λ r. End (r .sender)) s ns out (all-end s ns out z) z
 
 module _ (s : Sender) (ns : List ℕ) (out : List ℤ) where
   -- what the definition says is what the promise says
@@ -264,7 +269,7 @@ module _ (words : List ℕ) (out₀ : List ℤ) (s₀ : Sender) (out : List ℤ)
               ∙ rw (front-more, rest-more);
         }
 
--- ---- a list cut in two, of the calls themselves
+-- ---- an open sender
 
 sending-sound : (s : Sender) (n : ℕ) (out : List ℤ) → sound s ≡ true → sound (sending s n out .sender) ≡ true
 sending-sound s n out e = go (eqb (sending s n out .number) 0) refl
@@ -276,23 +281,71 @@ sending-sound s n out e = go (eqb (sending s n out .number) 0) refl
 all-sound : (s : Sender) (ns : List ℕ) (out : List ℤ) → sound s ≡ true → sound (sendingAll s ns out .sender) ≡ true
 unfolding sendingAll
 all-sound s [] out e = e
-all-sound s (n ∷ ns) out e = go (eqb (sending s n out .number) 0) (all-sound (sending s n out .sender) ns (drop 4 (sending s n out .output)) (sending-sound s n out e))
-  where
-    rest : GivenList
-    rest = sendingAll (sending s n out .sender) ns (drop 4 (sending s n out .output))
+all-sound s (n ∷ ns) out e =
+    let g = sending s n out in
+    let f = sending-sound s n out e in
+    onward-by (λ r. sound (r .sender) ≡ true) g (sendingAll (g .sender) ns (drop 4 (g .output))) (λ _. all-sound (g .sender) ns (drop 4 (g .output)) f) (λ _. f)
 
-    go : (b : Bool) → sound (rest .sender) ≡ true → sound (cond b (givenList (rest .number) (rest .sender) (rest .sent + 1) (take 4 (sending s n out .output) ++ rest .output)) (givenList (sending s n out .number) (sending s n out .sender) 0 (sending s n out .output)) .sender) ≡ true
-    go true y = y
-    go false y = sending-sound s n out e
+module _ (s : Sender) (ns : List ℕ) (out : List ℤ) where
+  -- an open sender stays open
+  pub list-sound : sound s ≡ true → sound (sendingList s ns out .sender) ≡ true
+  list-sound e = rw (list-open s ns out e) (all-sound s ns out e)
 
--- a list that was sent whole leaves an open sender
-pub list-sound : (s : Sender) (ns : List ℕ) (out : List ℤ) → sendingList s ns out .number ≡ 0 → sound (sendingList s ns out .sender) ≡ true
-unfolding sendingList
-list-sound s ns out = go (sound s) refl
+  -- a closed one sends nothing
+  pub list-nine : sound s ≡ false → sendingList s ns out ≡ givenList 9 s 0 out
+  unfolding sendingList
+  list-nine e = rw e
+
+  -- so one that sent a word, or all of them, was open
+  was-open : (sound s ≡ false → ⊥) → sound s ≡ true
+  was-open = go (sound s)
+    where
+      go : (b : Bool) → (b ≡ false → ⊥) → b ≡ true
+      go true h = refl
+      go false h = absurd (h refl)
+
+  pub done-open : sendingList s ns out .number ≡ 0 → sound s ≡ true
+  done-open z = was-open (λ e. omega (arith, ap (λ (g : GivenList). g .number) (list-nine e)))
+
+  pub some-open : (sendingList s ns out .sent ≡ 0 → ⊥) → sound s ≡ true
+  some-open h = was-open (λ e. h (ap (λ (g : GivenList). g .sent) (list-nine e)))
+
+-- ---- what a list leaves
+
+all-kept : (s : Sender) (ns : List ℕ) (out : List ℤ) → sendingAll s ns out .sent ≡ 0 → sendingAll s ns out .sender ≡ s
+unfolding sendingAll
+all-kept s [] out = λ z. refl
+all-kept s (n ∷ ns) out =
+    let g = sending s n out in
+    onward-by (λ r. r .sent ≡ 0 → r .sender ≡ s) g (sendingAll (g .sender) ns (drop 4 (g .output))) (λ _ z. absurd (omega arith)) (λ h _. refused-keeps s n out h .0)
+
+sending-length : (s : Sender) (n : ℕ) (out : List ℤ) → length (sending s n out .output) ≡ length out
+unfolding four
+sending-length s n out = go (eqb (sending s n out .number) 0) refl
   where
-    go : (b : Bool) → sound s ≡ b → cond b (sendingAll s ns out) (givenList 9 s 0 out) .number ≡ 0 → sound (cond b (sendingAll s ns out) (givenList 9 s 0 out) .sender) ≡ true
-    go true e z = all-sound s ns out e
-    go false e z = absurd (omega arith)
+    go : (b : Bool) → eqb (sending s n out .number) 0 ≡ b → length (sending s n out .output) ≡ length out
+    go true e = let t = done s n out (eqb-true (sending s n out .number) 0 e) in rw (t .output, length-append (four (symbolFor s n)), length-drop) (omega (arith, t .room))
+    go false e = ap length (refused-keeps s n out (eqb-false (sending s n out .number) 0 e) .1)
+
+all-fits : (s : Sender) (ns : List ℕ) (out : List ℤ) → 4 * sendingAll s ns out .sent ≤ length out
+unfolding sendingAll
+all-fits s [] out = omega arith
+all-fits s (n ∷ ns) out =
+    let g = sending s n out in
+    let h = all-fits (g .sender) ns (drop 4 (g .output)) in
+    onward-by (λ r. 4 * r .sent ≤ length out) g (sendingAll (g .sender) ns (drop 4 (g .output)))
+    (λ z. omega (arith, h, length-drop 4 (g .output), sending-length s n out, sent-room s n out z)) (λ _. omega arith)
+
+module _ (s : Sender) (ns : List ℕ) (out : List ℤ) where
+  -- where no word was sent the sender is as it was
+  pub list-kept : sendingList s ns out .sent ≡ 0 → sendingList s ns out .sender ≡ s
+  list-kept = list-by (λ g. g .sent ≡ 0 → g .sender ≡ s) s ns out (all-kept s ns out) (λ _. refl)
+
+  -- there was room for what was written
+  pub list-fits : 4 * sendingList s ns out .sent ≤ length out
+  list-fits = list-by (λ g. 4 * g .sent ≤ length out) s ns out (all-fits s ns out) (omega arith)
+
+-- ---- a list cut in two, of the calls themselves
 
 cut-list : (s : Sender) (ms ns : List ℕ) (out : List ℤ) → sendingList s (ms ++ ns) out ≡ joined (sendingList s ms out) ns
 unfolding sendingList
@@ -318,7 +371,7 @@ module _ (s : Sender) (ms ns : List ℕ) (out : List ℤ) (q : SentList) (o : Li
   pub cut-done : numberOf (q .why) ≡ 0 → (r : SentList) (p : List ℤ) → SendsList (q .sender) ns (drop (4 * q .sent) o) r p →
       SendsList s (ms ++ ns) out (record { sender = r .sender; sent = q .sent + r .sent; why = r .why }) (take (4 * q .sent) o ++ p)
   cut-done z r p second =
-      let e : sound (q .sender) ≡ true = ap sound (first .sender) ∙ list-sound s ms out (sym (first .number) ∙ z) in
+      let e : sound (q .sender) ≡ true = ap sound (first .sender) ∙ list-sound s ms out (done-open s ms out (sym (first .number) ∙ z)) in
       let g = sym (list-open (q .sender) ns (drop (4 * q .sent) o) e) ∙ gives (q .sender) ns (drop (4 * q .sent) o) r p second in
       sends-as s (ms ++ ns) out (r .sender) (q .sent + r .sent) (r .why) (take (4 * q .sent) o ++ p)
       (both ∙ rw (eq-eqb (numberOf (q .why)) 0 z) (ap (gone (q .sent) (take (4 * q .sent) o)) g))

@@ -4,12 +4,9 @@
 --   ran
 use mathlib.Core.Path.{_≡_, refl, sym, ap, ap₂, subst, _∙_}
 use mathlib.Core.List.{List, [], _∷_, _++_, append-assoc, append-nil}
-use mathlib.Core.Bool.{Bool, true, false, cond}
-use Prim.Native.Nat.{ℕ, _+_, _*_}
+use Prim.Native.Nat.{ℕ, _+_, _*_, _≤_}
 use native.Mathlib.Numerals.{add-one}
 use native.Mathlib.Omega.{arith}
-use borrow.Author.Tests.{eqb-true, eqb-false}
-use lib.Dec.{eqb}
 use lib.IntN.{ℤ}
 use lib.ListN.{length, take, drop}
 use lib.Seq.{length-take-le, take-append-add}
@@ -20,12 +17,12 @@ use Rattle.wei.proofs.Symbols.{ending-snoc, allowed-snoc, turnsTo, turns-snoc, 
 use Rattle.symbols.proofs.Parts.{turn-is}
 use Rattle.points.specs.declared.Accord.{Accord}
 use Rattle.sender.specs.declared.Sender.{Sender}
-use Rattle.sender.specs.Send.{sound, symbolFor, after, four, fresh, opening, sending}
+use Rattle.sender.specs.Send.{symbolFor, after, four, fresh, opening, sending}
 use Rattle.sender.specs.SendList.{GivenList, givenList, sendingAll, sendingList}
 use Rattle.sender.specs.Run.{Made, AllMade, coordinatesOf, Talk, opens, takes, refuses, lists, Ran}
 use Rattle.sender.proofs.Sound.{Ranges, ranges}
 use Rattle.sender.proofs.Exactly.{Taken, done, refused-keeps, opened-with}
-use Rattle.sender.proofs.Lists.{sent-room}
+use Rattle.sender.proofs.Lists.{sent-room, onward-by, list-by}
 
 -- ---- one symbol more
 
@@ -96,6 +93,16 @@ step ac ws ps s n out f t =
 
 -- ---- along a run
 
+-- one word, and k after it
+sent-as : (ws : List ℕ) (n : ℕ) (ns : List ℕ) (k : ℕ) → ws ++ take (k + 1) (n ∷ ns) ≡ (ws ++ (n ∷ [])) ++ take k ns
+sent-as ws n ns k = ap (λ (m : ℕ). ws ++ take m (n ∷ ns)) (add-one k) ∙ sym (append-assoc ws (n ∷ []) (take k ns))
+
+-- its coordinates, and theirs
+wrote : (ps first rest : List ℤ) (k : ℕ) → 4 ≤ length first → ps ++ take (4 * (k + 1)) (take 4 first ++ rest) ≡ (ps ++ take 4 first) ++ take (4 * k) rest
+wrote ps first rest k h =
+    let l : 4 * (k + 1) ≡ length (take 4 first) + 4 * k = rw (length-take-le 4 first h) (omega arith) in
+    ap (λ (m : ℕ). ps ++ take m (take 4 first ++ rest)) l ∙ ap (λ (m : List ℤ). ps ++ m) (take-append-add (take 4 first) rest (4 * k)) ∙ sym (append-assoc ps (take 4 first) (take (4 * k) rest))
+
 module _ (P : List ℕ → List ℤ → Sender → Type 0)
     (more : (ws : List ℕ) (ps : List ℤ) (s : Sender) (n : ℕ) (out : List ℤ) → P ws ps s → Taken s n out → P (ws ++ (n ∷ [])) (ps ++ take 4 (sending s n out .output)) (sending s n out .sender)) where
   -- P after a list that gave r
@@ -109,34 +116,15 @@ module _ (P : List ℕ → List ℤ → Sender → Type 0)
   unfolding sendingAll
   along-all [] ws ps s out p = none ws ps [] s 0 out p
   along-all (n ∷ ns) ws ps s out p =
-      go (eqb (sending s n out .number) 0) refl
-      (λ z. along-all ns (ws ++ (n ∷ [])) (ps ++ take 4 (sending s n out .output)) (sending s n out .sender) (drop 4 (sending s n out .output)) (more ws ps s n out p (done s n out z)))
-    where
-      front : List ℤ
-      front = take 4 (sending s n out .output)
-
-      g : GivenList
-      g = sendingAll (sending s n out .sender) ns (drop 4 (sending s n out .output))
-
-      go : (b : Bool) → eqb (sending s n out .number) 0 ≡ b → (sending s n out .number ≡ 0 → After (ws ++ (n ∷ [])) (ps ++ front) ns g) →
-          After ws ps (n ∷ ns) (cond b (givenList (g .number) (g .sender) (g .sent + 1) (front ++ g .output)) (givenList (sending s n out .number) (sending s n out .sender) 0 (sending s n out .output)))
-      go true e ih =
-          let z = eqb-true (sending s n out .number) 0 e in
-          let l : 4 * (g .sent + 1) ≡ length front + 4 * g .sent = rw (length-take-le 4 (sending s n out .output) (sent-room s n out z)) (omega arith) in
-          let a : ps ++ take (4 * (g .sent + 1)) (front ++ g .output) ≡ (ps ++ front) ++ take (4 * g .sent) (g .output) =
-          ap (λ (k : ℕ). ps ++ take k (front ++ g .output)) l ∙ ap (λ (m : List ℤ). ps ++ m) (take-append-add front (g .output) (4 * g .sent)) ∙ sym (append-assoc ps front (take (4 * g .sent) (g .output))) in
-          let b : ws ++ take (g .sent + 1) (n ∷ ns) ≡ (ws ++ (n ∷ [])) ++ take (g .sent) ns =
-          ap (λ (k : ℕ). ws ++ take k (n ∷ ns)) (add-one (g .sent)) ∙ sym (append-assoc ws (n ∷ []) (take (g .sent) ns)) in
-          rw (a, b) (ih z)
-      go false e ih = none ws ps (n ∷ ns) (sending s n out .sender) (sending s n out .number) (sending s n out .output) (rw (refused-keeps s n out (eqb-false (sending s n out .number) 0 e) .0) p)
+      let x = sending s n out in
+      let front : List ℤ = take 4 (x .output) in
+      let g : GivenList = sendingAll (x .sender) ns (drop 4 (x .output)) in
+      onward-by (After ws ps (n ∷ ns)) x g
+      (λ z. rw (wrote ps (x .output) (g .output) (g .sent) (sent-room s n out z), sent-as ws n ns (g .sent)) (along-all ns (ws ++ (n ∷ [])) (ps ++ front) (x .sender) (drop 4 (x .output)) (more ws ps s n out p (done s n out z))))
+      (λ h. none ws ps (n ∷ ns) (x .sender) (x .number) (x .output) (rw (refused-keeps s n out h .0) p))
 
   along-list : (ns ws : List ℕ) (ps : List ℤ) (s : Sender) (out : List ℤ) → P ws ps s → After ws ps ns (sendingList s ns out)
-  unfolding sendingList
-  along-list ns ws ps s out p = go (sound s)
-    where
-      go : (b : Bool) → After ws ps ns (cond b (sendingAll s ns out) (givenList 9 s 0 out))
-      go true = along-all ns ws ps s out p
-      go false = none ws ps ns s 9 out p
+  along-list ns ws ps s out p = list-by (After ws ps ns) s ns out (along-all ns ws ps s out p) (none ws ps ns s 9 out p)
 
   -- what holds after the opening, and stays through each word that is taken, holds after any run
   pub along : (k : Accord) → (opening k .number ≡ 0 → P [] [] (fresh k)) → (ws : List ℕ) (ps : List ℤ) (s : Sender) → Talk k ws ps s → P ws ps s

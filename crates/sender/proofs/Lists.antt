@@ -5,6 +5,7 @@
 --   cut                      the same of the definition
 --   list-end, list-sound     the sender after a list is an end again, and open where it was open
 --   list-kept, list-fits     where no word was sent the sender is as it was; what is written has room
+--   list-alike               what the output held before makes no difference to what is sent
 --   Going, start, go-on, stop, end   the loop
 use mathlib.Core.Path.{_≡_, refl, sym, ap, ap₂, subst, _∙_}
 use mathlib.Core.Bool.{Bool, true, false, cond}
@@ -14,7 +15,7 @@ use native.Mathlib.Nat.{add-zero, zero-add, mul-suc}
 use native.Mathlib.Numerals.{add-one}
 use native.Mathlib.Omega.{arith}
 use borrow.Author.Tests.{eq-eqb, ne-eqb, eqb-true, eqb-false}
-use lib.Dec.{eqb}
+use lib.Dec.{eqb, leb}
 use lib.IntN.{ℤ}
 use lib.ListN.{getD, length, take, drop, length-append, length-drop, take-append-drop, drop-of-length-le}
 use lib.Seq.{length-take-le, take-all, take-at, drop-at, drop-drop, take-append-add, drop-append-add, drop-cons}
@@ -23,7 +24,8 @@ use Rattle.sender.specs.declared.Sent.{Sent}
 use Rattle.sender.specs.declared.SentList.{SentList}
 use Rattle.sender.specs.declared.Why.{Why}
 use Rattle.sender.specs.declared.Why.the-variants.{Done, Closed}
-use Rattle.sender.specs.Send.{numberOf, sound, four, symbolFor, Given, sending, End, called}
+use Rattle.wei.specs.Word.{isWord}
+use Rattle.sender.specs.Send.{numberOf, sound, after, four, symbolFor, Given, sending, End, called}
 use Rattle.sender.specs.SendList.{GivenList, givenList, onward, sendingAll, sendingList}
 use Rattle.sender.specs.Promise.{Sends, SendsList}
 use Rattle.sender.proofs.Sound.{ranges, after-sound}
@@ -344,6 +346,74 @@ module _ (s : Sender) (ns : List ℕ) (out : List ℤ) where
   -- there was room for what was written
   pub list-fits : 4 * sendingList s ns out .sent ≤ length out
   list-fits = list-by (λ g. 4 * g .sent ≤ length out) s ns out (all-fits s ns out) (omega arith)
+
+-- ---- what the output held before makes no difference
+
+-- one word, and k after it: their coordinates
+pub wrote : (first rest : List ℤ) (k : ℕ) → 4 ≤ length first → take (4 * (k + 1)) (take 4 first ++ rest) ≡ take 4 first ++ take (4 * k) rest
+wrote first rest k h =
+    let l : 4 * (k + 1) ≡ length (take 4 first) + 4 * k = rw (length-take-le 4 first h) (omega arith) in
+    ap (λ (m : ℕ). take m (take 4 first ++ rest)) l ∙ take-append-add (take 4 first) rest (4 * k)
+
+record AlikeWord (g h : Given) : Type 0 where
+  number : g .number ≡ h .number
+  sender : g .sender ≡ h .sender
+  written : g .number ≡ 0 → take 4 (g .output) ≡ take 4 (h .output)
+
+alike-word : (s : Sender) (n : ℕ) (out out' : List ℤ) → length out ≡ length out' → AlikeWord (sending s n out) (sending s n out')
+unfolding sending four
+alike-word s n out out' e = rw (← e) (by (sound s) (isWord (s .accord .u) n) (leb 4 (length out)))
+  where
+    gives : Bool → Bool → Bool → List ℤ → Given
+    gives a b c o =
+        cond a
+        (cond b (cond c (record { number = 0; sender = after s n; output = four (symbolFor s n) ++ drop 4 o }) (record { number = 8; sender = s; output = o })) (record { number = 4; sender = s; output = o }))
+        (record { number = 9; sender = s; output = o })
+    by : (a b c : Bool) → AlikeWord (gives a b c out) (gives a b c out')
+    by true true true = record { number = refl; sender = refl; written = λ _. refl }
+    by true true false = record { number = refl; sender = refl; written = λ z. absurd (omega arith) }
+    by true false c = record { number = refl; sender = refl; written = λ z. absurd (omega arith) }
+    by false b c = record { number = refl; sender = refl; written = λ z. absurd (omega arith) }
+
+pub record Alike (g h : GivenList) : Type 0 where
+  pub number : g .number ≡ h .number
+  pub sender : g .sender ≡ h .sender
+  pub sent : g .sent ≡ h .sent
+  pub written : take (4 * g .sent) (g .output) ≡ take (4 * h .sent) (h .output)
+
+onward-alike : (g h : Given) (q r : GivenList) → AlikeWord g h → (g .number ≡ 0 → 4 ≤ length (g .output)) → (h .number ≡ 0 → 4 ≤ length (h .output)) → Alike q r → Alike (onward g q) (onward h r)
+onward-alike g h q r w l m a = rw (← w .number) (go (eqb (g .number) 0) refl)
+  where
+    go : (b : Bool) → eqb (g .number) 0 ≡ b → Alike (cond b (givenList (q .number) (q .sender) (q .sent + 1) (take 4 (g .output) ++ q .output)) (givenList (g .number) (g .sender) 0 (g .output)))
+        (cond b (givenList (r .number) (r .sender) (r .sent + 1) (take 4 (h .output) ++ r .output)) (givenList (g .number) (h .sender) 0 (h .output)))
+    go true e =
+        let z = eqb-true (g .number) 0 e in
+        record {
+          number = a .number;
+          sender = a .sender;
+          sent = ap (λ (k : ℕ). k + 1) (a .sent);
+          written = wrote (g .output) (q .output) (q .sent) (l z) ∙ ap₂ (λ (x y : List ℤ). x ++ y) (w .written z) (a .written) ∙ sym (wrote (h .output) (r .output) (r .sent) (m (sym (w .number) ∙ z)));
+        }
+    go false e = record { number = refl; sender = w .sender; sent = refl; written = refl }
+
+all-alike : (s : Sender) (ns : List ℕ) (out out' : List ℤ) → length out ≡ length out' → Alike (sendingAll s ns out) (sendingAll s ns out')
+unfolding sendingAll
+all-alike s [] out out' e = record { number = refl; sender = refl; sent = refl; written = refl }
+all-alike s (n ∷ ns) out out' e =
+    let g = sending s n out in
+    let h = sending s n out' in
+    let w = alike-word s n out out' e in
+    let l : length (drop 4 (g .output)) ≡ length (drop 4 (h .output)) = rw (length-drop 4 (g .output), length-drop 4 (h .output), sending-length s n out, sending-length s n out', e) in
+    onward-alike g h _ _ w (sent-room s n out) (sent-room s n out')
+    (subst (λ (t : Sender). Alike (sendingAll (g .sender) ns (drop 4 (g .output))) (sendingAll t ns (drop 4 (h .output)))) (w .sender) (all-alike (g .sender) ns (drop 4 (g .output)) (drop 4 (h .output)) l))
+
+pub list-alike : (s : Sender) (ns : List ℕ) (out out' : List ℤ) → length out ≡ length out' → Alike (sendingList s ns out) (sendingList s ns out')
+unfolding sendingList
+list-alike s ns out out' e = go (sound s)
+  where
+    go : (b : Bool) → Alike (cond b (sendingAll s ns out) (givenList 9 s 0 out)) (cond b (sendingAll s ns out') (givenList 9 s 0 out'))
+    go true = all-alike s ns out out' e
+    go false = record { number = refl; sender = refl; sent = refl; written = refl }
 
 -- ---- a list cut in two, of the calls themselves
 

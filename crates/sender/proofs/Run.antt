@@ -9,7 +9,6 @@ use native.Mathlib.Numerals.{add-one}
 use native.Mathlib.Omega.{arith}
 use lib.IntN.{ℤ}
 use lib.ListN.{length, take, drop}
-use lib.Seq.{length-take-le, take-append-add}
 use Rattle.wei.specs.State.{nextState}
 use Rattle.wei.specs.Symbol.{Symbol, firstLabel, Carries, AllowedFrom, ending, symbolOf, symbolsFrom}
 use Rattle.wei.proofs.Words.{parts-range}
@@ -22,7 +21,7 @@ use Rattle.sender.specs.SendList.{GivenList, givenList, sendingAll, send
 use Rattle.sender.specs.Run.{Made, AllMade, coordinatesOf, Talk, opens, takes, refuses, lists, Ran}
 use Rattle.sender.proofs.Sound.{Ranges, ranges}
 use Rattle.sender.proofs.Exactly.{Taken, done, refused-keeps, opened-with}
-use Rattle.sender.proofs.Lists.{sent-room, onward-by, list-by}
+use Rattle.sender.proofs.Lists.{sent-room, onward-by, list-by, wrote}
 
 -- ---- one symbol more
 
@@ -98,10 +97,8 @@ sent-as : (ws : List ℕ) (n : ℕ) (ns : List ℕ) (k : ℕ) → ws ++ take (k 
 sent-as ws n ns k = ap (λ (m : ℕ). ws ++ take m (n ∷ ns)) (add-one k) ∙ sym (append-assoc ws (n ∷ []) (take k ns))
 
 -- its coordinates, and theirs
-wrote : (ps first rest : List ℤ) (k : ℕ) → 4 ≤ length first → ps ++ take (4 * (k + 1)) (take 4 first ++ rest) ≡ (ps ++ take 4 first) ++ take (4 * k) rest
-wrote ps first rest k h =
-    let l : 4 * (k + 1) ≡ length (take 4 first) + 4 * k = rw (length-take-le 4 first h) (omega arith) in
-    ap (λ (m : ℕ). ps ++ take m (take 4 first ++ rest)) l ∙ ap (λ (m : List ℤ). ps ++ m) (take-append-add (take 4 first) rest (4 * k)) ∙ sym (append-assoc ps (take 4 first) (take (4 * k) rest))
+wrote-as : (ps first rest : List ℤ) (k : ℕ) → 4 ≤ length first → ps ++ take (4 * (k + 1)) (take 4 first ++ rest) ≡ (ps ++ take 4 first) ++ take (4 * k) rest
+wrote-as ps first rest k h = ap (λ (m : List ℤ). ps ++ m) (wrote first rest k h) ∙ sym (append-assoc ps (take 4 first) (take (4 * k) rest))
 
 module _ (P : List ℕ → List ℤ → Sender → Type 0)
     (more : (ws : List ℕ) (ps : List ℤ) (s : Sender) (n : ℕ) (out : List ℤ) → P ws ps s → Taken s n out → P (ws ++ (n ∷ [])) (ps ++ take 4 (sending s n out .output)) (sending s n out .sender)) where
@@ -120,7 +117,7 @@ module _ (P : List ℕ → List ℤ → Sender → Type 0)
       let front : List ℤ = take 4 (x .output) in
       let g : GivenList = sendingAll (x .sender) ns (drop 4 (x .output)) in
       onward-by (After ws ps (n ∷ ns)) x g
-      (λ z. rw (wrote ps (x .output) (g .output) (g .sent) (sent-room s n out z), sent-as ws n ns (g .sent)) (along-all ns (ws ++ (n ∷ [])) (ps ++ front) (x .sender) (drop 4 (x .output)) (more ws ps s n out p (done s n out z))))
+      (λ z. rw (wrote-as ps (x .output) (g .output) (g .sent) (sent-room s n out z), sent-as ws n ns (g .sent)) (along-all ns (ws ++ (n ∷ [])) (ps ++ front) (x .sender) (drop 4 (x .output)) (more ws ps s n out p (done s n out z))))
       (λ h. none ws ps (n ∷ ns) (x .sender) (x .number) (x .output) (rw (refused-keeps s n out h .0) p))
 
   along-list : (ns ws : List ℕ) (ps : List ℤ) (s : Sender) (out : List ℤ) → P ws ps s → After ws ps ns (sendingList s ns out)

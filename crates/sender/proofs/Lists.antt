@@ -369,6 +369,7 @@ alike-word s n out out' e = rw (← e) (by (sound s) (isWord (s .accord .u) n) (
         cond a
         (cond b (cond c (record { number = 0; sender = after s n; output = four (symbolFor s n) ++ drop 4 o }) (record { number = 8; sender = s; output = o })) (record { number = 4; sender = s; output = o }))
         (record { number = 9; sender = s; output = o })
+
     by : (a b c : Bool) → AlikeWord (gives a b c out) (gives a b c out')
     by true true true = record { number = refl; sender = refl; written = λ _. refl }
     by true true false = record { number = refl; sender = refl; written = λ z. absurd (omega arith) }

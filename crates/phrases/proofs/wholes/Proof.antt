@@ -45,9 +45,12 @@ loop-again c =
     let l = n .before .before .before .before in
     let zs = l .before .before .args .numbers .now in
     let x = getD zs (l .loop .i) (pos 0) in
-    let f : SFits w32 x = record { sfits = n .before .next-whole-arg2 .given } in
-    (omega (arith, n .before .before .before .loop-test .taken), omega (arith, l .loop .inv .1, next-near x (says-next x f (n .next-whole .ensures))), search needs,
-      puts-as (one-whole-more zs (l .loop .i) (n .before .before .before .loop-test .taken)) (joined (omega (arith, l .loop .inv .1)) (l .loop .inv .3) (says-next x f (n .next-whole .ensures))))
+    let f : SFits w32 x = record { sfits = n .before .next-whole-arg2 .given } in (
+      omega (arith, n .before .before .before .loop-test .taken),
+      omega (arith, l .loop .inv .1, next-near x (says-next x f (n .next-whole .ensures))),
+      search needs,
+      puts-as (one-whole-more zs (l .loop .i) (n .before .before .before .loop-test .taken)) (joined (omega (arith, l .loop .inv .1)) (l .loop .inv .3) (says-next x f (n .next-whole .ensures))),
+    )
 
 same-length : tie.Need-same-length Inv-loop μ-loop
 same-length c = search needs

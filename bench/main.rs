@@ -8,6 +8,8 @@
 //!   undecided symbols in up to three words a state, three bits a symbol, and a word put together when it is released.
 //!   In the search a key of distance and number has 64 bits; the library's has 32.
 //! - `fastest`: the same results by the quickest means known that still try every point: see `fast.rs`.
+//!
+//! Then sending: words singly through C, and in lists of 1000, beside plain Rust of the same algorithm (`sender.rs`).
 
 #[path = "fast.rs"]
 mod fast;
@@ -21,9 +23,13 @@ mod reference;
 #[allow(dead_code)]
 mod rng;
 
+#[path = "sender.rs"]
+mod sender;
+
 use fast::{Direct, Keyed, Memory, Planes, Registers, Search};
 
 const WINDOW: u32 = 64;
+const LIST: usize = 1000;
 const NOISE: [(&str, f64); 2] = [("low", 20.0), ("high", 75.0)];
 const PIECES: [usize; 3] = [1, 16, 1000];
 /// Width, and symbols on the line: a run takes some ten milliseconds.
@@ -187,5 +193,48 @@ fn main() {
                 row(u, noise, &line, piece, rounds);
             }
         }
+    }
+    sending(rounds);
+}
+
+/// Words singly and in lists, and the same in plain Rust: nanoseconds a word, the best of all rounds.
+fn sending(rounds: usize) {
+    println!("\nNanoseconds a word, sent singly and in lists of {LIST}, best of {} runs in turn.\n", 20 * rounds);
+    println!("| u | singly | list | plain Rust, list | list / plain | singly / list |");
+    println!("|---|---|---|---|---|---|");
+    for u in [0, 2, 6, 8] {
+        let mut rng = rng::Rng::new(u as u64);
+        let words: Vec<u32> = (0..20 * LIST).map(|_| rng.next() as u32 & ((1 << (3 + 2 * u)) - 1)).collect();
+        let (mut state, mut told) = (vec![0; ffi::sender_words()], [0; 3]);
+        let mut out = vec![vec![0; 4 * words.len()]; 3];
+        let mut best = [f64::MAX; 3];
+        for _ in 0..20 * rounds {
+            let mut time = |n: usize, f: &mut dyn FnMut(&mut [i32])| {
+                let start = clock();
+                f(&mut out[n]);
+                best[n] = best[n].min((clock() - start) * 1e9 / words.len() as f64);
+            };
+            assert_eq!(ffi::sender_open(&mut state, u), 0);
+            time(0, &mut |out| {
+                for (&word, four) in words.iter().zip(out.chunks_mut(4)) {
+                    assert_eq!(ffi::send(&mut state, word, four), 0);
+                }
+            });
+            assert_eq!(ffi::sender_open(&mut state, u), 0);
+            time(1, &mut |out| {
+                for (list, fours) in words.chunks(LIST).zip(out.chunks_mut(4 * LIST)) {
+                    assert_eq!(ffi::send_list(&mut state, list, fours, &mut told), 0);
+                }
+            });
+            let mut plain = sender::Sender::open(u);
+            time(2, &mut |out| {
+                for (list, fours) in words.chunks(LIST).zip(out.chunks_mut(4 * LIST)) {
+                    assert_eq!(plain.send_list(list, fours), (LIST, 0));
+                }
+            });
+        }
+        assert!(out[0] == out[1] && out[1] == out[2], "the points differ: run tests/cross/run");
+        let [one, list, plain] = best;
+        println!("| {u} | {one:.1} | {list:.1} | {plain:.1} | {:.2} | {:.2} |", list / plain, one / list);
     }
 }

@@ -62,8 +62,8 @@
  * TOLD
  *
  * Where a call has a slice `told`, it has at least three places, and the call always writes these three: told[0] how
- * many symbols were taken (0 for a finish), told[1] how many words were written, told[2] the place at fault if the number
- * is 5, else 0. If `told` is shorter the call answers 8 and does nothing.
+ * many symbols were taken (0 for a finish) or words sent, told[1] how many words or coordinates were written, told[2] the
+ * place at fault if the number is 5, else 0. If `told` is shorter the call answers 8 and does nothing.
  *
  * NUMBERS
  *
@@ -133,6 +133,18 @@ uint32_t demfizagu_sender_open(uint64_t *state, size_t state_len, uint32_t u);
  * second.
  */
 uint32_t demfizagu_send(uint64_t *state, size_t state_len, uint32_t word, int32_t *out, size_t out_len);
+
+/*
+ * Sends a list of words, one after the other as demfizagu_send would: the four coordinates of each go to out straight after
+ * those of the words before. Other places of out stay.
+ *
+ * Order: 8 if told is too short (nothing is written), then 9, then word by word 4, 8 (less than four places are left),
+ * stopping at the first word that is refused. Words before it stay sent: told[0] counts them, told[1] the coordinates
+ * written, four for each, and told[2] is 0. The list is to be gone on with at words + told[0]. An empty list to an open
+ * sender is done, with 0 sent.
+ */
+uint32_t demfizagu_send_list(uint64_t *state, size_t state_len, const uint32_t *words, size_t words_len, int32_t *out,
+                             size_t out_len, uint64_t *told, size_t told_len);
 
 /*
  * Opens a receiver of width u that lets at most `window` symbols be pending. `start` 0 to 15 is the sender's state before

@@ -13,6 +13,16 @@ mod c {
         pub fn demfizagu_pending(state: *const u64, state_len: usize) -> u32;
         pub fn demfizagu_sender_open(state: *mut u64, state_len: usize, u: u32) -> u32;
         pub fn demfizagu_send(state: *mut u64, state_len: usize, word: u32, out: *mut i32, out_len: usize) -> u32;
+        pub fn demfizagu_send_list(
+            state: *mut u64,
+            state_len: usize,
+            words: *const u32,
+            words_len: usize,
+            out: *mut i32,
+            out_len: usize,
+            told: *mut u64,
+            told_len: usize,
+        ) -> u32;
         pub fn demfizagu_receiver_open(state: *mut u64, state_len: usize, u: u32, window: u32, start: u32) -> u32;
         pub fn demfizagu_receiver_open_plain(state: *mut u64, state_len: usize, u: u32) -> u32;
         pub fn demfizagu_hear(
@@ -74,6 +84,21 @@ pub fn sender_open(state: &mut [u64], u: u32) -> u32 {
 
 pub fn send(state: &mut [u64], word: u32, out: &mut [i32]) -> u32 {
     unsafe { c::demfizagu_send(state.as_mut_ptr(), state.len(), word, out.as_mut_ptr(), out.len()) }
+}
+
+pub fn send_list(state: &mut [u64], words: &[u32], out: &mut [i32], told: &mut [u64]) -> u32 {
+    unsafe {
+        c::demfizagu_send_list(
+            state.as_mut_ptr(),
+            state.len(),
+            words.as_ptr(),
+            words.len(),
+            out.as_mut_ptr(),
+            out.len(),
+            told.as_mut_ptr(),
+            told.len(),
+        )
+    }
 }
 
 pub fn receiver_open(state: &mut [u64], u: u32, window: u32, start: u32) -> u32 {

@@ -221,7 +221,7 @@ impl<'m> Session<'m> {
     /// A call beside the line: asked at any time, with anything.
     fn careless(&mut self) -> Result<(), String> {
         let r = &mut self.rng;
-        let step = match r.below(14) {
+        let step = match r.below(15) {
             0 => Step::Pending,
             1 => Step::Piece { room: r.below(5) as usize, coordinates: vec![] },
             2 => {
@@ -242,6 +242,12 @@ impl<'m> Session<'m> {
             9 => Step::Short(Short::Opening(r.pick(&[1, 1, 2, 5, 1000]))),
             10 => Step::Short(Short::SampleOut(r.below(3) as usize)),
             11 => Step::WrongEnd,
+            13 => {
+                let (length, low) = (r.below(12) as usize, (1u32 << (3 + 2 * r.below(9))) - 1);
+                let word = |r: &mut Rng| if r.once_in(16) { u32::MAX >> r.below(32) } else { r.next() as u32 & low };
+                let words: Vec<u32> = (0..length).map(|_| word(r)).collect();
+                Step::List { words, room: r.pick(&[0, 3, (4 * length).saturating_sub(1), 4 * length, 4 * length, 4 * length + 2]) }
+            }
             12 => Step::Forged(match r.below(4) {
                 0 => Forgery::Ones,
                 1 => Forgery::Noise { seed: r.next(), tagged: r.once_in(2) },

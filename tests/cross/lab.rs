@@ -81,6 +81,17 @@ impl Lab {
                 let points = if number == 0 { &out[..4] } else { &[] };
                 Some(points.iter().fold(number.to_string(), |line, c| line + &format!(" {c}")))
             }
+            ["list", cap, ref words @ ..] if words.len() <= 1024 => {
+                let mut out = vec![0; cap_of(cap)?];
+                let words = words.iter().map(|w| u32_of(w)).collect::<Option<Vec<u32>>>()?;
+                let (sent, number) = self.sender.send_list(&self.map, &words, &mut out);
+                let mut line = format!("{sent} {number}");
+                if sent > 0 {
+                    line += " :";
+                    out[..4 * sent].iter().for_each(|c| line += &format!(" {c}"));
+                }
+                Some(line)
+            }
             ["receiver", u] => Some(u32_of(u)?).map(|u| self.opened(Receiver::open_plain(u))),
             ["receiver", u, window, "free"] => {
                 let (u, window) = (u32_of(u)?, u32_of(window)?);

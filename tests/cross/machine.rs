@@ -15,6 +15,10 @@ pub enum Step {
         word: u32,
         room: usize,
     },
+    List {
+        words: Vec<u32>,
+        room: usize,
+    },
     Receiver {
         u: u32,
         window: u32,
@@ -174,6 +178,12 @@ fn compare_closed_sender(what: &str, state: &[u64]) -> Result<(), String> {
         same(&format!("{what}: send"), 9, ffi::send(lent.slice(), word, out.slice()))?;
         holds(&format!("{what}: a refused send wrote to its output"), out.rest_stayed(0))?;
     }
+    for (words, room) in [(&[][..], 0), (&[0, 1], 8), (&[u32::MAX], 3)] {
+        let (mut out, mut told) = (Lent::<i32>::new(room), Lent::<u64>::new(4));
+        same(&format!("{what}: list"), 9, ffi::send_list(lent.slice(), words, out.slice(), told.slice()))?;
+        same(&format!("{what}: told of a list"), &[0; 3][..], &told.seen()[..3])?;
+        holds(&format!("{what}: a refused list wrote to its output"), out.rest_stayed(0) && told.rest_stayed(3))?;
+    }
     holds(&format!("{what}: a call on a closed state changed it"), lent.seen() == state)?;
     holds(&format!("{what}: places outside the state changed"), lent.rest_stayed(state.len()))
 }
@@ -215,6 +225,14 @@ fn maybe_open(state: &[u64]) -> Result<Vec<u64>, String> {
     let sent = ffi::send(lent.slice(), 1, points.slice());
     holds("forged state: send wrote beyond four places", points.rest_stayed(if sent == 0 { 4 } else { 0 }))?;
     given.push(sent as u64);
+    let (mut points, mut told) = (Lent::<i32>::new(9), Lent::<u64>::new(3));
+    let listed = ffi::send_list(lent.slice(), &[1, 0, 2, u32::MAX], points.slice(), told.slice());
+    let t = told.seen().to_vec();
+    holds("forged state: a list that is longer than its room", t[0] <= 2 && t[1] == 4 * t[0] && t[2] == 0)?;
+    holds("forged state: a list wrote beyond its coordinates", points.rest_stayed(t[1] as usize) && told.rest_stayed(3))?;
+    holds("forged state: a list is done though it has no room", listed != 0)?;
+    holds("forged state: a word and a list disagree", (sent == 9) == (listed == 9))?;
+    given.extend([listed as u64, t[0], t[1]]);
     holds("forged state: neither end answers though it is open", given[0] != 9 || sent != 9)?;
     holds("places outside a forged state changed", lent.rest_stayed(state.len()))?;
     given.extend(lent.seen());
@@ -246,6 +264,7 @@ impl<'m> Machine<'m> {
         match step {
             Step::Sender { u } => self.open_sender(*u).map(plain),
             Step::Send { word, room } => self.send(*word, *room).map(plain),
+            Step::List { words, room } => self.send_list(words, *room).map(plain),
             Step::Receiver { u, window, start } => self.open_receiver(*u, Some((*window, *start))).map(plain),
             Step::Plain { u } => self.open_receiver(*u, None).map(plain),
             Step::Piece { room, coordinates } => self.hear(*room, coordinates),
@@ -302,6 +321,37 @@ impl<'m> Machine<'m> {
         if number == 9 || number == 4 {
             holds("a refused send changed the state", before == self.sender_state.seen())?;
         }
+        self.states_stayed_inside()?;
+        Ok(number)
+    }
+
+    /// A list in one call, and on copies the same list cut in two calls and, to see the told places, with a `told` too short.
+    fn send_list(&mut self, words: &[u32], room: usize) -> Result<u32, String> {
+        let before = self.sender_state.seen().to_vec();
+        let mut points = Lent::<i32>::marks(room);
+        let (sent, number) = self.sender.send_list(self.map, words, &mut points);
+        for short in 0..3 {
+            let (mut out, mut told) = (Lent::<i32>::new(room), Lent::<u64>::new(short));
+            same("told too short", 8, ffi::send_list(self.sender_state.slice(), words, out.slice(), told.slice()))?;
+            let kept = before == self.sender_state.seen() && out.rest_stayed(0) && told.rest_stayed(0);
+            holds("a list with a short told did something", kept)?;
+        }
+        let (mut out, mut told) = (Lent::<i32>::new(room), Lent::<u64>::new(3));
+        same("number", number, ffi::send_list(self.sender_state.slice(), words, out.slice(), told.slice()))?;
+        same("told", &[sent as u64, 4 * sent as u64, 0][..], told.seen())?;
+        same("points", &points[..], out.seen())?;
+        holds("places outside the output changed", out.rest_stayed(room) && told.rest_stayed(3))?;
+        holds("a list that sent nothing changed the state", sent > 0 || before == self.sender_state.seen())?;
+        let (mut cut, mut out) = (Lent::holding(&before), Lent::<i32>::new(room));
+        let (first, second) = words.split_at(words.len() / 2);
+        let mut last = ffi::send_list(cut.slice(), first, out.slice(), told.slice());
+        let mut done = told.seen()[0] as usize;
+        if last == 0 {
+            last = ffi::send_list(cut.slice(), second, &mut out.slice()[4 * done..], told.slice());
+            done += told.seen()[0] as usize;
+        }
+        same("a list cut in two", (number, sent, &points[..]), (last, done, out.seen()))?;
+        same("the state after a list cut in two", self.sender_state.seen(), cut.seen())?;
         self.states_stayed_inside()?;
         Ok(number)
     }
@@ -466,6 +516,10 @@ impl std::fmt::Display for Step {
         match self {
             Step::Sender { u } => write!(f, "sender {u}"),
             Step::Send { word, room } => write!(f, "send {word} {room}"),
+            Step::List { words, room } => {
+                write!(f, "list {room}")?;
+                words.iter().try_for_each(|w| write!(f, " {w}"))
+            }
             Step::Plain { u } => write!(f, "receiver {u}"),
             Step::Receiver { u, window, start: FREE } => write!(f, "receiver {u} {window} free"),
             Step::Receiver { u, window, start } => write!(f, "receiver {u} {window} at {start}"),

@@ -231,6 +231,40 @@ pub unsafe extern "C" fn demfizagu_send(
 }
 
 #[no_mangle]
+pub unsafe extern "C" fn demfizagu_send_list(
+    state: *mut u64,
+    state_len: usize,
+    words: *const u32,
+    words_len: usize,
+    out: *mut i32,
+    out_len: usize,
+    told: *mut u64,
+    told_len: usize,
+) -> u32 {
+    let (state, words) = (from_raw_parts_mut(state, state_len), from_raw_parts(words, words_len));
+    let (out, told) = (from_raw_parts_mut(out, out_len), from_raw_parts_mut(told, told_len));
+    if told.len() < 3 {
+        return 8;
+    }
+    told[..3].fill(0);
+    let Some(mut s) = load_sender(state) else { return 9 };
+    let (mut sent, mut number) = (0, 0);
+    for &word in words {
+        number = send(&mut s, word, &mut out[4 * sent..]);
+        if number != 0 {
+            break;
+        }
+        sent += 1;
+    }
+    told[0] = sent as u64;
+    told[1] = 4 * sent as u64;
+    if sent > 0 {
+        store_sender(&s, state);
+    }
+    number
+}
+
+#[no_mangle]
 pub unsafe extern "C" fn demfizagu_receiver_open(
     state: *mut u64,
     state_len: usize,

@@ -123,6 +123,20 @@ impl Sender {
         out[..4].copy_from_slice(&[x1, y1, x2, y2]);
         0
     }
+
+    /// The words singly, each after those already written, up to the first that is refused: how many were sent, and why.
+    pub fn send_list(&mut self, map: &Map, words: &[u32], out: &mut [i32]) -> (usize, u32) {
+        if !self.open {
+            return (0, 9);
+        }
+        for (sent, &word) in words.iter().enumerate() {
+            let number = self.send(map, word, &mut out[4 * sent..]);
+            if number != 0 {
+                return (sent, number);
+            }
+        }
+        (words.len(), 0)
+    }
 }
 
 // ---- samples

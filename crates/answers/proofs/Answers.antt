@@ -17,8 +17,8 @@ use Rattle.page.specs.Page.{Puts}
 use Rattle.samples.specs.Given.{GivenSample}
 use Rattle.reasons.specs.Reason.{Reason}
 use Rattle.phrases.specs.Phrase.{decimal, whole, afterSpaces}
-use Rattle.phrases.proofs.Phrases.{decimal-short, whole-short, reason-short, said-short, wholes-short}
-use Rattle.answers.specs.Answer.{numberLine, sentLine, heardLine, pairLine, lineBy, sampleLine}
+use Rattle.phrases.proofs.Phrases.{decimal-short, whole-short, reason-short, said-short, wholes-short, coordinates-short}
+use Rattle.answers.specs.Answer.{numberLine, sentLine, listLine, heardLine, pairLine, lineBy, sampleLine}
 
 pub pair-back : (x y : ℤ) → SFits w32 x → SFits w32 y → pairLine (toZ w32 (ofZ w32 x)) (toZ w32 (ofZ w32 y)) ≡ pairLine x y
 pair-back x y f g = rw (toZ-ofZ w32 x f, toZ-ofZ w32 y g)
@@ -30,6 +30,10 @@ sent-short n out = simp length-append (by (eqb n 0) (leb 4 (length out))) where
   by true true = omega (arith, decimal-short n, wholes-short (take 4 out), length-take 4 out)
   by true false = omega (arith, decimal-short n)
   by false b = omega (arith, decimal-short n)
+
+list-short : (k n : ℕ) (zs : List ℤ) → length (listLine k n zs) ≤ 44 + length zs * 22
+unfolding listLine
+list-short k n zs = simp length-append (omega (arith, decimal-short k, decimal-short n, coordinates-short zs))
 
 heard-short : (n : ℕ) (g : Reason) (ws : List ℕ) → length (heardLine n g ws) ≤ 92 + length ws * 21
 unfolding heardLine
@@ -49,6 +53,9 @@ module _ {page : List ℕ} {at : ℕ} {r : ℕ} {page' : List ℕ} where
 
   pub sent-near : (n : ℕ) (out : List ℤ) → Puts page at (sentLine n out) r page' → r ≤ at + 109
   sent-near n out p = omega (arith, p .next, sent-short n out)
+
+  pub list-near : (k n : ℕ) (zs : List ℤ) → Puts page at (listLine k n zs) r page' → r ≤ at + (44 + length zs * 22)
+  list-near k n zs p = omega (arith, p .next, list-short k n zs)
 
   pub heard-near : (n : ℕ) (g : Reason) (ws : List ℕ) → Puts page at (heardLine n g ws) r page' → r ≤ at + (92 + length ws * 21)
   heard-near n g ws p = omega (arith, p .next, heard-short n g ws)

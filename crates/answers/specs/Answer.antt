@@ -3,11 +3,12 @@
 --   numberLine n      "`N`", which answers an opening, and the count of `pending`
 --   firstFour out     the four coordinates of an output; none where it has fewer places, for then no send is done
 --   sentLine n out    "`N`, then the four coordinates if N is 0"
+--   listLine k n zs   "`SENT N`, and if coordinates were written ` :` and each after a space", which answers a list
 --   heardLine n r ws  "`TAKEN WRITTEN N`", the place and the words, which answers a piece and a finish
 --   pairLine x y, refusedLine p, sampleLine g   "`X Y`, or `5 place P`"
 --   unreadLine        "A line it cannot read answers `?`"
---   answerRoom        what any answer takes at most: three numbers with the spaces between them, a place, the words of an output of
---                     4096, a newline
+--   answerRoom        what any answer takes at most: three numbers with the spaces between them, a place, an output of 4096
+--                     coordinates, a newline
 use Prim.Native.Nat.{ℕ, _+_, _*_}
 use mathlib.Core.Bool.{cond}
 use mathlib.Core.List.{List, [], _++_, map}
@@ -18,7 +19,7 @@ use lib.ListN.{length, take}
 use Rattle.text.specs.Bytes.{bytes}
 use Rattle.samples.specs.Given.{GivenSample}
 use Rattle.reasons.specs.Reason.{Reason}
-use Rattle.phrases.specs.Phrase.{decimal, whole, afterSpaces, placeText, reasonText, saidText}
+use Rattle.phrases.specs.Phrase.{decimal, whole, afterSpaces, placeText, reasonText, saidText, saidWholes}
 
 abbrev pub numberLine : ℕ → List ℕ
 numberLine n = decimal n ++ bytes "\n"
@@ -28,6 +29,9 @@ firstFour out = cond (leb 4 (length out)) (take 4 out) []
 
 unfoldable pub sentLine : ℕ → List ℤ → List ℕ
 sentLine n out = decimal n ++ cond (eqb n 0) (afterSpaces (map whole (firstFour out))) [] ++ bytes "\n"
+
+unfoldable pub listLine : ℕ → ℕ → List ℤ → List ℕ
+listLine k n zs = decimal k ++ bytes " " ++ decimal n ++ saidWholes zs ++ bytes "\n"
 
 unfoldable pub heardLine : ℕ → Reason → List ℕ → List ℕ
 heardLine n r ws = decimal n ++ bytes " " ++ decimal (length ws) ++ bytes " " ++ reasonText r ++ saidText ws ++ bytes "\n"
@@ -49,4 +53,4 @@ abbrev pub unreadLine : List ℕ
 unreadLine = bytes "?\n"
 
 abbrev pub answerRoom : ℕ
-answerRoom = 92 + 4096 * 21
+answerRoom = 92 + 4096 * 22

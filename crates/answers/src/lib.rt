@@ -5,8 +5,8 @@ ghost use Prim.Native.Nat.{_+_, _≤_};
 ghost use lib.ListN.{length};
 ghost use Rattle.page.specs.Page.{Puts};
 ghost use Rattle.reasons.specs.Reason.{givenOf};
-ghost use Rattle.phrases.specs.Phrase.{wordsRoom};
-ghost use Rattle.answers.specs.Answer.{numberLine, sentLine, heardLine, pairLine, refusedLine, unreadLine};
+ghost use Rattle.phrases.specs.Phrase.{wordsRoom, wholesRoom};
+ghost use Rattle.answers.specs.Answer.{numberLine, sentLine, listLine, heardLine, pairLine, refusedLine, unreadLine};
 
 pub fn unread(page: &mut [u8], at: usize) -> usize
     requires { ⌜ at + 2 ≤ length (now page) ⌝ }
@@ -37,6 +37,18 @@ pub fn sent(page: &mut [u8], at: usize, n: u32, out: &[i32]) -> usize
     }
     let p = phrases::next_pair(page, p, out[0], out[1]);
     let p = phrases::next_pair(page, p, out[2], out[3]);
+    phrases::end(page, p)
+}
+
+// How many words of a list were sent, the number, and the coordinates that were written.
+pub fn list(page: &mut [u8], at: usize, sent: usize, n: u32, written: &[i32]) -> usize
+    requires { ⌜ at + 44 + wholesRoom (length (now written)) ≤ length (now page) ⌝ }
+    ensures { λ r. ⌜ Puts (now (page .entry)) at (listLine sent n (now (written .entry))) r (now (page .exit)) ⌝ }
+{
+    let p = page::put_number(page, at, sent as u64);
+    let p = page::put_byte(page, p, b' ');
+    let p = page::put_number(page, p, n as u64);
+    let p = phrases::said_wholes(page, p, written);
     phrases::end(page, p)
 }
 

@@ -3,7 +3,7 @@
 use mathlib.Core.Path.{_≡_, refl, sym, ap, subst, _∙_}
 use mathlib.Core.Bool.{Bool, true, false}
 use mathlib.Core.List.{List, _++_}
-use Prim.Native.Nat.{ℕ, _^_, _≤_, _<_}
+use Prim.Native.Nat.{ℕ, _*_, _^_, _≤_, _<_}
 use native.Mathlib.Omega.{arith}
 use borrow.Author.Tests.{lt-ltb, le-ltb, eq-eqb, ne-eqb}
 use lib.Dec.{eqb, ltb}
@@ -14,8 +14,11 @@ use Rattle.points.specs.declared.Accord.{Accord}
 use Rattle.machine.proofs.Sound.{sound-core}
 use Rattle.sender.specs.declared.Sender.{Sender}
 use Rattle.sender.specs.declared.Sent.{Sent}
+use Rattle.sender.specs.declared.SentList.{SentList}
 use Rattle.sender.specs.Send as sender
+use Rattle.sender.specs.SendList.{GivenList, sendingList}
 use Rattle.sender.specs.Promise as sends
+use Rattle.sender.proofs.Lists.{list-fits, list-kept, list-sound, some-open}
 use Rattle.machine.specs.declared.Receiver.{Receiver}
 use Rattle.machine.specs.Machine.{shut, sound}
 use Rattle.reasons.specs.declared.Why.the-variants.{Closed}
@@ -33,14 +36,14 @@ use Rattle.layout.specs.Layout.{senderLength, senderTag, receiverLength, receiv
 use Rattle.layout.specs.Tagged.{holds}
 use Rattle.stored.specs.State.{senderIn, wordsOfSender, receiverIn, wordsOfReceiver, readSender, readReceiver, SenderStored, ReceiverStored}
 use Rattle.converted.specs.Counts.{toldOf}
-use Rattle.demfizagu.specs.Calls.{pendingIn, senderOpening, receiverOpening, sendCall, callOf, hearCall, finishCall}
-use Rattle.demfizagu.specs.Promise.{Opens, Sends, Answers}
+use Rattle.demfizagu.specs.Calls.{pendingIn, senderOpening, receiverOpening, sendCall, sendListCall, callOf, hearCall, finishCall}
+use Rattle.demfizagu.specs.Promise.{Opens, Sends, SendsList, Answers}
 use Rattle.layout.proofs.Held.{held}
 use Rattle.layout.proofs.Lent.{part-back}
 use Rattle.front.specs.declared.Copied.{Copied}
 use Rattle.front.specs.Words.{copiedIn, FrontStored}
 use Rattle.stored.proofs.Back.{front-stored}
-use Rattle.demfizagu.proofs.Ends.{sender-opening-reads, sending-keeps, sending-reads, receiver-opening-reads, hearing-keeps, hearing-reads, finishing-keeps, finishing-reads}
+use Rattle.demfizagu.proofs.Ends.{sender-opening-reads, sending-keeps, sending-reads, sound-reads, receiver-opening-reads, hearing-keeps, hearing-reads, finishing-keeps, finishing-reads}
 
 differ : false ≡ true → ⊥
 differ e = let z : _≡_ {A = ℕ} 0 1 = cc in omega arith
@@ -134,6 +137,47 @@ module _ (state : List ℕ) (word : ℕ) (out o : List ℤ) (n : ℕ) (r : Sent)
 
   pub sent-long : n ≡ 0 → senderLength ≤ length state
   sent-long h = sender-long state (sent-open (senderIn state) word out (sym (number ∙ is .number) ∙ h))
+
+-- ---- a list of words sent
+
+module _ (state words : List ℕ) (out : List ℤ) (told : List ℕ) where
+  pub list-short : length told < 3 → SendsList (sendListCall state words out told) 8 state out told
+  unfolding sendListCall
+  list-short h = rw (lt-ltb (length told) 3 h) (record { number = refl; state-is = refl; reads = refl; out-is = refl; told-is = refl })
+
+  module _ (enough : 3 ≤ length told) (r : SentList) (o : List ℤ) (is : sends.SendsList (senderIn state) words out r o) where
+    abbrev g : GivenList
+    g = sendingList (senderIn state) words out
+
+    pub list-room : 4 * r .sent ≤ length out
+    list-room = rw (is .sent) (list-fits (senderIn state) words out)
+
+    pub list-long : (r .sent ≡ 0 → ⊥) → senderLength ≤ length state
+    list-long h = sender-long state (some-open (senderIn state) words out (λ z. h (is .sent ∙ z)))
+
+    module _ (n : ℕ) (t : List ℕ) (number : n ≡ sender.numberOf (r .why)) (tells : t ≡ toldOf (r .sent) (4 * r .sent) 0 told) where
+      told-list : t ≡ toldOf (g .sent) (4 * g .sent) 0 told
+      told-list = tells ∙ ap (λ (k : ℕ). toldOf k (4 * k) 0 told) (is .sent)
+
+      pub list-none : r .sent ≡ 0 → SendsList (sendListCall state words out told) n state o t
+      unfolding sendListCall
+      list-none z =
+          let e : g .sent ≡ 0 = sym (is .sent) ∙ z in
+          rw (le-ltb (length told) 3 enough)
+          (record { number = number ∙ is .number; state-is = rw e; reads = sym (list-kept (senderIn state) words out e); out-is = is .output; told-is = told-list })
+
+      pub list-some : (l : List ℕ) → (r .sent ≡ 0 → ⊥) → SenderStored (r .sender) state l → SendsList (sendListCall state words out told) n l o t
+      unfolding sendListCall
+      list-some l h f =
+          let e = is .sent in
+          rw (le-ltb (length told) 3 enough)
+          (record {
+            number = number ∙ is .number;
+            state-is = rw (lt-ltb 0 (g .sent) (omega (arith, e, h))) (f .words ∙ ap (λ (s : Sender). wordsOfSender s ++ drop senderLength state) (is .sender));
+            reads = f .reads ∙ ap readSender (is .sender) ∙ sound-reads (g .sender) (list-sound (senderIn state) words out (some-open (senderIn state) words out (λ z. h (e ∙ z))));
+            out-is = is .output;
+            told-is = told-list;
+          })
 
 -- ---- a piece and a finish
 

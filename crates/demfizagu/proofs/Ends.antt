@@ -55,6 +55,13 @@ module _ (s : Sender) (n : ℕ) (out : List ℤ) where
     go true false c x y z = absurd (let k : _≡_ {A = ℕ} 4 0 = rw (x, y) at h in omega arith)
     go false b c x y z = absurd (let k : _≡_ {A = ℕ} 9 0 = rw x at h in omega arith)
 
+pub sound-reads : (s : Sender) → sender.sound s ≡ true → readSender s ≡ s
+sound-reads s = go (s .live)
+  where
+    go : (b : Bool) → (b && (isAccord (s .accord) && (ltb (s .turn) 4 && ltb (s .state) 16))) ≡ true → cond b s sender.shut ≡ s
+    go true e = refl
+    go false e = absurd (let k : _≡_ {A = ℕ} 0 1 = cc in omega arith)
+
 -- ---- the receiver
 
 live-reads : (rx : Receiver) → rx .live ≡ true → readReceiver rx ≡ rx

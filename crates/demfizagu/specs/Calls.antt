@@ -4,9 +4,10 @@
 -- in converted/specs/Calls.
 --   Opening, senderOpening, receiverOpening    an opening: 8 where the state is too short, else the door's number and its end
 --   Sending, sendCall          a word sent
+--   ListCall, sendListCall     a list of words sent: 8 where `told` is too short
 --   Call, hearCall, finishCall a piece heard, a finish: 8 where `told` is too short, else what the receiver's machine says
 --   pendingIn, openIn          what is pending in a state; 1 if the state is an open end of either kind, else 0
-use Prim.Native.Nat.{ℕ}
+use Prim.Native.Nat.{ℕ, _*_}
 use mathlib.Core.Bool.{Bool, cond, _||_}
 use mathlib.Core.List.{List, _++_}
 use lib.Dec.{eqb, ltb}
@@ -16,6 +17,7 @@ use Rattle.points.specs.declared.Accord.{Accord}
 use Rattle.converted.specs.Counts.{toldOf}
 use Rattle.sender.specs.declared.Sender.{Sender}
 use Rattle.sender.specs.Send as sender
+use Rattle.sender.specs.SendList.{sendingList}
 use Rattle.machine.specs.declared.Receiver.{Receiver}
 use Rattle.machine.specs.Machine as machine
 use Rattle.reasons.specs.Reason.{givenOf}
@@ -66,6 +68,28 @@ sendCall state word out =
       sender = g .sender;
       out = g .output;
     }
+
+-- ---- a list of words sent
+
+pub record ListCall : Type 0 where
+  pub number : ℕ
+  pub state : List ℕ
+  pub sender : Sender
+  pub out : List ℤ
+  pub told : List ℕ
+
+-- told[0] words sent, told[1] coordinates written, told[2] 0; where no word was sent the state stays as it was
+unfoldable pub sendListCall : List ℕ → List ℕ → List ℤ → List ℕ → ListCall
+sendListCall state words out told =
+    let g = sendingList (senderIn state) words out in
+    cond (ltb (length told) 3) (record { number = 8; state = state; sender = senderIn state; out = out; told = told })
+    (record {
+      number = g .number;
+      state = cond (ltb 0 (g .sent)) (wordsOfSender (g .sender) ++ drop senderLength state) state;
+      sender = g .sender;
+      out = g .output;
+      told = toldOf (g .sent) (4 * g .sent) 0 told;
+    })
 
 -- ---- a piece and a finish
 

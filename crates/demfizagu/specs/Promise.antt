@@ -1,7 +1,7 @@
 -- The promises of the exported functions: the number given and all lent memory after the call are those of specs/Calls, for every
 -- input, and the state then reads as the end that the door gave. As each is an equation, any two results are equal.
---   Opens, Sends, Answers    one for each family of functions: openings; sending; hearing and finishing. Those of samples are in
---                            converted/specs/Promise
+--   Opens, Sends, SendsList, Answers   one for each family of functions: openings; a word; a list of words; hearing and finishing. Those
+--                            of samples are in converted/specs/Promise
 --   OpensAs                  what an opening gave, put into a state
 use Prim.Native.Nat.{ℕ}
 use mathlib.Core.Path.{_≡_}
@@ -12,7 +12,7 @@ use Rattle.openings.specs.declared.Start.{Start}
 use Rattle.openings.specs.declared.Opened.{Opened}
 use Rattle.openings.specs.Opening as opening
 use Rattle.stored.specs.State.{senderIn, receiverIn}
-use Rattle.demfizagu.specs.Calls.{Opening, receiverOpening, Sending, Call}
+use Rattle.demfizagu.specs.Calls.{Opening, receiverOpening, Sending, ListCall, Call}
 
 pub record Opens {End : Type 0} (read : List ℕ → End) (c : Opening End) (n : ℕ) (state : List ℕ) : Type 0 where
   pub number : n ≡ c .number
@@ -28,6 +28,13 @@ pub record Sends (c : Sending) (n : ℕ) (state : List ℕ) (out : List ℤ) : T
   pub state-is : state ≡ c .state
   pub reads : senderIn state ≡ c .sender
   pub out-is : out ≡ c .out
+
+pub record SendsList (c : ListCall) (n : ℕ) (state : List ℕ) (out : List ℤ) (told : List ℕ) : Type 0 where
+  pub number : n ≡ c .number
+  pub state-is : state ≡ c .state
+  pub reads : senderIn state ≡ c .sender
+  pub out-is : out ≡ c .out
+  pub told-is : told ≡ c .told
 
 pub record Answers (c : Call) (n : ℕ) (state out told : List ℕ) : Type 0 where
   pub number : n ≡ c .number

@@ -23,8 +23,8 @@ ghost use Rattle.openings.specs.Given.{plainWindow, startAt};
 ghost use Rattle.converted.specs.Counts.{toldOf};
 ghost use Rattle.converted.specs.Calls.{sampleCall, samplesCall};
 ghost use Rattle.converted.specs.Promise.{Samples, Converts};
-ghost use Rattle.demfizagu.specs.Calls.{senderOpening, receiverOpening, sendCall, hearCall, finishCall, pendingIn, openIn};
-ghost use Rattle.demfizagu.specs.Promise.{Opens, OpensAs, Sends, Answers};
+ghost use Rattle.demfizagu.specs.Calls.{senderOpening, receiverOpening, sendCall, sendListCall, hearCall, finishCall, pendingIn, openIn};
+ghost use Rattle.demfizagu.specs.Promise.{Opens, OpensAs, Sends, SendsList, Answers};
 ghost use Rattle.layout.specs.Layout.{senderLength, receiverLength};
 ghost use Rattle.stored.specs.State.{senderIn, receiverIn};
 
@@ -72,6 +72,31 @@ pub extern "C" fn demfizagu_send(state: &mut [u64], word: u32, out: &mut [i32]) 
     let why = a.why;
     let n = sender::number(why);
     if n != 0 {
+        return n;
+    }
+    let s = a.sender;
+    store_sender(s, state);
+    n
+}
+
+// A list of words, word by word up to the first that is refused. The state is written back where a word was sent.
+#[no_mangle]
+pub extern "C" fn demfizagu_send_list(
+    state: &mut [u64],
+    words: &[u32],
+    out: &mut [i32],
+    told: &mut [u64],
+) -> u32
+    ensures { λ r. ⌜ SendsList (sendListCall (now (state .entry)) (now (words .entry)) (now (out .entry)) (now (told .entry))) r (now (state .exit)) (now (out .exit)) (now (told .exit)) ⌝ }
+{
+    if told.len() < 3 {
+        return 8;
+    }
+    let a = sender::send_list(load_sender(state), words, out);
+    let why = a.why;
+    tell(told, a.sent, 4 * a.sent, 0);
+    let n = sender::number(why);
+    if a.sent == 0 {
         return n;
     }
     let s = a.sender;

@@ -1,5 +1,5 @@
 -- Laws of what a request does: what a call gave, made into a desk and an answer, and the request that was read.
-use Prim.Native.Nat.{ℕ, _+_, _≤_}
+use Prim.Native.Nat.{ℕ, _+_, _*_, _≤_}
 use mathlib.Core.Path.{_≡_, refl, sym, ap, subst, _∙_}
 use mathlib.Core.Bool.{Bool, true, false, cond}
 use mathlib.Core.List.{List, [], _∷_, _++_, map}
@@ -18,7 +18,11 @@ use Rattle.samples.specs.declared.Pair.{Pair}
 use Rattle.samples.specs.Given.{sampleGiven}
 use Rattle.samples.specs.Heard.{heardCoordinate, heardBits, bothOrFault, heardSample}
 use Rattle.sender.specs.declared.Sender.{Sender}
-use Rattle.sender.specs.Send.{sound, after, symbolFor, four, sending, Given}
+use Rattle.sender.specs.declared.SentList.{SentList}
+use Rattle.sender.specs.Send.{numberOf, sound, after, symbolFor, four, sending, Given}
+use Rattle.sender.specs.SendList.{sendingList}
+use Rattle.sender.specs.Promise.{SendsList}
+use Rattle.sender.proofs.Lists.{Alike, list-alike, list-fits}
 use Rattle.wei.specs.Word.{isWord}
 use Rattle.reasons.specs.Reason.{givenOf}
 use Rattle.receiver.specs.declared.Answer.{Answer}
@@ -26,10 +30,10 @@ use Rattle.receiver.specs.Doors.{Ran}
 use Rattle.receiver.specs.Promise.{Is}
 use Rattle.desk.specs.declared.Desk.{Desk}
 use Rattle.desk.specs.declared.Done.{Done}
-use Rattle.answers.specs.Answer.{answerRoom, firstFour, sentLine, heardLine, sampleLine}
+use Rattle.answers.specs.Answer.{answerRoom, firstFour, sentLine, listLine, heardLine, sampleLine}
 use Rattle.desk.specs.Room.{Lent, Ready}
 use Rattle.phrases.specs.Phrase.{decimal, whole, afterSpaces}
-use Rattle.desk.specs.Desk.{Result, says, withSender, sendGives, lent, Does, Acts}
+use Rattle.desk.specs.Desk.{Result, says, withSender, sendGives, listGives, lent, Does, Acts}
 use Rattle.phrases.proofs.Phrases.{puts-as}
 
 -- ---- what was done
@@ -46,8 +50,8 @@ does {g} {most} {page} {at} {r} {page'} is d s h p =
     }
 
 -- the request is k
-pub acts : (d : Desk) (cs : List ℤ) {asked k : Request} {page : List ℕ} {at : ℕ} {r : Done} {page' : List ℕ} → asked ≡ k → Acts d k cs page at r page' → Acts d asked cs page at r page'
-acts d cs {page = page} {at = at} {r = r} {page' = page'} e g = subst (λ (a : Request). Acts d a cs page at r page') (sym e) g
+pub acts : (d : Desk) (cs : List ℤ) (ws : List ℕ) {asked k : Request} {page : List ℕ} {at : ℕ} {r : Done} {page' : List ℕ} → asked ≡ k → Acts d k cs ws page at r page' → Acts d asked cs ws page at r page'
+acts d cs ws {page = page} {at = at} {r = r} {page' = page'} e g = subst (λ (a : Request). Acts d a cs ws page at r page') (sym e) g
 
 -- less room is room enough
 pub within : {g : Result} {most : ℕ} {page : List ℕ} {at : ℕ} {r : Done} {page' : List ℕ} → most ≤ answerRoom → Does g most page at r page' → Does g answerRoom page at r page'
@@ -94,6 +98,21 @@ module _ (d : Desk) (s : Sender) (w : ℕ) (out : List ℤ) where
   pub sent-text : {n : ℕ} {o : List ℤ} → n ≡ sending s w out .number → o ≡ sending s w out .output → sentLine n o ≡ sent .text
   sent-text e f = rw (e, f) (ap (λ (g : Result). g .text) same)
 
+-- ---- a list
+
+module _ (d : Desk) (s : Sender) (ns : List ℕ) (out : List ℤ) {r : SentList} {o : List ℤ} (is : SendsList s ns out r o) where
+  alike : Alike (sendingList s ns out) (sendingList s ns (lent (length out)))
+  alike = list-alike s ns out (lent (length out)) (sym (length-replicate (length out) _))
+
+  pub list-desk : withSender d (r .sender) ≡ listGives d (sendingList s ns (lent (length out))) .desk
+  list-desk = ap (withSender d) (is .sender ∙ alike .sender)
+
+  pub list-text : {n : ℕ} → n ≡ numberOf (r .why) → listLine (r .sent) n (take (4 * r .sent) o) ≡ listGives d (sendingList s ns (lent (length out))) .text
+  list-text e = rw (e, is .number, is .sent, is .output, ← alike .number, ← alike .written, ← alike .sent)
+
+  pub list-room : 4 * r .sent ≤ length out
+  list-room = rw (is .sent) (list-fits s ns out)
+
 -- ---- a piece and a finish
 
 module _ {ran : Ran} {out : List ℕ} {a : Answer} {o : List ℕ} (is : Is ran out a o) where
@@ -121,15 +140,15 @@ sizes-of {room} k e f = (subst (Fit room) e f) .sizes
 pub short : (n : ℕ) (words : List ℕ) {m : ℕ} → n ≤ m → length (take n words) ≤ m
 short n words h = rw length-take (omega arith)
 
--- a request that was read into the list of coordinates can be answered, where the page is filled to a quarter at most
-pub ready : {asked : Request} {page : List ℕ} {at : ℕ} (list : List ℤ) {coordinates : List ℤ} {words : List ℕ}
-    → Lent page list words → at ≤ 32768 → length coordinates ≡ length list → Fit (length list) asked → Ready asked page at coordinates words
-ready {asked} list lent h e f =
+-- a request that was read into the lists can be answered, where the page is filled to a quarter at most
+pub ready : {asked : Request} {page : List ℕ} {at : ℕ} (list : List ℤ) (list-words : List ℕ) {coordinates : List ℤ} {words : List ℕ}
+    → Lent page list list-words → at ≤ 32768 → length coordinates ≡ length list → length words ≡ length list-words → Fit (length list) asked → Ready asked page at coordinates words
+ready {asked} list list-words lent h e g f =
     record {
       fit = subst (λ (n : ℕ). Fit n asked) (sym e) f;
       room = omega (arith, lent .page-long);
       coordinates-long = e ∙ lent .coordinates-long;
-      words-long = lent .words-long;
+      words-long = g ∙ lent .words-long;
     }
 
 -- buffers that keep their lengths stay lent

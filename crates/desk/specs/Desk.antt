@@ -4,12 +4,12 @@
 --   Result            a desk and a text
 --   says d t          the desk as it is, and the text t
 --   lent cap          "CAP is the length of the output lent"; what it holds makes no difference
---   senderGives, sendGives, openingGives, ranGives   what a call gives, made into a desk and an answer
+--   senderGives, sendGives, listGives, openingGives, ranGives   what a call gives, made into a desk and an answer
 --   pendingOf rx      "how many symbols the receiver holds undecided; 0 if it is closed"
---   acting d r cs     what the request r does to the desk d, where cs starts with the coordinates of its line
+--   acting d r cs ws  what the request r does to the desk d, where cs starts with the coordinates of its line and ws with its words
 --   Does g most ..    what was done is g: its desk, and its text put into the page, of so many bytes at most
 --   Acts ..           what was done is what the request does
-use Prim.Native.Nat.{ℕ, _+_, _≤_}
+use Prim.Native.Nat.{ℕ, _+_, _*_, _≤_}
 use mathlib.Core.Path.{_≡_}
 use mathlib.Core.Bool.{cond}
 use mathlib.Core.List.{List, []}
@@ -22,6 +22,7 @@ use Rattle.requests.specs.declared.Request.the-variants as request
 use Rattle.samples.specs.Heard.{heardBits, bothOrFault}
 use Rattle.sender.specs.declared.Sender.{Sender}
 use Rattle.sender.specs.Send as sender
+use Rattle.sender.specs.SendList.{GivenList, sendingList}
 use Rattle.machine.specs.declared.Receiver.{Receiver}
 use Rattle.machine.specs.Machine as machine
 use Rattle.reasons.specs.Reason.{givenOf}
@@ -31,7 +32,7 @@ use Rattle.told.specs.Piece.{pieceOf}
 use Rattle.receiver.specs.Doors as receiver
 use Rattle.desk.specs.declared.Desk.{Desk}
 use Rattle.desk.specs.declared.Done.{Done}
-use Rattle.answers.specs.Answer.{answerRoom, numberLine, sentLine, heardLine, sampleLine, unreadLine}
+use Rattle.answers.specs.Answer.{answerRoom, numberLine, sentLine, listLine, heardLine, sampleLine, unreadLine}
 
 abbrev pub closedDesk : Desk
 closedDesk = record { sender = sender.shut; receiver = machine.shut }
@@ -55,6 +56,9 @@ senderGives d g = says (withSender d (g .sender)) (numberLine (g .number))
 abbrev pub sendGives : Desk → sender.Given → Result
 sendGives d g = says (withSender d (g .sender)) (sentLine (g .number) (g .output))
 
+abbrev pub listGives : Desk → GivenList → Result
+listGives d g = says (withSender d (g .sender)) (listLine (g .sent) (g .number) (take (4 * g .sent) (g .output)))
+
 abbrev pub openingGives : Desk → openings.Opening → Result
 openingGives d o = says (withReceiver d (o .receiver)) (numberLine (givenOf (o .why) .number))
 
@@ -67,18 +71,19 @@ lent cap = replicate cap (pos 0)
 abbrev pub pendingOf : Receiver → ℕ
 pendingOf rx = cond (machine.sound rx) (rx .core .pending) 0
 
-unfoldable pub acting : Desk → Request → List ℤ → Result
-acting d request.Nothing cs = says d []
-acting d request.Unread cs = says d unreadLine
-acting d (request.Sender u) cs = senderGives d (sender.opening (ofWidth u))
-acting d (request.Send w cap) cs = sendGives d (sender.sending (d .sender) w (lent cap))
-acting d (request.Plain u) cs = openingGives d (openings.plainOpening (ofWidth u))
-acting d (request.Free u w) cs = openingGives d (openings.opening (ofWidth u) w Free)
-acting d (request.At u w s) cs = openingGives d (openings.opening (ofWidth u) w (At s))
-acting d (request.Piece cap n) cs = ranGives d (receiver.hearing (d .receiver) (pieceOf (take n cs)) cap)
-acting d (request.Finish cap) cs = ranGives d (receiver.finishing (d .receiver) cap)
-acting d (request.Sample x y) cs = says d (sampleLine (bothOrFault (heardBits x) (heardBits y)))
-acting d request.Pending cs = says d (numberLine (pendingOf (d .receiver)))
+unfoldable pub acting : Desk → Request → List ℤ → List ℕ → Result
+acting d request.Nothing cs ws = says d []
+acting d request.Unread cs ws = says d unreadLine
+acting d (request.Sender u) cs ws = senderGives d (sender.opening (ofWidth u))
+acting d (request.Send w cap) cs ws = sendGives d (sender.sending (d .sender) w (lent cap))
+acting d (request.Plain u) cs ws = openingGives d (openings.plainOpening (ofWidth u))
+acting d (request.Free u w) cs ws = openingGives d (openings.opening (ofWidth u) w Free)
+acting d (request.At u w s) cs ws = openingGives d (openings.opening (ofWidth u) w (At s))
+acting d (request.Piece cap n) cs ws = ranGives d (receiver.hearing (d .receiver) (pieceOf (take n cs)) cap)
+acting d (request.Finish cap) cs ws = ranGives d (receiver.finishing (d .receiver) cap)
+acting d (request.Sample x y) cs ws = says d (sampleLine (bothOrFault (heardBits x) (heardBits y)))
+acting d request.Pending cs ws = says d (numberLine (pendingOf (d .receiver)))
+acting d (request.List cap n) cs ws = listGives d (sendingList (d .sender) (take n ws) (lent cap))
 
 -- the last part follows from the one before it; it is stated so that callers find it
 pub record Does (g : Result) (most : ℕ) (page : List ℕ) (at : ℕ) (r : Done) (page' : List ℕ) : Type 0 where
@@ -86,5 +91,5 @@ pub record Does (g : Result) (most : ℕ) (page : List ℕ) (at : ℕ) (r : Done
   pub puts : Puts page at (g .text) (r .at) page'
   pub near : r .at ≤ at + most
 
-abbrev pub Acts : Desk → Request → List ℤ → List ℕ → ℕ → Done → List ℕ → Type 0
-Acts desk asked coordinates page at r page' = Does (acting desk asked coordinates) answerRoom page at r page'
+abbrev pub Acts : Desk → Request → List ℤ → List ℕ → List ℕ → ℕ → Done → List ℕ → Type 0
+Acts desk asked coordinates words page at r page' = Does (acting desk asked coordinates words) answerRoom page at r page'

@@ -40,7 +40,7 @@ pub fn act(
     words: &mut [u32],
 ) -> Done
     requires { ⌜ Ready asked (now page) at (now coordinates) (now words) ⌝ }
-    ensures { λ r. ⌜ Acts desk asked (now (coordinates .entry)) (now (page .entry)) at r (now (page .exit)) ⌝ }
+    ensures { λ r. ⌜ Acts desk asked (now (coordinates .entry)) (now (words .entry)) (now (page .entry)) at r (now (page .exit)) ⌝ }
 {
     match asked {
         Request::Nothing => Done { desk, at },
@@ -58,5 +58,8 @@ pub fn act(
         Request::Finish { cap } => verbs::finish::finish(desk, cap, words, page, at),
         Request::Sample { x, y } => verbs::sample::sample(desk, x, y, page, at),
         Request::Pending => verbs::pending::pending(desk, page, at),
+        Request::List { cap, count } => {
+            verbs::list::list(desk, cap, count, words, coordinates, page, at)
+        }
     }
 }

@@ -17,10 +17,11 @@ use Rattle.points.specs.Points.{coordinates, aPoint}
 use Rattle.points.specs.Turn.{pointOf}
 use Rattle.points.specs.Pair.{firstPoint, secondPoint}
 use Rattle.sender.specs.Send.{opening, sending, after, four}
+use Rattle.sender.specs.SendList.{sendingAll, sendingList}
 use Rattle.machine.specs.Machine.{shut, sound}
 use Rattle.reasons.specs.Reason.{reason}
-use Rattle.phrases.specs.Phrase.{decimal, whole, reasonText, saidText}
-use Rattle.answers.specs.Answer.{numberLine, sentLine, heardLine, sampleLine}
+use Rattle.phrases.specs.Phrase.{decimal, whole, reasonText, saidText, saidWholes}
+use Rattle.answers.specs.Answer.{numberLine, sentLine, listLine, heardLine, sampleLine}
 use Rattle.desk.specs.Desk.{closedDesk, acting}
 use Rattle.lines.specs.Line.{answering}
 use Rattle.stream.specs.Stream.{streaming, lastLine}
@@ -31,6 +32,8 @@ answers =
     ∷ numberLine 18446744073709551615
     ∷ sentLine 0 (negsuc 0 ∷ negsuc 0 ∷ pos 1 ∷ pos 1 ∷ [])
     ∷ sentLine 8 (pos 7 ∷ pos 7 ∷ pos 7 ∷ [])
+    ∷ listLine 1 4 (pos 1 ∷ negsuc 0 ∷ pos 1 ∷ negsuc 0 ∷ [])
+    ∷ listLine 0 0 []
     ∷ heardLine 1 (reason 0) []
     ∷ heardLine 0 (reason 0) (5 ∷ [])
     ∷ heardLine 12 (record { number = 5; place = 3 }) (100 ∷ 20 ∷ [])
@@ -43,18 +46,18 @@ pub examples : answers
     ∷ bytes "18446744073709551615\n"
     ∷ bytes "0 -1 -1 1 1\n"
     ∷ bytes "8\n"
+    ∷ bytes "1 4 : 1 -1 1 -1\n"
+    ∷ bytes "0 0\n"
     ∷ bytes "1 0 0\n"
     ∷ bytes "0 1 0 : 5\n"
     ∷ bytes "12 2 5 place 3 : 100 20\n"
     ∷ bytes "128 -128\n"
     ∷ bytes "5 place 1\n"
     ∷ []
-unfolding decimal whole sentLine reasonText saidText heardLine sampleLine
+unfolding decimal whole sentLine listLine reasonText saidText saidWholes heardLine sampleLine
 examples = refl
 
--- a comment, an empty line, both openings of a sender, a word, and a last line that no newline follows and that lacks its CAP
-pub session : lastLine 65536
-    (streaming 65536 (record { desk = closedDesk; line = []; text = [] }) (bytes "# a comment\n\nsender 9\nsender 0\nsend 5 4\npending\nsample 3F800000 7f800000\nsend 5")) .text
-    ≡ bytes "1\n0\n0 -1 -1 1 1\n0\n5 place 1\n?\n"
-unfolding answering acting requestOf verbOf numberOf hexOf digitOf decimal whole sentLine sampleLine heardBits shut sound opening sending symbolOf after four firstPoint secondPoint lastLabel pointOf aPoint coordinates unpacked nextState secondLabel
+-- a comment, an empty line, both openings of a sender, a word, a list whose last word is none, and a last line that no newline follows and that lacks its CAP
+pub session : lastLine 65536 (streaming 65536 (record { desk = closedDesk; line = []; text = [] }) (bytes "# a comment\n\nsender 9\nsender 0\nsend 5 4\nlist 9 0 2 8\npending\nsample 3F800000 7f800000\nsend 5")) .text ≡ bytes "1\n0\n0 -1 -1 1 1\n2 4 : -1 -1 -1 1 -1 1 -1 1\n0\n5 place 1\n?\n"
+unfolding answering acting requestOf verbOf numberOf hexOf digitOf decimal whole sentLine listLine saidWholes sampleLine heardBits shut sound opening sending sendingAll sendingList symbolOf after four firstPoint secondPoint lastLabel pointOf aPoint coordinates unpacked nextState secondLabel
 session = refl

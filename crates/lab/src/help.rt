@@ -26,6 +26,8 @@ fn verbs(to: i32) -> bool {
 
   sender U                  opens a sender of width U, 0 to 8. Answer: N
   send W CAP                sends word W, below 2^(3+2U), into an output of CAP places. Answer: N, if 0 then x y x y
+  list CAP W W ..           sends words, at most 1024, one after another into an output of CAP places, up to the first refused
+                            Answer: SENT N, and if coordinates were written ` :` and the coordinates
   receiver U                opens a receiver with window 32 and a free start: it may join a live line, and the first
                             word then has bits 1 and 2 zero, for the turn before it is not known. Answer: N
   receiver U WINDOW free    the same with a window of 1 to 64 symbols that may wait undecided

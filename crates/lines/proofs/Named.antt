@@ -1,30 +1,29 @@
--- Laws of a whole line: what the list lent for coordinates held before makes no difference, so a gathered line is answered as its bytes
--- alone say.
+-- Laws of a whole line: what the lists lent for coordinates and words held before makes no difference, so a gathered line is answered
+-- as its bytes alone say.
 use Prim.Native.Nat.{ℕ, suc, zero, _+_, _≤_}
 use mathlib.Core.Path.{_≡_, refl, sym, ap, _∙_}
 use mathlib.Core.Bool.{Bool, true, false, cond}
 use mathlib.Core.List.{List, [], _∷_, _++_}
 use native.Mathlib.Omega.{arith}
 use borrow.Author.Tests.{lt-ltb, le-ltb}
-use lib.Dec.{eqb}
+use lib.Dec.{eqb, leb}
 use lib.IntN.{ℤ}
 use lib.ListN.{length, take, drop, length-take}
 use lib.Seq.{take-at, take-all}
 use Rattle.text.specs.Bytes.{bytes}
 use Rattle.page.specs.Page.{Puts}
 use Rattle.text.specs.Token.{tokens, sameBytes}
-use Rattle.text.specs.Number.{wholeOf, hexOf}
-use Rattle.wholes.specs.Many.{firstWholes, manyOf, before, oneMore}
+use Rattle.text.specs.Number.{hexOf}
+use Rattle.wholes.specs.Many.{wholeIn, numberIn, firstOf, manyOf}
+use Rattle.wholes.proofs.Lists.{counted}
 use Rattle.text.specs.declared.number.Number.{Number}
 use Rattle.text.specs.declared.number.Number.the-variants as number
-use Rattle.text.specs.declared.number.Whole.{Whole}
-use Rattle.text.specs.declared.number.Whole.the-variants as whole
 use Rattle.wholes.specs.declared.Many.{Many}
 use Rattle.wholes.specs.declared.Many.the-variants as many
 use Rattle.requests.specs.declared.Request.{Request}
 use Rattle.requests.specs.declared.Request.the-variants as request
-use Rattle.requests.specs.Verb.{just, both, one, two, anyNumber, capNumber, senderOf, finishOf, sendOf, sampleOf, startOf, windowOf, openOf, receiverOf, heardOf, pieceOf, filledBy}
-use Rattle.protocol.specs.Request.{senderVerb, receiverVerb, finishVerb, sampleVerb, sendVerb, verbOf, pendingAlone, lineOf, requestOf, lineFills, coordinatesOf, Reads}
+use Rattle.requests.specs.Verb.{just, both, one, two, anyNumber, capNumber, senderOf, finishOf, sendOf, sampleOf, startOf, windowOf, openOf, receiverOf, heardOf, pieceOf, sentOf, listOf, filledBy}
+use Rattle.protocol.specs.Request.{senderVerb, receiverVerb, finishVerb, sampleVerb, sendVerb, pieceVerb, verbOf, pendingAlone, lineOf, requestOf, pieceOnly, lineFills, wordFills, coordinatesOf, wordsOf, Reads}
 use Rattle.desk.specs.declared.Desk.{Desk}
 use Rattle.lines.specs.declared.Lab.{Lab}
 use Rattle.lines.specs.declared.Part.{Part}
@@ -33,26 +32,16 @@ use Rattle.desk.specs.Desk.{Result, says, acting}
 use Rattle.lines.specs.Line.{Gathered, noPart, named, answering, Replies}
 use Rattle.phrases.proofs.Phrases.{puts-as}
 
--- ---- coordinates
-
--- as many as are counted
-counted : (room : ℕ) (ts : List (List ℕ)) {n : ℕ} → manyOf room ts ≡ many.Got n → length (firstWholes room ts) ≡ n
-counted room [] {n} e = let z : 0 ≡ n = cc in z
-counted zero (t ∷ ts) {n} e = let z : _≡_ {A = ℕ} 0 1 = cc in absurd (omega arith)
-counted (suc room) (t ∷ ts) {n} e = by (wholeOf t) (manyOf room ts) (λ k f. counted room ts f) e where
-  by : (w : Whole) (m : Many) → ((k : ℕ) → m ≡ many.Got k → length (firstWholes room ts) ≡ k) → oneMore w m ≡ many.Got n → length (before w (firstWholes room ts)) ≡ n
-  by (whole.Got z) (many.Got k) f g = let is : 1 + k ≡ n = cc in omega (arith, f k refl)
-  by (whole.Got z) many.Bad f g = let z : _≡_ {A = ℕ} 0 1 = cc in absurd (omega arith)
-  by whole.Bad m f g = let z : _≡_ {A = ℕ} 0 1 = cc in absurd (omega arith)
+-- ---- coordinates and words
 
 module _ (d : Desk) where
-  -- the coordinates make no difference
+  -- the coordinates and words make no difference
   abbrev Same : Request → Type 0
-  Same k = (cs cs' : List ℤ) → acting d k cs ≡ acting d k cs'
+  Same k = (cs cs' : List ℤ) (ws ws' : List ℕ) → acting d k cs ws ≡ acting d k cs' ws'
 
   unread-same : Same request.Unread
   unfolding acting
-  unread-same cs cs' = refl
+  unread-same cs cs' ws ws' = refl
 
   just-same : (f : ℕ → Request) → ((n : ℕ) → Same (f n)) → (o : Number) → Same (just f o)
   just-same f h (number.Got n) = h n
@@ -77,53 +66,71 @@ module _ (d : Desk) where
 
   sender-same : (ts : List (List ℕ)) → Same (senderOf ts)
   unfolding acting
-  sender-same ts = one-same _ (λ u. just-same _ (λ n cs cs'. refl) (anyNumber u)) ts
+  sender-same ts = one-same _ (λ u. just-same _ (λ n cs cs' ws ws'. refl) (anyNumber u)) ts
 
   finish-same : (ts : List (List ℕ)) → Same (finishOf ts)
   unfolding acting
-  finish-same ts = one-same _ (λ c. just-same _ (λ n cs cs'. refl) (capNumber c)) ts
+  finish-same ts = one-same _ (λ c. just-same _ (λ n cs cs' ws ws'. refl) (capNumber c)) ts
 
   send-same : (ts : List (List ℕ)) → Same (sendOf ts)
   unfolding acting
-  send-same ts = two-same _ (λ w c. both-same _ (λ m n cs cs'. refl) (anyNumber w) (capNumber c)) ts
+  send-same ts = two-same _ (λ w c. both-same _ (λ m n cs cs' ws ws'. refl) (anyNumber w) (capNumber c)) ts
 
   sample-same : (ts : List (List ℕ)) → Same (sampleOf ts)
   unfolding acting
-  sample-same ts = two-same _ (λ x y. both-same _ (λ m n cs cs'. refl) (hexOf x) (hexOf y)) ts
+  sample-same ts = two-same _ (λ x y. both-same _ (λ m n cs cs' ws ws'. refl) (hexOf x) (hexOf y)) ts
 
   start-same : (u w : ℕ) (ts : List (List ℕ)) → Same (startOf u w ts)
   unfolding acting
-  start-same u w [] = λ cs cs'. refl
-  start-same u w (f ∷ []) = cond-same (sameBytes f (bytes "free")) _ _ (λ cs cs'. refl) (λ cs cs'. refl)
-  start-same u w (a ∷ s ∷ ts) = cond-same (sameBytes a (bytes "at")) _ _ (one-same _ (λ s. just-same _ (λ n cs cs'. refl) (anyNumber s)) (s ∷ ts)) (λ cs cs'. refl)
+  start-same u w [] = λ cs cs' ws ws'. refl
+  start-same u w (f ∷ []) = cond-same (sameBytes f (bytes "free")) _ _ (λ cs cs' ws ws'. refl) (λ cs cs' ws ws'. refl)
+  start-same u w (a ∷ s ∷ ts) = cond-same (sameBytes a (bytes "at")) _ _ (one-same _ (λ s. just-same _ (λ n cs cs' ws ws'. refl) (anyNumber s)) (s ∷ ts)) (λ cs cs' ws ws'. refl)
 
   receiver-same : (ts : List (List ℕ)) → Same (receiverOf ts)
   unfolding acting
-  receiver-same [] = λ cs cs'. refl
+  receiver-same [] = λ cs cs' ws ws'. refl
   receiver-same (t ∷ ts) = by (anyNumber t) ts where
     window : (u : ℕ) (o : Number) (ts : List (List ℕ)) → Same (windowOf u o ts)
     window u (number.Got w) ts = start-same u w ts
-    window u number.Bad ts = λ cs cs'. refl
+    window u number.Bad ts = λ cs cs' ws ws'. refl
 
     by : (o : Number) (ts : List (List ℕ)) → Same (openOf o ts)
-    by number.Bad ts = λ cs cs'. refl
-    by (number.Got u) [] = λ cs cs'. refl
+    by number.Bad ts = λ cs cs' ws ws'. refl
+    by (number.Got u) [] = λ cs cs' ws ws'. refl
     by (number.Got u) (w ∷ ts) = window u (anyNumber w) ts
 
   -- a piece
-  piece-named : (o : Number) (ts : List (List ℕ)) (list : List ℤ)
-      → acting d (heardOf o (manyOf (length list) ts)) (filledBy o ts list) ≡ acting d (heardOf o (manyOf (length list) ts)) (firstWholes (length list) ts)
+  piece-named : (o : Number) (ts : List (List ℕ)) (list : List ℤ) (ws ws' : List ℕ)
+      → acting d (heardOf o (manyOf wholeIn (length list) ts)) (filledBy wholeIn o ts list) ws ≡ acting d (heardOf o (manyOf wholeIn (length list) ts)) (firstOf wholeIn (length list) ts) ws'
   unfolding acting
-  piece-named number.Bad ts list = refl
-  piece-named (number.Got c) ts list = by (manyOf (length list) ts) refl where
+  piece-named number.Bad ts list ws ws' = refl
+  piece-named (number.Got c) ts list ws ws' = by (manyOf wholeIn (length list) ts) refl where
     fs : List ℤ
-    fs = firstWholes (length list) ts
+    fs = firstOf wholeIn (length list) ts
 
-    by : (m : Many) → manyOf (length list) ts ≡ m → acting d (heardOf (number.Got c) m) (fs ++ drop (length fs) list) ≡ acting d (heardOf (number.Got c) m) fs
+    by : (m : Many) → manyOf wholeIn (length list) ts ≡ m → acting d (heardOf (number.Got c) m) (fs ++ drop (length fs) list) ws ≡ acting d (heardOf (number.Got c) m) fs ws'
     by many.Bad e = refl
     by (many.Got n) e =
-        let long : length fs ≡ n = counted (length list) ts e in
+        let long : length fs ≡ n = counted wholeIn (length list) ts e in
         rw (take-at fs (drop (length fs) list) n long, take-all n fs (omega arith))
+
+  -- a list
+  list-named : (o : Number) (ts : List (List ℕ)) (words : List ℕ) (cs cs' : List ℤ)
+      → acting d (sentOf o (manyOf numberIn (length words) ts)) cs (filledBy numberIn o ts words) ≡ acting d (sentOf o (manyOf numberIn (length words) ts)) cs' (firstOf numberIn (length words) ts)
+  unfolding acting
+  list-named number.Bad ts words cs cs' = refl
+  list-named (number.Got c) ts words cs cs' = by (manyOf numberIn (length words) ts) refl where
+    fs : List ℕ
+    fs = firstOf numberIn (length words) ts
+
+    by : (m : Many) → manyOf numberIn (length words) ts ≡ m → acting d (sentOf (number.Got c) m) cs (fs ++ drop (length fs) words) ≡ acting d (sentOf (number.Got c) m) cs' fs
+    by many.Bad e = refl
+    by (many.Got n) e = few (leb n 1024) where
+      few : (b : Bool) → acting d (cond b (request.List c n) request.Unread) cs (fs ++ drop (length fs) words) ≡ acting d (cond b (request.List c n) request.Unread) cs' fs
+      few true =
+          let long : length fs ≡ n = counted numberIn (length words) ts e in
+          rw (take-at fs (drop (length fs) words) n long, take-all n fs (omega arith))
+      few false = refl
 
   sender-verb : (v : List ℕ) (ts : List (List ℕ)) → Same (senderVerb v ts)
   sender-verb v ts = cond-same (sameBytes v (bytes "sender")) _ _ (sender-same ts) unread-same
@@ -142,28 +149,40 @@ module _ (d : Desk) where
 
   pending-alone : (v : List ℕ) → Same (pendingAlone v)
   unfolding acting
-  pending-alone v = cond-same (sameBytes v (bytes "pending")) _ _ (λ cs cs'. refl) unread-same
+  pending-alone v = cond-same (sameBytes v (bytes "pending")) _ _ (λ cs cs' ws ws'. refl) unread-same
 
-  line-named : (ts : List (List ℕ)) (list : List ℤ) → acting d (lineOf (length list) ts) (lineFills ts list) ≡ acting d (lineOf (length list) ts) (firstWholes (length list) (drop 2 ts))
-  unfolding acting verbOf
-  line-named [] list = refl
-  line-named (v ∷ []) list = pending-alone v _ _
-  line-named (v ∷ t ∷ ts) list = by (sameBytes v (bytes "piece")) where
-    by : (b : Bool) →
-        acting d (cond b (pieceOf (length list) (t ∷ ts)) (sendVerb v (t ∷ ts))) (cond b (filledBy (capNumber t) ts list) list)
-        ≡ acting d (cond b (pieceOf (length list) (t ∷ ts)) (sendVerb v (t ∷ ts))) (firstWholes (length list) ts)
-    by true = piece-named (capNumber t) ts list
-    by false = send-verb v (t ∷ ts) _ _
+  module _ (list : List ℤ) (words : List ℕ) where
+    abbrev room : ℕ
+    room = length list
 
-  pub read-named : (s : List ℕ) (list : List ℤ) → length list ≡ 4096 → acting d (requestOf (length list) s) (coordinatesOf s list) ≡ acting d (requestOf 4096 s) (named s)
-  unfolding acting requestOf coordinatesOf
-  read-named [] list h = refl
-  read-named (b ∷ s) list h = rw (← h) (by (eqb b 35)) where
-    by : (t : Bool) →
-        acting d (cond t request.Nothing (lineOf (length list) (tokens (b ∷ s)))) (cond t list (lineFills (tokens (b ∷ s)) list))
-        ≡ acting d (cond t request.Nothing (lineOf (length list) (tokens (b ∷ s)))) (firstWholes (length list) (drop 2 (tokens (b ∷ s))))
-    by true = refl
-    by false = line-named (tokens (b ∷ s)) list
+    abbrev many-words : ℕ
+    many-words = length words
+
+    -- a verb after `list`
+    other-named : (v t : List ℕ) (ts : List (List ℕ)) (ws ws' : List ℕ) → acting d (pieceVerb room v (t ∷ ts)) (pieceOnly v (t ∷ ts) list) ws ≡ acting d (pieceVerb room v (t ∷ ts)) (firstOf wholeIn room ts) ws'
+    other-named v t ts ws ws' = by (sameBytes v (bytes "piece")) where
+      by : (b : Bool) → acting d (cond b (pieceOf room (t ∷ ts)) (sendVerb v (t ∷ ts))) (cond b (filledBy wholeIn (capNumber t) ts list) list) ws ≡ acting d (cond b (pieceOf room (t ∷ ts)) (sendVerb v (t ∷ ts))) (firstOf wholeIn room ts) ws'
+      by true = piece-named (capNumber t) ts list ws ws'
+      by false = send-verb v (t ∷ ts) _ _ _ _
+
+    line-named : (ts : List (List ℕ)) → acting d (lineOf room many-words ts) (lineFills ts list) (wordFills ts words) ≡ acting d (lineOf room many-words ts) (firstOf wholeIn room (drop 2 ts)) (firstOf numberIn many-words (drop 2 ts))
+    unfolding acting verbOf
+    line-named [] = refl
+    line-named (v ∷ []) = pending-alone v _ _ _ _
+    line-named (v ∷ t ∷ ts) = by (sameBytes v (bytes "list")) where
+      by : (b : Bool) → acting d (cond b (listOf many-words (t ∷ ts)) (pieceVerb room v (t ∷ ts))) (cond b list (pieceOnly v (t ∷ ts) list)) (cond b (filledBy numberIn (capNumber t) ts words) words)
+          ≡ acting d (cond b (listOf many-words (t ∷ ts)) (pieceVerb room v (t ∷ ts))) (firstOf wholeIn room ts) (firstOf numberIn many-words ts)
+      by true = list-named (capNumber t) ts words _ _
+      by false = other-named v t ts _ _
+
+    pub read-named : (s : List ℕ) → room ≡ 4096 → many-words ≡ 4096 → acting d (requestOf room many-words s) (coordinatesOf s list) (wordsOf s words) ≡ acting d (requestOf 4096 4096 s) (named wholeIn s) (named numberIn s)
+    unfolding acting requestOf coordinatesOf wordsOf
+    read-named [] h k = refl
+    read-named (b ∷ s) h k = by (eqb b 35) where
+      by : (t : Bool) → acting d (cond t request.Nothing (lineOf room many-words (tokens (b ∷ s)))) (cond t list (lineFills (tokens (b ∷ s)) list)) (cond t words (wordFills (tokens (b ∷ s)) words))
+          ≡ acting d (cond t request.Nothing (lineOf 4096 4096 (tokens (b ∷ s)))) (firstOf wholeIn 4096 (drop 2 (tokens (b ∷ s)))) (firstOf numberIn 4096 (drop 2 (tokens (b ∷ s))))
+      by true = refl
+      by false = line-named (tokens (b ∷ s)) ∙ (λ i. acting d (lineOf (h i) (k i) (tokens (b ∷ s))) (firstOf wholeIn (h i) (drop 2 (tokens (b ∷ s)))) (firstOf numberIn (k i) (drop 2 (tokens (b ∷ s)))))
 
 -- ---- a gathered line
 
@@ -172,14 +191,13 @@ module _ {line : List ℕ} {part : Part} {s : List ℕ} (g : Gathered line part 
   unfolding answering
   long-answered e = sym (rw (lt-ltb (length line) (length s) (g .too-long e)))
 
-  pub line-answered : {list list' : List ℤ} {asked : Request} → part .long ≡ false → length list ≡ 4096 → Reads (take (part .held) line) list asked list'
-      → acting d asked list' ≡ answering (length line) d s
+  pub line-answered : {list list' : List ℤ} {words words' : List ℕ} {asked : Request} → part .long ≡ false → length list ≡ 4096 → length words ≡ 4096 → Reads (take (part .held) line) list words asked list' words'
+      → acting d asked list' words' ≡ answering (length line) d s
   unfolding answering
-  line-answered {list} {list'} f h r =
+  line-answered {list} {list'} {words} {words'} f h k r =
       let few : length s ≤ length line = omega (arith, ap length (g .kept f), length-take (part .held) line) in
-      ap (λ (k : Request). acting d k list') (r .is)
-      ∙ ap (λ (l : List ℤ). acting d (requestOf (length list) (take (part .held) line)) l) (r .fills)
-      ∙ rw (g .kept f, le-ltb (length line) (length s) few) (read-named d s list h)
+      (λ i. acting d (r .is i) (r .fills i) (r .puts i))
+      ∙ rw (g .kept f, le-ltb (length line) (length s) few) (read-named d list words s h k)
 
 pub replied : {g g' : Result} {lab : Lab} {page : List ℕ} {r : Lab} {page' : List ℕ} → r .desk ≡ g .desk → Puts page (lab .at) (g .text) (r .at) page' → g ≡ g'
     → r .part ≡ noPart → r .on ≡ lab .on → Replies g' lab page r page'

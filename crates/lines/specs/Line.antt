@@ -2,7 +2,7 @@
 --   Gathered line part s   the buffer `line` and the record `part` stand for the bytes s since the last newline: all of them at the
 --                          start of the buffer, or only that they are too many
 --   noPart                 no bytes so far
---   named s                the coordinates that a line names: those after its verb and its cap
+--   named p s              the numbers that a line names: those after its verb and its cap, as p reads them
 --   answering most d s     what the line s does to the desk d: "A line has at most 65,536 bytes before its newline; a longer one answers
 --                          `?` once (a comment too)"; most is as many as the buffer has
 --   Replies g ..           what was done is g: its desk, and its text put into the page; no bytes of the next line are there yet
@@ -11,10 +11,10 @@ use mathlib.Core.Path.{_≡_}
 use mathlib.Core.Bool.{true, false, cond}
 use mathlib.Core.List.{List}
 use lib.Dec.{ltb}
-use lib.IntN.{ℤ}
+use mathlib.Core.Option.{Option}
 use lib.ListN.{length, take, drop}
 use Rattle.text.specs.Token.{tokens}
-use Rattle.wholes.specs.Many.{firstWholes}
+use Rattle.wholes.specs.Many.{wholeIn, numberIn, firstOf}
 use Rattle.page.specs.Page.{Puts}
 use Rattle.protocol.specs.Request.{requestOf}
 use Rattle.desk.specs.declared.Desk.{Desk}
@@ -30,11 +30,11 @@ pub record Gathered (line : List ℕ) (part : Part) (s : List ℕ) : Type 0 wher
 abbrev pub noPart : Part
 noPart = record { held = 0; long = false }
 
-abbrev pub named : List ℕ → List ℤ
-named s = firstWholes 4096 (drop 2 (tokens s))
+abbrev pub named : {A : Type 0} → (List ℕ → Option A) → List ℕ → List A
+named p s = firstOf p 4096 (drop 2 (tokens s))
 
 unfoldable pub answering : ℕ → Desk → List ℕ → Result
-answering most d s = cond (ltb most (length s)) (says d unreadLine) (acting d (requestOf 4096 s) (named s))
+answering most d s = cond (ltb most (length s)) (says d unreadLine) (acting d (requestOf 4096 4096 s) (named wholeIn s) (named numberIn s))
 
 pub record Replies (g : Result) (lab : Lab) (page : List ℕ) (r : Lab) (page' : List ℕ) : Type 0 where
   pub desk : r .desk ≡ g .desk

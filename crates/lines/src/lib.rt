@@ -80,7 +80,7 @@ pub fn reply(
         };
     }
     let held = part.held;
-    let asked = protocol::read(&line[..held], coordinates);
+    let asked = protocol::read(&line[..held], coordinates, words);
     let done = desk::act(desk, asked, page, at, coordinates, words);
     let next = done.desk;
     Lab {

@@ -19,7 +19,7 @@ use Rattle.text.specs.Bytes.{bytes}
 use Rattle.page.specs.Page.{Puts, Numeral, PutsNumber, PutsWhole, signText}
 use Rattle.page.proofs.Pages.{few}
 use Rattle.reasons.specs.Reason.{Reason}
-use Rattle.phrases.specs.Phrase.{decimalIn, decimal, whole, afterSpaces, placeText, reasonText, saidText}
+use Rattle.phrases.specs.Phrase.{decimalIn, decimal, whole, afterSpaces, placeText, reasonText, saidText, saidWholes}
 
 -- ---- numbers
 
@@ -106,6 +106,11 @@ pub wholes-short : (zs : List ℤ) → length (afterSpaces (map whole zs)) ≤ l
 wholes-short [] = omega arith
 wholes-short (z ∷ zs) = rw length-append (omega (arith, wholes-short zs, whole-short z))
 
+pub coordinates-short : (zs : List ℤ) → length (saidWholes zs) ≤ 2 + length zs * 22
+unfolding saidWholes
+coordinates-short [] = omega arith
+coordinates-short (z ∷ zs) = omega (arith, wholes-short (z ∷ zs))
+
 -- the place after each part
 module _ {page : List ℕ} {at : ℕ} {r : ℕ} {page' : List ℕ} where
   pub next-near : (x : ℤ) → Puts page at (bytes " " ++ whole x) r page' → r ≤ at + 22
@@ -122,6 +127,9 @@ module _ {page : List ℕ} {at : ℕ} {r : ℕ} {page' : List ℕ} where
 
   pub said-near : (ws : List ℕ) → Puts page at (saidText ws) r page' → r ≤ at + 2 + length ws * 21
   said-near ws p = omega (arith, p .next, said-short ws)
+
+  pub coordinates-near : (zs : List ℤ) → Puts page at (saidWholes zs) r page' → r ≤ at + 2 + length zs * 22
+  coordinates-near zs p = omega (arith, p .next, coordinates-short zs)
 
 -- ---- parts of a line
 
@@ -161,3 +169,21 @@ module _ (g : Reason) (n : ℕ) (is : n ≡ g .number) where
   pub with-place : (p : ℕ) → n ≡ 5 → p ≡ g .place → decimal n ++ placeText p ≡ reasonText g
   unfolding reasonText
   with-place p h e = sym (rw (← is, ← e, eq-eqb n 5 h))
+
+-- ---- coordinates, in the same way
+
+pub one-whole-more : (zs : List ℤ) (i : ℕ) → i < length zs → afterSpaces (map whole (take i zs)) ++ (bytes " " ++ whole (getD zs i (pos 0))) ≡ afterSpaces (map whole (take (i + 1) zs))
+one-whole-more zs i h = sym (rw (add-one, take-suc zs i (pos 0) h, map-append whole (take i zs), spaces-snoc) (append-assoc (afterSpaces (map whole (take i zs))) (32 ∷ []) (whole (getD zs i (pos 0)))))
+
+pub all-wholes : (zs : List ℤ) (i : ℕ) → length zs ≤ i → afterSpaces (map whole (take i zs)) ≡ afterSpaces (map whole zs)
+all-wholes zs i h = rw (take-all i zs h)
+
+pub some-coordinates : (zs : List ℤ) → (length zs ≡ 0 → ⊥) → bytes " :" ++ afterSpaces (map whole zs) ≡ saidWholes zs
+unfolding saidWholes
+some-coordinates [] h = absurd (h refl)
+some-coordinates (z ∷ zs) h = refl
+
+pub no-coordinates : (zs : List ℤ) → length zs ≡ 0 → [] ≡ saidWholes zs
+unfolding saidWholes
+no-coordinates [] h = refl
+no-coordinates (z ∷ zs) h = absurd (omega arith)

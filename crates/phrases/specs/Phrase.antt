@@ -5,7 +5,9 @@
 --   placeText p       "` place P`"
 --   reasonText r      "`N`, for a 5 also ` place P`"
 --   saidText ws       "if words were written ` :` and each word after a space"
+--   saidWholes zs     the same of coordinates
 --   wordsRoom n       what n words take at most: a space and twenty digits each
+--   wholesRoom n      what n whole numbers take at most: a space, a minus and twenty digits each
 use Prim.Native.Nat.{ℕ, zero, suc, _+_, _*_, _/_, _%_}
 use mathlib.Core.Bool.{cond}
 use mathlib.Core.List.{List, [], _∷_, _++_, map}
@@ -39,6 +41,13 @@ reasonText r = decimal (r .number) ++ cond (eqb (r .number) 5) (placeText (r .pl
 unfoldable pub saidText : List ℕ → List ℕ
 saidText [] = []
 saidText (w ∷ ws) = bytes " :" ++ afterSpaces (map decimal (w ∷ ws))
+
+unfoldable pub saidWholes : List ℤ → List ℕ
+saidWholes [] = []
+saidWholes (z ∷ zs) = bytes " :" ++ afterSpaces (map whole (z ∷ zs))
+
+abbrev pub wholesRoom : ℕ → ℕ
+wholesRoom n = n * 22
 
 abbrev pub wordsRoom : ℕ → ℕ
 wordsRoom n = n * 21

@@ -8,7 +8,7 @@ ghost use lib.ListN.{length};
 ghost use Rattle.text.specs.Bytes.{bytes};
 ghost use Rattle.page.specs.Page.{Puts};
 ghost use Rattle.reasons.specs.Reason.{givenOf};
-ghost use Rattle.phrases.specs.Phrase.{decimal, whole, afterSpaces, placeText, reasonText, saidText, wordsRoom};
+ghost use Rattle.phrases.specs.Phrase.{decimal, whole, afterSpaces, placeText, reasonText, saidText, saidWholes, wordsRoom, wholesRoom};
 
 pub fn end(page: &mut [u8], at: usize) -> usize
     requires { ⌜ at + 1 ≤ length (now page) ⌝ }
@@ -98,4 +98,30 @@ pub fn said(page: &mut [u8], at: usize, written: &[u32]) -> usize
     }
     let p = page::put_text(page, at, b" :");
     words(page, p, written)
+}
+
+// A space and a whole number, for each of the numbers.
+pub fn wholes(page: &mut [u8], at: usize, numbers: &[i32]) -> usize
+    requires { ⌜ at + wholesRoom (length (now numbers)) ≤ length (now page) ⌝ }
+    ensures { λ r. ⌜ Puts (now (page .entry)) at (afterSpaces (map whole (now (numbers .entry)))) r (now (page .exit)) ⌝ }
+{
+    let mut p = at;
+    let mut i = 0;
+    while i < numbers.len() {
+        p = next_whole(page, p, numbers[i]);
+        i += 1;
+    }
+    p
+}
+
+// The coordinates that were written, if any.
+pub fn said_wholes(page: &mut [u8], at: usize, written: &[i32]) -> usize
+    requires { ⌜ at + 2 + wholesRoom (length (now written)) ≤ length (now page) ⌝ }
+    ensures { λ r. ⌜ Puts (now (page .entry)) at (saidWholes (now (written .entry))) r (now (page .exit)) ⌝ }
+{
+    if written.len() == 0 {
+        return at;
+    }
+    let p = page::put_text(page, at, b" :");
+    wholes(page, p, written)
 }

@@ -33,9 +33,10 @@ use Rattle.trellis.specs.Clean.{Hits, Exact}
 use Rattle.nearest.specs.declared.Received.{Received}
 use Rattle.nearest.specs.Line.{onLine, difference, square, distance, lineDistance, lineMeasure}
 use Rattle.sender.specs.declared.Sender.{Sender}
-use Rattle.sender.specs.Send.{after, four}
+use Rattle.sender.specs.Send.{after, four, opening}
 use Rattle.sender.specs.Run as sender
-use Rattle.sender.proofs.Exactly.{one, done, refused-keeps, opened-with}
+use Rattle.sender.proofs.Exactly.{one}
+use Rattle.sender.proofs.Run.{along}
 use Rattle.told.specs.Piece.{symbolsOf}
 use Rattle.promises.specs.Clean.{allOnLine, heardAt, heardExactly, cleanly, floatsHeard, samplesAt}
 
@@ -132,13 +133,14 @@ floats u s (c ∷ cs) h a =
     point-floats (firstPoint c) p (secondPoint c .x ∷ secondPoint c .y ∷ rest) (point-floats (secondPoint c) q rest (floats u (nextState s (c .i1) (c .i2)) cs h (a .1)))
 
 pub agreed-sent : (ac : Accord) (ws : List ℕ) (ps : List ℤ) (s : Sender) → sender.Talk ac ws ps s → isAccord ac ≡ true
-agreed-sent ac ws ps s (sender.opens r p z) = go (isAccord ac) refl
+agreed-sent ac ws ps s k = along (λ _ _ _. isAccord ac ≡ true) (λ _ _ _ _ _ e _. e) ac go ws ps s k
   where
-    go : (b : Bool) → isAccord ac ≡ b → b ≡ true
-    go true e = refl
-    go false e = absurd (omega (arith, one ac .1 e, p .number, z))
-agreed-sent ac ws ps s (sender.takes {ws = vs} {ps = qs} {s = t} k n out o r p z) = agreed-sent ac vs qs t k
-agreed-sent ac ws ps s (sender.refuses {ws = vs} {ps = qs} {s = t} k n out o r p z) = agreed-sent ac vs qs t k
+    go : opening ac .number ≡ 0 → isAccord ac ≡ true
+    go z = is (isAccord ac) refl
+      where
+        is : (b : Bool) → isAccord ac ≡ b → b ≡ true
+        is true e = refl
+        is false e = absurd (omega (arith, one ac .1 e, z))
 
 -- ---- the words of a run
 
@@ -153,14 +155,9 @@ every-take P (suc m) (x ∷ l) e = (e .0, every-take P m l (e .1))
 
 run-words : (ac : Accord) (ws : List ℕ) (ps : List ℤ) (s : Sender) → sender.Talk ac ws ps s → (s .accord ≡ ac) × Every (λ n. isWord (ac .u) n ≡ true) ws
 unfolding after
-run-words ac ws ps s (sender.opens r p z) = (ap (λ (x : Sender). x .accord) (p .sender ∙ opened-with ac (sym (p .number) ∙ z)), tt)
-run-words ac ws ps s (sender.takes {ws = vs} {ps = qs} {s = t} k n out o r p z) =
-    let (w, e) = run-words ac vs qs t k in
-    let d = done t n out (sym (p .number) ∙ z) in
-    (ap (λ (x : Sender). x .accord) (p .sender ∙ d .sender) ∙ w, every-snoc (ac .u) vs n e (subst (λ (v : Accord). isWord (v .u) n ≡ true) w (d .word)))
-run-words ac ws ps s (sender.refuses {ws = vs} {ps = qs} {s = t} k n out o r p z) =
-    let (w, e) = run-words ac vs qs t k in
-    (ap (λ (x : Sender). x .accord) (p .sender ∙ refused-keeps t n out (λ y. z (p .number ∙ y)) .0) ∙ w, e)
+run-words ac =
+    along (λ ws _ s. (s .accord ≡ ac) × Every (λ n. isWord (ac .u) n ≡ true) ws)
+    (λ ws ps s n out p d. (ap (λ (x : Sender). x .accord) (d .sender) ∙ p .0, every-snoc (ac .u) ws n (p .1) (subst (λ (v : Accord). isWord (v .u) n ≡ true) (p .0) (d .word)))) ac (λ _. (refl, tt))
 
 pub accepted : (ac : Accord) (ws : List ℕ) (ps : List ℤ) (s : Sender) → sender.Talk ac ws ps s → Every (λ n. isWord (ac .u) n ≡ true) ws
 accepted ac ws ps s k = run-words ac ws ps s k .1

@@ -7,7 +7,7 @@
 use mathlib.Core.Path.{_≡_, refl, sym, ap, subst, _∙_}
 use mathlib.Core.Bool.{Bool, true, false, cond}
 use mathlib.Core.List.{List, [], _++_, reverse, IsPrefix}
-use Prim.Native.Nat.{ℕ, _≤_, _<_}
+use Prim.Native.Nat.{ℕ, _*_, _≤_, _<_}
 use native.Mathlib.Omega.{arith}
 use borrow.Author.Tests.{le-ltb, lt-ltb}
 use lib.Dec.{eqb, ltb}
@@ -35,13 +35,15 @@ use Rattle.sender.specs.declared.Sender.{Sender}
 use Rattle.sender.specs.declared.Why.{Why}
 use Rattle.sender.specs.declared.Why.the-variants.{Done, BadWidth, BadWord, NoRoom, Closed}
 use Rattle.sender.specs.Send as sender
+use Rattle.sender.specs.SendList.{sendingList}
 use Rattle.sender.specs.Promise as sends
 use Rattle.sender.specs.Run as run
 use Rattle.sender.proofs.Exactly as exactly
+use Rattle.sender.proofs.Settled.{listed, list-given}
 use Rattle.layout.specs.Layout.{senderLength, receiverLength}
 use Rattle.stored.specs.State.{senderIn, wordsOfSender, receiverIn, wordsOfReceiver}
 use Rattle.converted.specs.Counts.{toldOf}
-use Rattle.demfizagu.specs.Calls.{Call, callOf, senderOpening, sendCall, receiverOpening, hearCall, finishCall}
+use Rattle.demfizagu.specs.Calls.{Call, callOf, senderOpening, sendCall, sendListCall, receiverOpening, hearCall, finishCall}
 use Rattle.demfizagu.specs.Promise as library
 use Rattle.promises.specs.Talk as ends
 use Rattle.promises.specs.Table as table
@@ -166,6 +168,25 @@ sent-by s word out o e =
     named g (exactly.no-room a w l) = refl
     named g (exactly.taken a w l) = refl
 
+-- a list whose `told` has three places
+module _ (state words : List ℕ) (out : List ℤ) (told : List ℕ) (n : ℕ) (state′ : List ℕ) (o : List ℤ) (told′ : List ℕ) (a : library.SendsList (sendListCall state words out told) n state′ o told′) where
+  record Listed : Type 0 where
+    reads : senderIn state′ ≡ sendingList (senderIn state) words out .sender
+    out-is : o ≡ sendingList (senderIn state) words out .output
+    taken-is : taken told′ ≡ sendingList (senderIn state) words out .sent
+    written-is : written told′ ≡ 4 * sendingList (senderIn state) words out .sent
+
+  list-told : 3 ≤ length told → Listed
+  unfolding sendListCall toldOf
+  list-told long =
+      let l = le-ltb (length told) 3 long in
+      let t = rw l at (a .told-is) in
+      record { reads = a .reads ∙ rw l; out-is = a .out-is ∙ rw l; taken-is = ap (λ (v : List ℕ). getD v 0 0) t; written-is = ap (λ (v : List ℕ). getD v 1 0) t }
+
+  list-untold : length told < 3 → senderIn state′ ≡ senderIn state
+  unfolding sendListCall
+  list-untold few = a .reads ∙ rw (lt-ltb (length told) 3 few)
+
 opened-by : (k : Accord) → sender.opening k .number ≡ 0 → sends.Opens k (record { sender = sender.opening k .sender; why = Done })
 opened-by k z = record { number = sym z; sender = refl; end = sender.End.opened k }
 
@@ -195,6 +216,11 @@ module _ (k : Accord) where
       rw (a .reads)
       (run.refuses (sent ws ps s h) word out o (record { sender = g .sender; why = whyOf (g .number) }) (sent-by (senderIn s) word out o (a .out-is))
       (λ e. z (a .number ∙ sym (sent-by (senderIn s) word out o (a .out-is) .number) ∙ e)))
+  sent ws ps state (calls.LibrarySends.lists {ws = vs} {ps = qs} {state = s} h words out told long m s′ o told′ a) =
+      let d = list-told s words out told m s′ o told′ a long in
+      rw (d .taken-is, d .written-is, d .out-is, d .reads) (run.lists (sent vs qs s h) words out (sendingList (senderIn s) words out .output) (listed (senderIn s) words out) (list-given (senderIn s) words out))
+  sent ws ps state (calls.LibrarySends.short {state = s} h words out told few m s′ o told′ a) =
+      subst (run.Talk k ws ps) (sym (list-untold s words out told m s′ o told′ a few)) (sent ws ps s h)
   sent ws ps state (calls.LibrarySends.copied {state = s} h other e) = subst (run.Talk k ws ps) (sym e) (sent ws ps s h)
 
 -- ---- the demands

@@ -16,10 +16,10 @@ use Rattle.nearest.specs.declared.Received.{Received}
 use Rattle.told.specs.Piece.{symbolsOf}
 use Rattle.openings.specs.declared.Start.{Start}
 use Rattle.stored.specs.State.{senderIn, receiverIn}
-use Rattle.demfizagu.specs.Calls.{senderOpening, sendCall, receiverOpening, hearCall, finishCall}
+use Rattle.demfizagu.specs.Calls.{senderOpening, sendCall, sendListCall, receiverOpening, hearCall, finishCall}
 use Rattle.demfizagu.specs.Promise as library
 
--- told[0] symbols taken, told[1] words written
+-- told[0] symbols taken or words sent, told[1] words or coordinates written
 abbrev pub taken : List ℕ → ℕ
 taken told = getD told 0 0
 
@@ -32,6 +32,11 @@ pub data LibrarySends (k : Accord) : List ℕ → List ℤ → List ℕ → Type
       library.Sends (sendCall state word out) n state′ o → n ≡ 0 → LibrarySends k (ws ++ (word ∷ [])) (ps ++ take 4 o) state′
   refuses : {ws : List ℕ} {ps : List ℤ} {state : List ℕ} → LibrarySends k ws ps state → (word n : ℕ) (out o : List ℤ) (state′ : List ℕ) →
       library.Sends (sendCall state word out) n state′ o → (n ≡ 0 → ⊥) → LibrarySends k ws ps state′
+  lists : {ws : List ℕ} {ps : List ℤ} {state : List ℕ} → LibrarySends k ws ps state → (words : List ℕ) (out : List ℤ) (told : List ℕ) → 3 ≤ length told →
+      (n : ℕ) (state′ : List ℕ) (o : List ℤ) (told′ : List ℕ) → library.SendsList (sendListCall state words out told) n state′ o told′ →
+      LibrarySends k (ws ++ take (taken told′) words) (ps ++ take (written told′) o) state′
+  short : {ws : List ℕ} {ps : List ℤ} {state : List ℕ} → LibrarySends k ws ps state → (words : List ℕ) (out : List ℤ) (told : List ℕ) → length told < 3 →
+      (n : ℕ) (state′ : List ℕ) (o : List ℤ) (told′ : List ℕ) → library.SendsList (sendListCall state words out told) n state′ o told′ → LibrarySends k ws ps state′
   copied : {ws : List ℕ} {ps : List ℤ} {state : List ℕ} → LibrarySends k ws ps state → (other : List ℕ) → senderIn other ≡ senderIn state → LibrarySends k ws ps other
 
 pub data LibraryHears (k : Accord) (w : ℕ) (b : Start) : List (Two Received) → List ℕ → List ℕ → Type 0 where

@@ -3,10 +3,12 @@ use Prim.Native.Nat.{ℕ, _≤_}
 use mathlib.Core.Path.{_≡_, refl}
 use mathlib.Core.Bool.{Bool, true, false, cond}
 use mathlib.Core.List.{List, [], _∷_}
+use borrow.Author.Tests.{leb-true}
+use lib.Dec.{leb}
 use Rattle.text.specs.Bytes.{bytes}
 use Rattle.text.specs.Token.{sameBytes}
 use Rattle.text.specs.Number.{hexOf}
-use Rattle.wholes.specs.Many.{manyOf}
+use Rattle.wholes.specs.Many.{wholeIn, numberIn, manyOf}
 use Rattle.wholes.specs.declared.Many.{Many}
 use Rattle.wholes.specs.declared.Many.the-variants as many
 use Rattle.text.specs.declared.number.Number.{Number}
@@ -15,7 +17,7 @@ use Rattle.text.proofs.Digits.{got-most}
 use Rattle.wholes.proofs.Lists.{many-most}
 use Rattle.requests.specs.declared.Request.{Request}
 use Rattle.requests.specs.declared.Request.the-variants as request
-use Rattle.requests.specs.Verb.{anyNumber, capNumber, just, both, one, two, senderOf, finishOf, sendOf, sampleOf, startOf, windowOf, openOf, receiverOf, heardOf, pieceOf, Fit}
+use Rattle.requests.specs.Verb.{anyNumber, capNumber, just, both, one, two, senderOf, finishOf, sendOf, sampleOf, startOf, windowOf, openOf, receiverOf, heardOf, pieceOf, sentOf, listOf, Fit}
 
 module _ (room : ℕ) where
   pub fit-cond : (b : Bool) {x y : Request} → Fit room x → Fit room y → Fit room (cond b x y)
@@ -79,4 +81,17 @@ module _ (room : ℕ) where
 
   pub fit-piece : (ts : List (List ℕ)) → Fit room (pieceOf room ts)
   fit-piece [] = record { sizes = tt }
-  fit-piece (c ∷ ts) = fit-heard (capNumber c) (manyOf room ts) (λ n e. got-most 10 4096 c e) (λ n e. many-most room ts e)
+  fit-piece (c ∷ ts) = fit-heard (capNumber c) (manyOf wholeIn room ts) (λ n e. got-most 10 4096 c e) (λ n e. many-most wholeIn room ts e)
+
+  fit-sent : (o : Number) (m : Many) → ((c : ℕ) → number.Got c ≡ o → c ≤ 4096) → Fit room (sentOf o m)
+  fit-sent number.Bad m f = record { sizes = tt }
+  fit-sent (number.Got c) (many.Got n) f = go (leb n 1024) refl
+    where
+      go : (b : Bool) → leb n 1024 ≡ b → Fit room (cond b (request.List c n) request.Unread)
+      go true e = record { sizes = (f c refl, leb-true n 1024 e) }
+      go false e = record { sizes = tt }
+  fit-sent (number.Got c) many.Bad f = record { sizes = tt }
+
+  pub fit-list : (many : ℕ) (ts : List (List ℕ)) → Fit room (listOf many ts)
+  fit-list many [] = record { sizes = tt }
+  fit-list many (c ∷ ts) = fit-sent (capNumber c) (manyOf numberIn many ts) (λ n e. got-most 10 4096 c e)

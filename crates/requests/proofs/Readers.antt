@@ -13,7 +13,7 @@ use lib.Seq.{take-all}
 use Rattle.text.specs.Bytes.{bytes}
 use Rattle.text.specs.Token.{tokens, lengthBefore, Cuts, sameBytes}
 use Rattle.text.specs.Number.{hexOf}
-use Rattle.wholes.specs.Many.{Lists}
+use Rattle.wholes.specs.Many.{wholeIn, numberIn, Lists}
 use Rattle.wholes.specs.declared.Many.{Many}
 use Rattle.text.specs.declared.number.Number.{Number}
 use Rattle.text.specs.declared.number.Number.the-variants as number
@@ -21,7 +21,7 @@ use Rattle.text.proofs.Digits.{to-end}
 use Rattle.text.proofs.Tokens.{last-token, more-tokens, first-token, not-empty, spaced-number, spaced-hex, at-most-all}
 use Rattle.requests.specs.declared.Request.{Request}
 use Rattle.requests.specs.declared.Request.the-variants as request
-use Rattle.requests.specs.Verb.{anyNumber, capNumber, just, both, one, two, startOf, windowOf, openOf, receiverOf, heardOf, pieceOf, pieceFills}
+use Rattle.requests.specs.Verb.{anyNumber, capNumber, just, both, one, two, startOf, windowOf, openOf, receiverOf, heardOf, pieceOf, pieceFills, sentOf, listOf, listFills}
 
 -- the text after the token that ends at n
 abbrev pub after : ℕ → List ℕ → List ℕ
@@ -115,6 +115,16 @@ module _ {s : List ℕ} {n : ℕ} (cut : Cuts 32 s n) where
   pub piece-alone : (list : List ℤ) {c : ℕ} → n ≡ length s → number.Got c ≡ capNumber (take n s) → (request.Piece c 0 ≡ pieceOf (length list) (tokens s)) × (list ≡ pieceFills (tokens s) list)
   piece-alone list h e = (rw (alone cut h, ← whole h) (rw (← e)), rw (alone cut h, ← whole h) (rw (← e)))
 
-  pub piece-more : {list list' : List ℤ} {c : ℕ} {m : Many} → (n ≡ length s → ⊥) → number.Got c ≡ capNumber (take n s) → Lists (after n s) list m list'
+  pub piece-more : {list list' : List ℤ} {c : ℕ} {m : Many} → (n ≡ length s → ⊥) → number.Got c ≡ capNumber (take n s) → Lists wholeIn (after n s) list m list'
       → (heardOf (number.Got c) m ≡ pieceOf (length list) (tokens s)) × (list' ≡ pieceFills (tokens s) list)
   piece-more h e l = (rw (cut-off cut h, ← e, l .answer), rw (cut-off cut h, ← e) (l .filled))
+
+  pub list-bad : (list : List ℕ) → number.Bad ≡ capNumber (take n s) → (request.Unread ≡ listOf (length list) (tokens s)) × (list ≡ listFills (tokens s) list)
+  list-bad list e = (rw (first-token s n (cut .is) .1, ← e), rw (first-token s n (cut .is) .1, ← e))
+
+  pub list-alone : (list : List ℕ) {c : ℕ} → n ≡ length s → number.Got c ≡ capNumber (take n s) → (request.List c 0 ≡ listOf (length list) (tokens s)) × (list ≡ listFills (tokens s) list)
+  list-alone list h e = (rw (alone cut h, ← whole h) (rw (← e)), rw (alone cut h, ← whole h) (rw (← e)))
+
+  pub list-more : {list list' : List ℕ} {c : ℕ} {m : Many} {r : Request} → (n ≡ length s → ⊥) → number.Got c ≡ capNumber (take n s) → Lists numberIn (after n s) list m list'
+      → r ≡ sentOf (number.Got c) m → (r ≡ listOf (length list) (tokens s)) × (list' ≡ listFills (tokens s) list)
+  list-more h e l f = (f ∙ rw (cut-off cut h, ← e, l .answer), rw (cut-off cut h, ← e) (l .filled))

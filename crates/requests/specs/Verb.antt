@@ -9,16 +9,20 @@
 --   receiverOf              plain with a width alone, else a window and the start: `free`, or `at` and a state
 --   pieceOf room            a cap and the coordinates, no more than there is room for; none is the empty piece
 --   pieceFills ts list      the list lent for coordinates after that: those of the piece at its start, up to the first that is none
---   Sizes room r, Fit room r   the sizes that a request names: outputs of 4096 at most, and coordinates that are in the list
+--   listOf room             a cap and the words, "at most 1,024"; none is the empty list
+--   listFills ts list       the list lent for words after that, in the same way
+--   Sizes room r, Fit room r   the sizes that a request names: outputs of 4096 at most, coordinates that are in the list, words of 1,024 at most
 use Prim.Native.Nat.{ℕ, _≤_}
 use mathlib.Core.Bool.{cond}
 use mathlib.Core.List.{List, [], _∷_, _++_}
+use mathlib.Core.Option.{Option}
+use lib.Dec.{leb}
 use lib.IntN.{ℤ}
 use lib.ListN.{length, drop}
 use Rattle.text.specs.Bytes.{bytes}
 use Rattle.text.specs.Token.{sameBytes}
 use Rattle.text.specs.Number.{numberOf, hexOf}
-use Rattle.wholes.specs.Many.{firstWholes, manyOf}
+use Rattle.wholes.specs.Many.{wholeIn, numberIn, firstOf, manyOf}
 use Rattle.text.specs.declared.number.Number.{Number}
 use Rattle.text.specs.declared.number.Number.the-variants as number
 use Rattle.wholes.specs.declared.Many.{Many}
@@ -86,24 +90,41 @@ heardOf (number.Got c) many.Bad = request.Unread
 
 abbrev pub pieceOf : ℕ → List (List ℕ) → Request
 pieceOf room [] = request.Unread
-pieceOf room (c ∷ ts) = heardOf (capNumber c) (manyOf room ts)
+pieceOf room (c ∷ ts) = heardOf (capNumber c) (manyOf wholeIn room ts)
+
+abbrev pub sentOf : Number → Many → Request
+sentOf number.Bad m = request.Unread
+sentOf (number.Got c) (many.Got n) = cond (leb n 1024) (request.List c n) request.Unread
+sentOf (number.Got c) many.Bad = request.Unread
+
+abbrev pub listOf : ℕ → List (List ℕ) → Request
+listOf room [] = request.Unread
+listOf room (c ∷ ts) = sentOf (capNumber c) (manyOf numberIn room ts)
 
 -- zs at the start of a list
-abbrev pub atStart : List ℤ → List ℤ → List ℤ
+abbrev pub atStart : {A : Type 0} → List A → List A → List A
 atStart zs list = zs ++ drop (length zs) list
 
-abbrev pub filledBy : Number → List (List ℕ) → List ℤ → List ℤ
-filledBy (number.Got c) ts list = atStart (firstWholes (length list) ts) list
-filledBy number.Bad ts list = list
+abbrev pub filledBy : {A : Type 0} → (List ℕ → Option A) → Number → List (List ℕ) → List A → List A
+filledBy p (number.Got c) ts list = atStart (firstOf p (length list) ts) list
+filledBy p number.Bad ts list = list
+
+-- by what the tokens after the cap write
+abbrev pub fills : {A : Type 0} → (List ℕ → Option A) → List (List ℕ) → List A → List A
+fills p [] list = list
+fills p (c ∷ ts) list = filledBy p (capNumber c) ts list
 
 abbrev pub pieceFills : List (List ℕ) → List ℤ → List ℤ
-pieceFills [] list = list
-pieceFills (c ∷ ts) list = filledBy (capNumber c) ts list
+pieceFills ts list = fills wholeIn ts list
+
+abbrev pub listFills : List (List ℕ) → List ℕ → List ℕ
+listFills ts list = fills numberIn ts list
 
 abbrev pub Sizes : ℕ → Request → Type 0
 Sizes room (request.Send w c) = c ≤ 4096
 Sizes room (request.Piece c n) = (c ≤ 4096) × (n ≤ room)
 Sizes room (request.Finish c) = c ≤ 4096
+Sizes room (request.List c n) = (c ≤ 4096) × (n ≤ 1024)
 Sizes room request.Nothing = Unit {0}
 Sizes room request.Unread = Unit {0}
 Sizes room (request.Sender u) = Unit {0}

@@ -4,6 +4,7 @@
 // 4096 at most. A coordinate C may have one `-` before it and has 32 bits. HEX is eight hexadecimal digits, small or large.
 // Other tokens are unread. specs/Verb.antt says what each verb asks for.
 pub mod finish;
+pub mod list;
 pub mod piece;
 pub mod sample;
 pub mod send;
@@ -31,7 +32,12 @@ pub enum Request {
     // The bits of two floats.
     Sample { x: u32, y: u32 },
     Pending,
+    // The words are at the start of the list that was lent for them.
+    List { cap: u32, count: usize },
 }
+
+// The most words that a line can send.
+const MOST_WORDS: usize = 1024;
 
 // The longest output that a line can ask for.
 const MOST: u32 = 4096;

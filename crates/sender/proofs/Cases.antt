@@ -1,4 +1,4 @@
--- The outcomes of the two doors, one law each over plain values, in the order of the tests.
+-- The outcomes of an opening and of a word sent, one law each over plain values, in the order of the tests.
 use mathlib.Core.Path.{_≡_, refl, sym, ap, ap₂, subst, _∙_}
 use mathlib.Core.Bool.{true, false}
 use mathlib.Core.List.{List, [], _∷_, _++_}
@@ -9,9 +9,7 @@ use lib.IntN.{ℤ}
 use lib.ListN.{length, drop, set}
 use Rattle.points.specs.declared.Point.{Point}
 use Rattle.points.specs.Pair.{firstPoint, secondPoint}
-use Rattle.wei.specs.Word.{isWord, unpacked}
-use Rattle.wei.specs.Label.{turnOn}
-use Rattle.wei.specs.Symbol.{firstLabel, symbolOf}
+use Rattle.wei.specs.Word.{isWord}
 use Rattle.points.specs.declared.Accord.{Accord}
 use Rattle.points.specs.Agreed.{isAccord}
 use Rattle.sender.specs.declared.Sender.{Sender}
@@ -20,11 +18,6 @@ use Rattle.sender.specs.declared.Why.{Why}
 use Rattle.sender.specs.declared.Why.the-variants.{Done, BadWidth, BadWord, NoRoom, Closed}
 use Rattle.sender.specs.Send.{numberOf, sound, symbolFor, after, four, Given, fresh, shut, opening, sending, End, opened, called}
 use Rattle.sender.specs.Promise.{Opens, Sends}
-
--- the turn is the first label
-pub turn-is : (s : Sender) (n : ℕ) → turnOn (s .turn) (unpacked (s .accord .u) n .i2) (unpacked (s .accord .u) n .i3) ≡ firstLabel (symbolFor s n)
-unfolding symbolOf
-turn-is s n = omega arith
 
 -- four stores are the first four places
 stored : (l : List ℤ) (a b c d : ℤ) → 4 ≤ length l → set (set (set (set l 0 a) 1 b) 2 c) 3 d ≡ a ∷ b ∷ c ∷ d ∷ drop 4 l

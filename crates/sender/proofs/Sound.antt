@@ -4,16 +4,13 @@
 --   end-sound     an end that is open is sound: so 9 is given exactly to a closed end
 use mathlib.Core.Path.{_≡_, refl, sym, subst}
 use mathlib.Core.Bool.{Bool, true, false, cond, _&&_}
-use Prim.Native.Nat.{ℕ, _^_, _≤_, _<_}
+use Prim.Native.Nat.{ℕ, _≤_, _<_}
 use native.Mathlib.Omega.{arith}
 use borrow.Author.Tests.{lt-ltb}
 use lib.Dec.{T, leb, ltb, ltb→lt}
 use lib.ListN.{length}
-use lib.Pow.{pow-mono}
-use Rattle.wei.specs.declared.word.Parts.{Parts}
-use Rattle.wei.specs.Word.{isWord, unpacked, InRange}
+use Rattle.wei.specs.Word.{isWord}
 use Rattle.wei.proofs.Finite.{and-left, and-right}
-use Rattle.wei.proofs.Words.{parts-range}
 use Rattle.wei.proofs.States.{next-below}
 use Rattle.wei.specs.Symbol.{symbolOf}
 use Rattle.points.specs.Agreed.{isAccord}
@@ -47,21 +44,9 @@ wide s r = accord-width (s .accord) (r .agreed)
 pub ranged : (s : Sender) → s .live ≡ true → Ranges s → sound s ≡ true
 ranged s e r = simp (e, r .agreed, lt-ltb (s .turn) 4 (r .turn), lt-ltb (s .state) 16 (r .state))
 
--- a word's parts at a width of at most 8, numbers below 256
-pub record Sized (u : ℕ) (p : Parts) : Type 0 where
-  pub parts : InRange u p
-  pub first-number : p .w1 < 256
-  pub second-number : p .w2 < 256
-
-pub sized : (u n : ℕ) (p : Parts) → u ≤ 8 → p ≡ unpacked u n → Sized u p
-sized u n p h e =
-    let r : InRange u p = subst (InRange u) (sym e) (parts-range u n) in
-    let k : 2 ^ u ≤ 256 = pow-mono h in
-    record { parts = r; first-number = omega (arith, r .w1-below); second-number = omega (arith, r .w2-below) }
-
 -- ---- ends
 
-after-sound : (s : Sender) (n : ℕ) → Ranges s → sound (after s n) ≡ true
+pub after-sound : (s : Sender) (n : ℕ) → Ranges s → sound (after s n) ≡ true
 unfolding after symbolOf
 after-sound s n r =
     ranged (after s n) refl

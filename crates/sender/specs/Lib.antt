@@ -1,3 +1,4 @@
 pub mod Send
+pub mod SendList
 pub mod Promise
 pub mod Run

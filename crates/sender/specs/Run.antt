@@ -5,7 +5,7 @@
 --   coordinatesOf    the coordinates of symbols, four for each
 --   Talk k ws ps s   a sender of the accord k accepted the words ws and wrote the coordinates ps for them, and is now s
 --   Ran k ws ps      there are such symbols: an allowed sequence from state 0
-use Prim.Native.Nat.{ℕ}
+use Prim.Native.Nat.{ℕ, _*_}
 use mathlib.Core.Path.{_≡_}
 use mathlib.Core.List.{List, [], _∷_, _++_}
 use lib.IntN.{ℤ}
@@ -16,8 +16,9 @@ use Rattle.wei.specs.Symbol.{Symbol, firstLabel, AllowedFrom, symbolsFrom}
 use Rattle.points.specs.declared.Accord.{Accord}
 use Rattle.sender.specs.declared.Sender.{Sender}
 use Rattle.sender.specs.declared.Sent.{Sent}
+use Rattle.sender.specs.declared.SentList.{SentList}
 use Rattle.sender.specs.Send.{numberOf, four}
-use Rattle.sender.specs.Promise.{Opens, Sends}
+use Rattle.sender.specs.Promise.{Opens, Sends, SendsList}
 
 pub record Made (u q n : ℕ) (c : Symbol) : Type 0 where
   pub i1 : c .i1 ≡ unpacked u n .i1
@@ -41,6 +42,8 @@ pub data Talk (k : Accord) : List ℕ → List ℤ → Sender → Type 0 where
       Talk k (ws ++ (n ∷ [])) (ps ++ take 4 o) (r .sender)
   refuses : {ws : List ℕ} {ps : List ℤ} {s : Sender} → Talk k ws ps s → (n : ℕ) (out o : List ℤ) (r : Sent) → Sends s n out r o → (numberOf (r .why) ≡ 0 → ⊥) →
       Talk k ws ps (r .sender)
+  lists : {ws : List ℕ} {ps : List ℤ} {s : Sender} → Talk k ws ps s → (ns : List ℕ) (out o : List ℤ) (r : SentList) → SendsList s ns out r o →
+      Talk k (ws ++ take (r .sent) ns) (ps ++ take (4 * r .sent) o) (r .sender)
 
 pub record Ran (k : Accord) (ws : List ℕ) (ps : List ℤ) : Type 0 where
   pub symbols : List Symbol

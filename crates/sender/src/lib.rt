@@ -1,18 +1,15 @@
 // The sender: turns data words into pairs of points, one word to a symbol.
 //
 // `open_sender` names what both ends agree on and gives a sender in state 0 with the turn 0. `send` takes the sender by value, writes the
-// four coordinates of the word's two points to the first four places of the lent output, and gives the sender back. A call
-// that is refused says why and leaves the sender and the output as they stood. A closed sender, and any record that is out of
-// range, is answered 9.
+// four coordinates of the word's two points to the first four places of the lent output, and gives the sender back. `send_list` does
+// so for a list of words, each straight after the one before, and says how many it sent. A word that is refused leaves the sender
+// and the output as they stood. A closed sender, and any record that is out of range, is answered 9.
 use points::Accord;
-use points::Point;
 ghost use mathlib.Core.Path.{_≡_};
 ghost use mathlib.Core.Bool.{true};
-ghost use Prim.Native.Nat.{_≤_};
-ghost use lib.ListN.{length, set};
-ghost use Rattle.sender.specs.Send.{numberOf, sound, shut, after, symbolFor};
-ghost use Rattle.points.specs.Pair.{firstPoint, secondPoint};
-ghost use Rattle.sender.specs.Promise.{Opens, Sends};
+ghost use Rattle.points.specs.Points.{coordinates};
+ghost use Rattle.sender.specs.Send.{numberOf, sound, shut};
+ghost use Rattle.sender.specs.Promise.{Opens, Sends, SendsList};
 
 pub struct Sender {
     pub live: bool,
@@ -32,6 +29,13 @@ pub enum Why {
 
 pub struct Sent {
     pub sender: Sender,
+    pub why: Why,
+}
+
+// How a list went: the sender after it, how many words were sent, and why it stopped.
+pub struct SentList {
+    pub sender: Sender,
+    pub sent: usize,
     pub why: Why,
 }
 
@@ -98,52 +102,6 @@ pub fn is_open(s: Sender) -> bool
     s.state < 16
 }
 
-// A symbol's two points, and the sender after it.
-struct Symbol {
-    sender: Sender,
-    first: Point,
-    second: Point,
-}
-
-fn make(s: Sender, word: u32) -> Symbol
-    requires { ⌜ sound s ≡ true ⌝ }
-    ensures { λ r. ⌜ r ≡ record { sender = after s word; first = firstPoint (symbolFor s word); second = secondPoint (symbolFor s word) } ⌝ }
-{
-    let table = points::table::a_points();
-    let p = wei::word::unpack(s.accord.u, word);
-    let q = wei::label::turn_on(s.turn, p.i2, p.i3);
-    let l = wei::label::labels(q, s.state & 1, p.i1);
-    let first = points::point_of(&table, l.first, p.w1 as usize);
-    let second = points::point_of(&table, l.second, p.w2 as usize);
-    let state = wei::state::next(s.state, p.i1, q & 1);
-    let accord = s.accord;
-    Symbol {
-        sender: Sender {
-            live: true,
-            accord: accord,
-            turn: q,
-            state: state,
-        },
-        first: first,
-        second: second,
-    }
-}
-
-// The four coordinates go to the first four places.
-fn put(out: &mut [i32], p: Point, q: Point)
-    requires { ⌜ 4 ≤ length (now out) ⌝ }
-    ensures { λ v. ⌜ now (out .exit) ≡ set (set (set (set (now (out .entry)) 0 (p .x)) 1 (p .y)) 2 (q .x)) 3 (q .y) ⌝ }
-{
-    let a = p.x;
-    let b = p.y;
-    let c = q.x;
-    let d = q.y;
-    out[0] = a;
-    out[1] = b;
-    out[2] = c;
-    out[3] = d;
-}
-
 // A refusal gives the sender back as it was.
 fn refuse(s: Sender, why: Why) -> Sent
     ensures { λ r. ⌜ r ≡ record { sender = s; why = why } ⌝ }
@@ -154,6 +112,31 @@ fn refuse(s: Sender, why: Why) -> Sent
     }
 }
 
+// One word of an open sender. Refused, in this order: a bit at or above 3 + 2u, an output shorter than four places.
+fn send_word(table: &[i8; 512], s: Sender, word: u32, out: &mut [i32]) -> Sent
+    requires { ⌜ (now table ≡ coordinates) × (sound s ≡ true) ⌝ }
+    ensures { λ r. ⌜ Sends s word (now (out .entry)) r (now (out .exit)) ⌝ }
+{
+    if !wei::word::is_word(s.accord.u, word) {
+        return refuse(s, Why::BadWord);
+    }
+    if out.len() < 4 {
+        return refuse(s, Why::NoRoom);
+    }
+    let y = symbols::make(table, s.accord.u, s.state, s.turn, word);
+    symbols::put(out, y.first, y.second);
+    let accord = s.accord;
+    Sent {
+        sender: Sender {
+            live: true,
+            accord: accord,
+            turn: y.turn,
+            state: y.state,
+        },
+        why: Why::Done,
+    }
+}
+
 // Refused, in this order: a closed sender, a bit at or above 3 + 2u, an output shorter than four places.
 pub fn send(s: Sender, word: u32, out: &mut [i32]) -> Sent
     ensures { λ r. ⌜ Sends s word (now (out .entry)) r (now (out .exit)) ⌝ }
@@ -161,17 +144,37 @@ pub fn send(s: Sender, word: u32, out: &mut [i32]) -> Sent
     if !is_open(s) {
         return refuse(s, Why::Closed);
     }
-    if !wei::word::is_word(s.accord.u, word) {
-        return refuse(s, Why::BadWord);
+    let table = points::table::a_points();
+    send_word(&table, s, word, out)
+}
+
+// The words one after another, each into the rest of the output, up to the first that is refused. The table is made once.
+pub fn send_list(s: Sender, words: &[u32], out: &mut [i32]) -> SentList
+    ensures { λ r. ⌜ SendsList s (now (words .entry)) (now (out .entry)) r (now (out .exit)) ⌝ }
+{
+    if !is_open(s) {
+        return SentList {
+            sender: s,
+            sent: 0,
+            why: Why::Closed,
+        };
     }
-    if out.len() < 4 {
-        return refuse(s, Why::NoRoom);
+    let table = points::table::a_points();
+    let mut sender = s;
+    let mut sent: usize = 0;
+    let mut why = Why::Done;
+    while sent < words.len() {
+        let r = send_word(&table, sender, words[sent], &mut out[4 * sent..]);
+        sender = r.sender;
+        why = r.why;
+        if number(why) != 0 {
+            break;
+        }
+        sent += 1;
     }
-    let y = make(s, word);
-    put(out, y.first, y.second);
-    let next = y.sender;
-    Sent {
-        sender: next,
-        why: Why::Done,
+    SentList {
+        sender: sender,
+        sent: sent,
+        why: why,
     }
 }

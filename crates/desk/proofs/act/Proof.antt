@@ -79,11 +79,20 @@ enum-told-3 c = search needs
 pending-requires : tie.Need-pending-requires
 pending-requires c κs = search needs
 
+enum-known-asked-9 : tie.Need-enum-known-asked-9
+enum-known-asked-9 c = search needs
+
+list-requires : tie.Need-list-requires
+list-requires c κs =
+    let start = c .before .before .before .before .before .before .before .before in
+    let sizes = sizes-of _ (c .before .before .before .before .asked9 .given .1) (start .pre .fit) in
+    (omega (arith, sizes .0, start .pre .coordinates-long), sizes .0, omega (arith, sizes .1, start .pre .words-long), start .pre .room)
+
 returns : tie.Need-returns
 unfolding acting
 returns c =
     let start = c .before .before .before .before .args in
-    acts (start .desk) (start .coordinates .now) (c .enum-told .given .1) (does refl refl refl (omega arith) (nothing-put _ _))
+    acts (start .desk) (start .coordinates .now) (start .words .now) (c .enum-told .given .1) (does refl refl refl (omega arith) (nothing-put _ _))
 
 same-length : tie.Need-same-length
 same-length c = search needs
@@ -92,7 +101,7 @@ returns-2 : tie.Need-returns-2
 unfolding acting
 returns-2 c =
     let start = c .before .before .before .before .before .before .before .before .args in
-    acts (start .desk) (start .coordinates .now) (c .before .before .before .before .enum-told2 .given .1) (c .before .before .unread .ensures)
+    acts (start .desk) (start .coordinates .now) (start .words .now) (c .before .before .before .before .enum-told2 .given .1) (c .before .before .unread .ensures)
 
 same-length-2 : tie.Need-same-length-2
 same-length-2 c = search needs
@@ -101,7 +110,7 @@ returns-3 : tie.Need-returns-3
 unfolding acting
 returns-3 c =
     let start = c .before .before .before .before .before .before .before .before .before .args in
-    acts (start .desk) (start .coordinates .now) (c .before .before .before .before .before .asked .given .1) (c .before .before .open-sender .ensures)
+    acts (start .desk) (start .coordinates .now) (start .words .now) (c .before .before .before .before .before .asked .given .1) (c .before .before .open-sender .ensures)
 
 same-length-3 : tie.Need-same-length-3
 same-length-3 c = search needs
@@ -113,7 +122,7 @@ returns-4 : tie.Need-returns-4
 unfolding acting
 returns-4 c =
     let start = c .before .before .before .before .before .before .before .before .before .before .before .args in
-    acts (start .desk) (start .coordinates .now) (c .before .before .before .before .before .before .before .asked2 .given .1) (c .before .before .before .send .ensures)
+    acts (start .desk) (start .coordinates .now) (start .words .now) (c .before .before .before .before .before .before .before .asked2 .given .1) (c .before .before .before .send .ensures)
 
 same-length-5 : tie.Need-same-length-5
 same-length-5 c = search needs
@@ -122,7 +131,7 @@ returns-5 : tie.Need-returns-5
 unfolding acting
 returns-5 c =
     let start = c .before .before .before .before .before .before .before .before .before .args in
-    acts (start .desk) (start .coordinates .now) (c .before .before .before .before .before .asked3 .given .1) (c .before .before .open-plain .ensures)
+    acts (start .desk) (start .coordinates .now) (start .words .now) (c .before .before .before .before .before .asked3 .given .1) (c .before .before .open-plain .ensures)
 
 same-length-6 : tie.Need-same-length-6
 same-length-6 c = search needs
@@ -131,7 +140,7 @@ returns-6 : tie.Need-returns-6
 unfolding acting
 returns-6 c =
     let start = c .before .before .before .before .before .before .before .before .before .args in
-    acts (start .desk) (start .coordinates .now) (c .before .before .before .before .before .asked4 .given .1) (c .before .before .open-free .ensures)
+    acts (start .desk) (start .coordinates .now) (start .words .now) (c .before .before .before .before .before .asked4 .given .1) (c .before .before .open-free .ensures)
 
 same-length-7 : tie.Need-same-length-7
 same-length-7 c = search needs
@@ -140,7 +149,7 @@ returns-7 : tie.Need-returns-7
 unfolding acting
 returns-7 c =
     let start = c .before .before .before .before .before .before .before .before .before .args in
-    acts (start .desk) (start .coordinates .now) (c .before .before .before .before .before .asked5 .given .1) (c .before .before .open-at .ensures)
+    acts (start .desk) (start .coordinates .now) (start .words .now) (c .before .before .before .before .before .asked5 .given .1) (c .before .before .open-at .ensures)
 
 same-length-8 : tie.Need-same-length-8
 same-length-8 c = search needs
@@ -155,7 +164,7 @@ returns-8 : tie.Need-returns-8
 unfolding acting
 returns-8 c =
     let start = c .before .before .before .before .before .before .before .before .before .before .before .before .before .args in
-    acts (start .desk) (start .coordinates .now) (c .before .before .before .before .before .before .before .before .before .asked6 .given .1) (c .before .before .before .before .hear .ensures)
+    acts (start .desk) (start .coordinates .now) (start .words .now) (c .before .before .before .before .before .before .before .before .before .asked6 .given .1) (c .before .before .before .before .hear .ensures)
 
 same-length-11 : tie.Need-same-length-11
 same-length-11 c = search needs
@@ -167,7 +176,7 @@ returns-9 : tie.Need-returns-9
 unfolding acting
 returns-9 c =
     let start = c .before .before .before .before .before .before .before .before .before .before .before .before .args in
-    acts (start .desk) (start .coordinates .now) (c .before .before .before .before .before .before .before .before .asked7 .given .1) (c .before .before .before .before .finish .ensures)
+    acts (start .desk) (start .coordinates .now) (start .words .now) (c .before .before .before .before .before .before .before .before .asked7 .given .1) (c .before .before .before .before .finish .ensures)
 
 same-length-13 : tie.Need-same-length-13
 same-length-13 c = search needs
@@ -176,7 +185,7 @@ returns-10 : tie.Need-returns-10
 unfolding acting
 returns-10 c =
     let start = c .before .before .before .before .before .before .before .before .before .args in
-    acts (start .desk) (start .coordinates .now) (c .before .before .before .before .before .asked8 .given .1) (c .before .before .sample .ensures)
+    acts (start .desk) (start .coordinates .now) (start .words .now) (c .before .before .before .before .before .asked8 .given .1) (c .before .before .sample .ensures)
 
 same-length-14 : tie.Need-same-length-14
 same-length-14 c = search needs
@@ -185,7 +194,22 @@ returns-11 : tie.Need-returns-11
 unfolding acting
 returns-11 c =
     let start = c .before .before .before .before .before .before .before .before .args in
-    acts (start .desk) (start .coordinates .now) (c .before .before .before .before .enum-told3 .given .1) (c .before .before .pending .ensures)
+    acts (start .desk) (start .coordinates .now) (start .words .now) (c .before .before .before .before .enum-told3 .given .1) (c .before .before .pending .ensures)
+
+same-length-15 : tie.Need-same-length-15
+same-length-15 c = search needs
+
+same-length-16 : tie.Need-same-length-16
+same-length-16 c = search needs
+
+same-length-17 : tie.Need-same-length-17
+same-length-17 c = search needs
+
+returns-12 : tie.Need-returns-12
+unfolding acting
+returns-12 c =
+    let start = c .before .before .before .before .before .before .before .before .before .before .before .before .args in
+    acts (start .desk) (start .coordinates .now) (start .words .now) (c .before .before .before .before .before .before .before .before .asked9 .given .1) (c .before .before .before .list .ensures)
 
 pub act-spec : {M : Type 1} → statement M
 act-spec =
@@ -212,6 +236,8 @@ act-spec =
     sample-requires
     enum-told-3
     pending-requires
+    enum-known-asked-9
+    list-requires
     returns
     same-length
     returns-2
@@ -236,4 +262,8 @@ act-spec =
     same-length-13
     returns-10
     same-length-14
-    returns-11)
+    returns-11
+    same-length-15
+    same-length-16
+    same-length-17
+    returns-12)

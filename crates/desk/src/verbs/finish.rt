@@ -26,7 +26,7 @@ fn finished(desk: Desk, out: &mut [u32], page: &mut [u8], at: usize) -> Done
 
 pub fn finish(desk: Desk, cap: u32, words: &mut [u32], page: &mut [u8], at: usize) -> Done
     requires { ⌜ (cap ≤ length (now words)) × (cap ≤ 4096) × (at + answerRoom ≤ length (now page)) ⌝ }
-    ensures { λ r. ⌜ Acts desk (Request.Finish cap) [] (now (page .entry)) at r (now (page .exit)) ⌝ }
+    ensures { λ r. ⌜ Acts desk (Request.Finish cap) [] [] (now (page .entry)) at r (now (page .exit)) ⌝ }
 {
     let n = cap as usize;
     finished(desk, &mut words[..n], page, at)

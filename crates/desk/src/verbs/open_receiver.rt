@@ -29,14 +29,14 @@ fn opened(desk: Desk, o: Opened, page: &mut [u8], at: usize) -> Done
 
 pub fn open_plain(desk: Desk, u: u32, page: &mut [u8], at: usize) -> Done
     requires { ⌜ at + answerRoom ≤ length (now page) ⌝ }
-    ensures { λ r. ⌜ Acts desk (Request.Plain u) [] (now (page .entry)) at r (now (page .exit)) ⌝ }
+    ensures { λ r. ⌜ Acts desk (Request.Plain u) [] [] (now (page .entry)) at r (now (page .exit)) ⌝ }
 {
     opened(desk, openings::open_plain(Accord { u: u }), page, at)
 }
 
 pub fn open_free(desk: Desk, u: u32, window: u32, page: &mut [u8], at: usize) -> Done
     requires { ⌜ at + answerRoom ≤ length (now page) ⌝ }
-    ensures { λ r. ⌜ Acts desk (Request.Free u window) [] (now (page .entry)) at r (now (page .exit)) ⌝ }
+    ensures { λ r. ⌜ Acts desk (Request.Free u window) [] [] (now (page .entry)) at r (now (page .exit)) ⌝ }
 {
     let o = openings::open_receiver(Accord { u: u }, window, Start::Free);
     opened(desk, o, page, at)
@@ -44,7 +44,7 @@ pub fn open_free(desk: Desk, u: u32, window: u32, page: &mut [u8], at: usize) ->
 
 pub fn open_at(desk: Desk, u: u32, window: u32, state: u32, page: &mut [u8], at: usize) -> Done
     requires { ⌜ at + answerRoom ≤ length (now page) ⌝ }
-    ensures { λ r. ⌜ Acts desk (Request.At u window state) [] (now (page .entry)) at r (now (page .exit)) ⌝ }
+    ensures { λ r. ⌜ Acts desk (Request.At u window state) [] [] (now (page .entry)) at r (now (page .exit)) ⌝ }
 {
     let o = openings::open_receiver(Accord { u: u }, window, Start::At(state));
     opened(desk, o, page, at)

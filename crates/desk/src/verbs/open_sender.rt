@@ -12,7 +12,7 @@ ghost use Rattle.desk.specs.Desk.{Acts};
 
 pub fn open_sender(desk: Desk, u: u32, page: &mut [u8], at: usize) -> Done
     requires { ⌜ at + answerRoom ≤ length (now page) ⌝ }
-    ensures { λ r. ⌜ Acts desk (Request.Sender u) [] (now (page .entry)) at r (now (page .exit)) ⌝ }
+    ensures { λ r. ⌜ Acts desk (Request.Sender u) [] [] (now (page .entry)) at r (now (page .exit)) ⌝ }
 {
     let opened = sender::open_sender(Accord { u: u });
     let why = opened.why;

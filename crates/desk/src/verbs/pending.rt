@@ -10,7 +10,7 @@ ghost use Rattle.desk.specs.Desk.{Acts};
 
 pub fn pending(desk: Desk, page: &mut [u8], at: usize) -> Done
     requires { ⌜ at + answerRoom ≤ length (now page) ⌝ }
-    ensures { λ r. ⌜ Acts desk Request.Pending [] (now (page .entry)) at r (now (page .exit)) ⌝ }
+    ensures { λ r. ⌜ Acts desk Request.Pending [] [] (now (page .entry)) at r (now (page .exit)) ⌝ }
 {
     let receiver = desk.receiver;
     let n = openings::pending(receiver);

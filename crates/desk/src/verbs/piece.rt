@@ -4,6 +4,7 @@ use crate::Desk;
 use crate::Done;
 use crate::ends;
 use requests::Request;
+ghost use mathlib.Core.List.{[]};
 ghost use Prim.Native.Nat.{_+_, _≤_};
 ghost use lib.ListN.{length};
 ghost use Rattle.told.specs.Piece.{pieceOf};
@@ -35,7 +36,7 @@ pub fn hear(
     at: usize,
 ) -> Done
     requires { ⌜ (cap ≤ length (now words)) × (cap ≤ 4096) × (count ≤ length (now coordinates)) × (at + answerRoom ≤ length (now page)) ⌝ }
-    ensures { λ r. ⌜ Acts desk (Request.Piece cap count) (now (coordinates .entry)) (now (page .entry)) at r (now (page .exit)) ⌝ }
+    ensures { λ r. ⌜ Acts desk (Request.Piece cap count) (now (coordinates .entry)) [] (now (page .entry)) at r (now (page .exit)) ⌝ }
 {
     let n = cap as usize;
     heard(desk, &coordinates[..count], &mut words[..n], page, at)

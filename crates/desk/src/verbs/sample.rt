@@ -42,7 +42,7 @@ fn answer(x: u32, y: u32, page: &mut [u8], at: usize) -> usize
 
 pub fn sample(desk: Desk, x: u32, y: u32, page: &mut [u8], at: usize) -> Done
     requires { ⌜ at + answerRoom ≤ length (now page) ⌝ }
-    ensures { λ r. ⌜ Acts desk (Request.Sample x y) [] (now (page .entry)) at r (now (page .exit)) ⌝ }
+    ensures { λ r. ⌜ Acts desk (Request.Sample x y) [] [] (now (page .entry)) at r (now (page .exit)) ⌝ }
 {
     Done {
         desk,

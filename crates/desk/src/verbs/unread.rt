@@ -10,7 +10,7 @@ ghost use Rattle.desk.specs.Desk.{Acts};
 
 pub fn unread(desk: Desk, page: &mut [u8], at: usize) -> Done
     requires { ⌜ at + answerRoom ≤ length (now page) ⌝ }
-    ensures { λ r. ⌜ Acts desk Request.Unread [] (now (page .entry)) at r (now (page .exit)) ⌝ }
+    ensures { λ r. ⌜ Acts desk Request.Unread [] [] (now (page .entry)) at r (now (page .exit)) ⌝ }
 {
     Done {
         desk,

@@ -30,9 +30,9 @@ read-requires c κs = search needs
 
 act-requires : tie.Need-act-requires
 act-requires c κs =
-    let at-read = c .before .before .before .before in
-    let start = at-read .before .before .before .before .before .before .before .before .before .before in
-    ready _ (start .pre .0) (start .pre .1 .0) (at-read .read .kept .1 .0) (at-read .read .ensures .fit)
+    let read = c .before .before .before .before .before .before in
+    let start = read .before .before .before .before .before .before .before .before .before .before .before in
+    ready _ _ (start .pre .0) (start .pre .1 .0) (read .read .kept .1 .0) (read .read .kept .1 .1 .0) (read .read .ensures .fit)
 
 same-length-2 : tie.Need-same-length-2
 same-length-2 c = search needs
@@ -46,13 +46,11 @@ same-length-4 c = search needs
 returns-2 : tie.Need-returns-2
 returns-2 c =
     let acted = c .before .before .before .before .before .before in
-    let read = acted .before .before .before .before .before in
-    let none = read .before .before .before .before in
+    let read = acted .before .before .before .before .before .before .before in
+    let none = read .before .before .before .before .before in
     let start = none .before .before .before .before .before .before in (
       search needs,
-      λ s g. replied (acted .act .ensures .desk) (acted .act .ensures .puts)
-          (line-answered g (start .args .lab .desk) (read .before .before .before .if1 .left) (start .pre .0 .coordinates-long) (read .read .ensures))
-          (none .fresh .ensures .1) refl,
+      λ s g. replied (acted .act .ensures .desk) (acted .act .ensures .puts) (line-answered g (start .args .lab .desk) (read .before .before .before .before .if1 .left) (start .pre .0 .coordinates-long) (start .pre .0 .words-long) (read .read .ensures)) (none .fresh .ensures .1) refl,
     )
 
 pub reply-spec : {M : Type 1} → statement M

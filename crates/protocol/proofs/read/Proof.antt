@@ -5,13 +5,13 @@ use Rattle.protocol.proofs.read.Statement.{statement}
 use Rattle.protocol.proofs.read.Tie as tie
 
 returns : tie.Need-returns
-returns c = empty-line _ _ (c .if1 .taken)
+returns c = empty-line _ _ _ (c .if1 .taken)
 
 shared-slice-read-if2 : tie.Need-shared-slice-read-if2
 shared-slice-read-if2 c = search needs
 
 returns-2 : tie.Need-returns-2
-returns-2 c = comment _ _ (c .before .before .if1 .left) (c .if2 .taken)
+returns-2 c = comment _ _ _ (c .before .before .if1 .left) (c .if2 .taken)
 
 before-requires : tie.Need-before-requires
 before-requires c κs = search needs
@@ -20,8 +20,7 @@ tried-requires : tie.Need-tried-requires
 tried-requires c κs = search needs
 
 returns-3 : tie.Need-returns-3
-returns-3 c =
-    line-alone _ _ (c .before .before .before .before .before .if1 .left) (c .before .before .before .if2 .left) (c .before .before .before2 .ensures) (c .before .if3 .taken) (c .tried .ensures)
+returns-3 c = line-alone _ _ _ (c .before .before .before .before .before .if1 .left) (c .before .before .before .if2 .left) (c .before .before .before2 .ensures) (c .before .if3 .taken) (c .tried .ensures)
 
 slice-aggregate-tried : tie.Need-slice-aggregate-tried
 slice-aggregate-tried c = search needs
@@ -44,11 +43,14 @@ tried-requires-2 c κs = search needs
 same-length : tie.Need-same-length
 same-length c = search needs
 
+same-length-2 : tie.Need-same-length-2
+same-length-2 c = search needs
+
 returns-4 : tie.Need-returns-4
 returns-4 c =
-    line-more _ _ (c .before .before .before .before .before .before .before .before .before .if1 .left)
-    (c .before .before .before .before .before .before .before .if2 .left) (c .before .before .before .before .before .before .before2 .ensures)
-    (c .before .before .before .before .before .if3 .left) (c .before .tried2 .ensures .0) (c .before .tried2 .ensures .1)
+    let r = c .before .before .before in
+    let e = r .before .before .before .before .before in
+    line-more _ _ _ (e .before .before .before .before .if1 .left) (e .before .before .if2 .left) (e .before .before2 .ensures) (e .if3 .left) (r .tried2 .ensures .0) (r .tried2 .ensures .1 .0) (r .tried2 .ensures .1 .1)
 
 pub read-spec : {M : Type 1} → statement M
 read-spec =
@@ -67,4 +69,5 @@ read-spec =
     part-tried-end
     tried-requires-2
     same-length
+    same-length-2
     returns-4)

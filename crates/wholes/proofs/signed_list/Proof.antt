@@ -1,24 +1,25 @@
 -- `wholes::signed_list`: token by token, by the laws of Lists.
 use Prim.Native.Nat.{_+_, _-_, _≤_}
-use mathlib.Core.Path.{sym, _∙_}
+use mathlib.Core.Path.{sym, ap, _∙_}
 use native.Mathlib.Omega.{arith}
 use borrow.Author.Needs.{needs}
 use lib.ListN.{length, length-set}
 use mir.Syntax.{w32}
 use mir.ValLaws.{toZ-ofZ}
 use Rattle.text.proofs.Tokens.{token-end}
+use Rattle.wholes.specs.Many.{wholeGot, wholeIn}
 use Rattle.wholes.proofs.Lists.{Listed, none-listed, list-full, list-bad, list-done, list-more}
 use Rattle.wholes.proofs.signed_list.Statement.{statement}
 use Rattle.wholes.proofs.signed_list.Tie as tie
 
 abbrev Inv-loop : tie.InvT-loop
-Inv-loop s list₀ from₀ k₀ list from k = (from ≤ length s) × (k ≤ length list) × Listed s list₀ from k list
+Inv-loop s list₀ from₀ k₀ list from k = (from ≤ length s) × (k ≤ length list) × Listed wholeIn s list₀ from k list
 
 abbrev μ-loop : tie.MeasureT-loop
 μ-loop s list₀ from₀ k₀ list from k = length s + 1 - from
 
 loop-holds : tie.Need-loop-holds Inv-loop μ-loop
-loop-holds c = (search needs, search needs, none-listed _ _)
+loop-holds c = (search needs, search needs, none-listed wholeIn _ _)
 
 sub-before : tie.Need-sub-before Inv-loop μ-loop
 sub-before c = search needs
@@ -32,17 +33,8 @@ part-before-end c = search needs
 before-requires : tie.Need-before-requires Inv-loop μ-loop
 before-requires c κs = search needs
 
--- the way back, from a place in the code to one that comes before it
-abbrev to-loop : tie.After-before2 Inv-loop μ-loop → tie.At-loop Inv-loop μ-loop
-to-loop c = c .before .before .before
-
-abbrev to-before2 : tie.After-known-told Inv-loop μ-loop → tie.After-before2 Inv-loop μ-loop
-to-before2 c = c .before .before .before .before .before
-
 add-end : tie.Need-add-end Inv-loop μ-loop
-add-end c =
-    let at-loop = to-loop c in
-    omega (arith, token-end (at-loop .before .before .args .s .now) (at-loop .loop .from) (at-loop .loop .inv .0) (c .before2 .ensures))
+add-end c = omega (arith, token-end (c .before .before .before .before .before .args .s .now) (c .before .before .before .loop .from) (c .before .before .before .loop .inv .0) (c .before2 .ensures))
 
 sub-signed : tie.Need-sub-signed Inv-loop μ-loop
 sub-signed c = search needs
@@ -51,9 +43,7 @@ part-signed-start : tie.Need-part-signed-start Inv-loop μ-loop
 part-signed-start c = search needs
 
 part-signed-end : tie.Need-part-signed-end Inv-loop μ-loop
-part-signed-end c =
-    let at-loop = to-loop c in
-    omega (arith, token-end (at-loop .before .before .args .s .now) (at-loop .loop .from) (at-loop .loop .inv .0) (c .before2 .ensures))
+part-signed-end c = omega (arith, token-end (c .before .before .before .before .before .args .s .now) (c .before .before .before .loop .from) (c .before .before .before .loop .inv .0) (c .before2 .ensures))
 
 signed-requires : tie.Need-signed-requires Inv-loop μ-loop
 signed-requires c κs = search needs
@@ -68,9 +58,7 @@ same-length : tie.Need-same-length Inv-loop μ-loop
 same-length c = search needs
 
 returns : tie.Need-returns Inv-loop μ-loop
-returns c =
-    list-bad (to-loop (c .before .before .before .before) .loop .inv .2) _ (search needs) (c .before .before .before .before .before2 .ensures)
-    (sym (c .enum-told .given .1) ∙ c .before .before .signed .ensures)
+returns c = list-bad (c .before .before .before .before .before .before .before .loop .inv .2) _ (search needs) (c .before .before .before .before .before2 .ensures) (ap wholeGot (sym (c .enum-told .given .1) ∙ c .before .before .signed .ensures))
 
 mul-x : tie.Need-mul-x Inv-loop μ-loop
 mul-x c = search needs
@@ -86,38 +74,24 @@ same-length-2 c = search needs
 
 returns-2 : tie.Need-returns-2 Inv-loop μ-loop
 returns-2 c =
-    let at-before2 = to-before2 (c .before) in
-    let at-loop = to-loop at-before2 in
-    list-done (at-loop .loop .inv .2) _ (omega (arith, at-before2 .before .before .loop-test .taken, at-loop .loop .inv .2 .long)) (at-before2 .before2 .ensures) _ _
-    (toZ-ofZ w32 (c .before .before .x .given .0 .0) (record { sfits = c .before .known-told .given .0 .1 }))
-    (sym (c .before .before .x .given .1) ∙ c .before .before .before .before .signed .ensures)
-    (at-loop .loop .inv .0) (c .if1 .taken)
+    list-done (c .before .before .before .before .before .before .before .before .before .loop .inv .2) _ (omega (arith, c .before .before .before .before .before .before .before .before .loop-test .taken, c .before .before .before .before .before .before .before .before .before .loop .inv .2 .long)) (c .before .before .before .before .before .before .before2 .ensures) _ _
+    (toZ-ofZ w32 (c .before .before .x .given .0 .0) (record { sfits = c .before .known-told .given .0 .1 })) (ap wholeGot (sym (c .before .before .x .given .1) ∙ c .before .before .before .before .signed .ensures))
+    (c .before .before .before .before .before .before .before .before .before .loop .inv .0) (c .if1 .taken)
 
 add-from : tie.Need-add-from Inv-loop μ-loop
-add-from c =
-    let at-before2 = to-before2 (c .before) in
-    let at-loop = to-loop at-before2 in
-    omega (arith, token-end (at-loop .before .before .args .s .now) (at-loop .loop .from) (at-loop .loop .inv .0) (at-before2 .before2 .ensures))
+add-from c = omega (arith, token-end (c .before .before .before .before .before .before .before .before .before .before .before .args .s .now) (c .before .before .before .before .before .before .before .before .before .loop .from) (c .before .before .before .before .before .before .before .before .before .loop .inv .0) (c .before .before .before .before .before .before .before2 .ensures))
 
 loop-less : tie.Need-loop-less Inv-loop μ-loop
-loop-less c =
-    let at-before2 = to-before2 (c .before) in
-    let at-loop = to-loop at-before2 in
-    omega (arith, token-end (at-loop .before .before .args .s .now) (at-loop .loop .from) (at-loop .loop .inv .0) (at-before2 .before2 .ensures))
+loop-less c = omega (arith, token-end (c .before .before .before .before .before .before .before .before .before .before .before .args .s .now) (c .before .before .before .before .before .before .before .before .before .loop .from) (c .before .before .before .before .before .before .before .before .before .loop .inv .0) (c .before .before .before .before .before .before .before2 .ensures))
 
 loop-again : tie.Need-loop-again Inv-loop μ-loop
-loop-again c =
-    let at-before2 = to-before2 (c .before) in
-    let at-in-loop = at-before2 .before .before in
-    let at-loop = to-loop at-before2 in
-    let start = at-loop .before .before in (
-      omega (arith, token-end (start .args .s .now) (at-loop .loop .from) (at-loop .loop .inv .0) (at-before2 .before2 .ensures)),
-      simp length-set (omega (arith, at-in-loop .loop-test .taken)),
-      list-more (at-loop .loop .inv .2) _ (omega (arith, at-in-loop .loop-test .taken, at-loop .loop .inv .2 .long)) (at-before2 .before2 .ensures) _ _
-          (toZ-ofZ w32 (c .before .before .x .given .0 .0) (record { sfits = c .before .known-told .given .0 .1 }))
-          (sym (c .before .before .x .given .1) ∙ c .before .before .before .before .signed .ensures)
-          (omega (arith, token-end (start .args .s .now) (at-loop .loop .from) (at-loop .loop .inv .0) (at-before2 .before2 .ensures))),
-    )
+loop-again c = (
+  omega (arith, token-end (c .before .before .before .before .before .before .before .before .before .before .before .args .s .now) (c .before .before .before .before .before .before .before .before .before .loop .from) (c .before .before .before .before .before .before .before .before .before .loop .inv .0) (c .before .before .before .before .before .before .before2 .ensures)),
+  simp length-set (omega (arith, c .before .before .before .before .before .before .before .before .loop-test .taken)),
+  list-more (c .before .before .before .before .before .before .before .before .before .loop .inv .2) _ (omega (arith, c .before .before .before .before .before .before .before .before .loop-test .taken, c .before .before .before .before .before .before .before .before .before .loop .inv .2 .long)) (c .before .before .before .before .before .before .before2 .ensures) _ _
+      (toZ-ofZ w32 (c .before .before .x .given .0 .0) (record { sfits = c .before .known-told .given .0 .1 })) (ap wholeGot (sym (c .before .before .x .given .1) ∙ c .before .before .before .before .signed .ensures))
+      (omega (arith, token-end (c .before .before .before .before .before .before .before .before .before .before .before .args .s .now) (c .before .before .before .before .before .before .before .before .before .loop .from) (c .before .before .before .before .before .before .before .before .before .loop .inv .0) (c .before .before .before .before .before .before .before2 .ensures))),
+)
 
 same-length-3 : tie.Need-same-length-3 Inv-loop μ-loop
 same-length-3 c = search needs

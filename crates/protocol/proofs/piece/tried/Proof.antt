@@ -1,6 +1,5 @@
 -- `piece::tried`: this verb, or one that is tried after it; the list is as it was then.
 use mathlib.Core.Path.{sym, _∙_}
-use Rattle.protocol.specs.Request.{verbOf}
 use borrow.Author.Needs.{needs}
 use Rattle.protocol.proofs.piece.tried.Statement.{statement}
 use Rattle.protocol.proofs.piece.tried.Tie as tie
@@ -18,7 +17,6 @@ same-length : tie.Need-same-length
 same-length c = search needs
 
 returns : tie.Need-returns
-unfolding verbOf
 returns c = (
   rw (sym (c .before .before .before .before .same .ensures) ∙ c .before .before .before .if1 .taken) (c .before .read .ensures .0),
   rw (sym (c .before .before .before .before .same .ensures) ∙ c .before .before .before .if1 .taken) (c .before .read .ensures .1),
@@ -28,7 +26,6 @@ tried-requires : tie.Need-tried-requires
 tried-requires c κs = search needs
 
 returns-2 : tie.Need-returns-2
-unfolding verbOf
 returns-2 c = (
   rw (sym (c .before .before .same .ensures) ∙ c .before .if1 .left) (c .tried .ensures),
   rw (sym (c .before .before .same .ensures) ∙ c .before .if1 .left),

@@ -3,7 +3,7 @@ use Prim.Native.Nat.{ℕ}
 use mathlib.Core.Path.{_≡_, sym, _∙_}
 use mathlib.Core.List.{List}
 use lib.IntN.{ℤ}
-use Rattle.wholes.specs.Many.{Lists}
+use Rattle.wholes.specs.Many.{wholeIn, Lists}
 use Rattle.wholes.specs.declared.Many.{Many}
 use Rattle.requests.proofs.Readers.{piece-bad, piece-alone, piece-more}
 use borrow.Author.Needs.{needs}
@@ -11,7 +11,7 @@ use Rattle.requests.proofs.piece.read.Statement.{statement}
 use Rattle.requests.proofs.piece.read.Tie as tie
 
 -- a result m that turned out to be k
-lists-as : {s : List ℕ} {list list' : List ℤ} {m k : Many} → m ≡ k → Lists s list m list' → Lists s list k list'
+lists-as : {s : List ℕ} {list list' : List ℤ} {m k : Many} → m ≡ k → Lists wholeIn s list m list' → Lists wholeIn s list k list'
 lists-as e l = record { answer = sym e ∙ l .answer; filled = l .filled }
 
 before-requires : tie.Need-before-requires

@@ -27,7 +27,7 @@ same-length-2 c = search needs
 returns : tie.Need-returns
 returns c =
     let start = c .before .before .before .before .before .before .before in
-    at-cap (λ n. acting (start .args .desk) (request.Send (start .args .word) n) []) (length-take-le _ _ (start .pre .0)) (c .before .before .before .sent .ensures)
+    at-cap (λ n. acting (start .args .desk) (request.Send (start .args .word) n) [] []) (length-take-le _ _ (start .pre .0)) (c .before .before .before .sent .ensures)
 
 pub send-spec : {M : Type 1} → statement M
 send-spec =

@@ -2,8 +2,8 @@
 use native.Mathlib.Omega.{arith}
 use lib.ListN.{length-set}
 use borrow.Author.Needs.{needs}
-use Rattle.sender.proofs.put.Statement.{statement}
-use Rattle.sender.proofs.put.Tie as tie
+use Rattle.symbols.proofs.put.Statement.{statement}
+use Rattle.symbols.proofs.put.Tie as tie
 
 slice-set-from-a : tie.Need-slice-set-from-a
 slice-set-from-a c = search needs

@@ -1,0 +1,53 @@
+// One word makes one symbol: its two points, the turn and the state after it, and the four coordinates put into an output.
+//
+// It leans on the code's rules (crate wei) and on the table of points, which the caller makes once and lends. Whether there is such
+// a word, and whether the output has room, is the sender's to test.
+use points::Point;
+ghost use mathlib.Core.Path.{_≡_};
+ghost use Prim.Native.Nat.{_≤_, _<_};
+ghost use lib.ListN.{length, set};
+ghost use Rattle.wei.specs.State.{nextState};
+ghost use Rattle.wei.specs.Symbol.{firstLabel, symbolOf};
+ghost use Rattle.points.specs.Points.{coordinates};
+ghost use Rattle.points.specs.Pair.{firstPoint, secondPoint};
+
+// A symbol's two points, and the turn and the state after it.
+pub struct Symbol {
+    pub turn: u32,
+    pub state: u32,
+    pub first: Point,
+    pub second: Point,
+}
+
+pub fn make(table: &[i8; 512], u: u32, state: u32, turn: u32, word: u32) -> Symbol
+    requires { ⌜ (now table ≡ coordinates) × (u ≤ 8) × (state < 16) × (turn < 4) ⌝ }
+    ensures { λ r. ⌜ r ≡ record { turn = firstLabel (symbolOf u state turn word); state = nextState state (symbolOf u state turn word .i1) (symbolOf u state turn word .i2); first = firstPoint (symbolOf u state turn word); second = secondPoint (symbolOf u state turn word) } ⌝ }
+{
+    let p = wei::word::unpack(u, word);
+    let q = wei::label::turn_on(turn, p.i2, p.i3);
+    let l = wei::label::labels(q, state & 1, p.i1);
+    let first = points::point_of(table, l.first, p.w1 as usize);
+    let second = points::point_of(table, l.second, p.w2 as usize);
+    let next = wei::state::next(state, p.i1, q & 1);
+    Symbol {
+        turn: q,
+        state: next,
+        first: first,
+        second: second,
+    }
+}
+
+// The four coordinates go to the first four places.
+pub fn put(out: &mut [i32], p: Point, q: Point)
+    requires { ⌜ 4 ≤ length (now out) ⌝ }
+    ensures { λ v. ⌜ now (out .exit) ≡ set (set (set (set (now (out .entry)) 0 (p .x)) 1 (p .y)) 2 (q .x)) 3 (q .y) ⌝ }
+{
+    let a = p.x;
+    let b = p.y;
+    let c = q.x;
+    let d = q.y;
+    out[0] = a;
+    out[1] = b;
+    out[2] = c;
+    out[3] = d;
+}

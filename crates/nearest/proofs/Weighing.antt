@@ -14,11 +14,11 @@ use Rattle.trellis.specs.Measure.{Two}
 use Rattle.trellis.specs.Pick.{keepN, least, near, gapOf, typeSum, bestI3}
 use Rattle.nearest.specs.declared.Received.{Received}
 use Rattle.nearest.specs.declared.Nearest.{Nearest}
-use Rattle.nearest.specs.declared.types.Nearer.{Nearer}
-use Rattle.nearest.specs.declared.types.Choices.{Choices}
+use Rattle.types.specs.declared.Nearer.{Nearer}
+use Rattle.types.specs.declared.Choices.{Choices}
 use Rattle.nearest.specs.Line.{InRange, lineDistance}
 use Rattle.nearest.specs.Found.{four, heardAs, nearestOf, costOf, weighedOf}
-use Rattle.nearest.specs.Types.{Summable, sumOf, nearerOf, choicesOf}
+use Rattle.types.specs.Types.{Summable, sumOf, nearerOf, choicesOf}
 use Rattle.nearest.proofs.Rows.{four-at}
 use Rattle.nearest.proofs.Laws.{d-below}
 

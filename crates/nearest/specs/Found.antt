@@ -1,7 +1,6 @@
 -- What is found for a received point and for a received symbol, as rows by label and by subset. Which number is nearest and which
 -- symbol is best is said by the theory alone (`near`, `gapOf`, `typeSum`, `bestI3`): here it is only laid out.
 --   four f            f at the labels 0 to 3
---   eight f           f at Y0, I1 and I2', in the order of the subset's number 4·Y0 + 2·I1 + I2'
 --   heardAs g h       the received symbol of two received points
 --   chartOf k         what a search on a line of the accord k needs
 --   nearestOf k h     for each label the nearest number below 2^u, and its distance
@@ -19,6 +18,7 @@ use Rattle.wei.specs.State.{subsetOf}
 use Rattle.wei.specs.Symbol.{Symbol}
 use Rattle.trellis.specs.Measure.{Two}
 use Rattle.trellis.specs.Pick.{near, gapOf, typeSum, bestI3}
+use Rattle.types.specs.Types.{eight}
 use Rattle.nearest.specs.declared.Received.{Received}
 use Rattle.nearest.specs.declared.Nearest.{Nearest}
 use Rattle.nearest.specs.declared.Weighed.{Weighed}
@@ -26,9 +26,6 @@ use Rattle.nearest.specs.Line.{lineDistance}
 
 abbrev pub four : (ℕ → ℕ) → List ℕ
 four f = f 0 ∷ f 1 ∷ f 2 ∷ f 3 ∷ []
-
-abbrev pub eight : (ℕ → ℕ → ℕ → ℕ) → List ℕ
-eight f = f 0 0 0 ∷ f 0 0 1 ∷ f 0 1 0 ∷ f 0 1 1 ∷ f 1 0 0 ∷ f 1 0 1 ∷ f 1 1 0 ∷ f 1 1 1 ∷ []
 
 abbrev pub heardAs : Received → Received → Two Received
 heardAs g h = record { first = g; second = h }

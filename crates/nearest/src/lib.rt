@@ -8,7 +8,6 @@
 // Each contract here is an equation of the result with one definition, so any two results that it allows are equal.
 mod key;
 mod line;
-mod types;
 
 use points::Accord;
 ghost use mathlib.Core.Path.{_≡_};

@@ -2,7 +2,7 @@
 use mathlib.Core.Path.{sym, subst₂}
 use borrow.Author.Needs.{needs}
 use Rattle.nearest.specs.declared.Nearest.{Nearest}
-use Rattle.nearest.specs.Types.{Summable}
+use Rattle.types.specs.Types.{Summable}
 use Rattle.nearest.proofs.Weighing.{summable, weighed}
 use Rattle.nearest.proofs.weigh.Statement.{statement}
 use Rattle.nearest.proofs.weigh.Tie as tie

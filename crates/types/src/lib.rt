@@ -1,10 +1,11 @@
-// The nearer of the two types of a subset.
+// The nearer of the two types of a subset, from the distances of the nearest points of each label.
 //
 // A type is a pair of labels: the turn q = 2·I3' + I2', Y0 and I1 give it. A subset fixes Y0, I1 and I2' and leaves I3' open, so
-// it has two types, with the turns q and q + 2, and both are weighed.
+// it has two types, with the turns q and q + 2, and both are weighed. Each contract is an equation of the result with one
+// definition of specs/Types, so any two results that it allows are equal.
 ghost use mathlib.Core.Path.{_≡_};
 ghost use Prim.Native.Nat.{_<_};
-ghost use Rattle.nearest.specs.Types.{Summable, sumOf, nearerOf, choicesOf};
+ghost use Rattle.types.specs.Types.{Summable, sumOf, nearerOf, choicesOf};
 
 // The distance of the nearer type, and its I3'.
 pub struct Nearer {

@@ -34,8 +34,11 @@ pub const A_POINTS: [(i32, i32); 256] = {
     table
 };
 
-/// Squared distance and number of the nearest point of each label.
+/// True squared distance and number of the nearest point of each label.
 pub type Near = [(u32, u32); 4];
+
+/// The most that the distance of one point counts for in a sum.
+const CAP: u32 = 262_144;
 
 pub trait Search {
     fn nearest(points: usize, x: i32, y: i32) -> Near;
@@ -114,8 +117,8 @@ impl Search for Keyed {
     }
 }
 
-/// For each subset its least squared distance and I3' of its best symbol; for each label the number of the nearest first
-/// point, then for each label that of the second.
+/// For each subset its least sum of counted distances and I3' of its best symbol; for each label the number of the nearest
+/// first point, then for each label that of the second.
 pub struct Choices {
     costs: [u64; 8],
     i3: [bool; 8],
@@ -141,11 +144,12 @@ fn word(u: u32, subset: usize, i3: bool, number: impl Fn(usize) -> u32) -> u32 {
 fn choices<S: Search>(u: u32, c: &[i32]) -> Choices {
     let near = [S::nearest(1 << u, c[0], c[1]), S::nearest(1 << u, c[2], c[3])];
     let numbers = std::array::from_fn(|n| near[n / 4][n % 4].1 as u8);
+    let counted = near.map(|of| of.map(|(d, _)| d.min(CAP)));
     let mut best = Choices { costs: [0; 8], i3: [false; 8], numbers };
     for subset in 0..8 {
         let cost = |i3: bool| {
             let (first, second) = labels(subset, i3);
-            (near[0][first].0 + near[1][second].0) as u64
+            (counted[0][first] + counted[1][second]) as u64
         };
         let (zero, one) = (cost(false), cost(true));
         (best.costs[subset], best.i3[subset]) = if one < zero { (one, true) } else { (zero, false) };

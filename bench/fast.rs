@@ -34,7 +34,7 @@ pub const A_POINTS: [(i32, i32); 256] = {
     table
 };
 
-/// True squared distance and number of the nearest point of each label.
+/// Of the nearest point of each label what its squared distance counts for, and its number.
 pub type Near = [(u32, u32); 4];
 
 /// The most that the distance of one point counts for in a sum.
@@ -73,7 +73,7 @@ impl Search for Direct {
                 least[l] = least[l].min(((dx * dx + dy * dy) as u64) << 8 | w as u64);
             }
         }
-        least.map(|key| ((key >> 8) as u32, key as u32 & 255))
+        least.map(|key| (((key >> 8) as u32).min(CAP), key as u32 & 255))
     }
 }
 
@@ -113,7 +113,7 @@ impl Search for Keyed {
             least[3] = least[3].min(norm[w] + across);
         }
         let heard = x * x + y * y;
-        least.map(|key| ((heard + (key & !255)) as u32, key as u32 & 255))
+        least.map(|key| (((heard + (key & !255)) as u32).min(CAP), key as u32 & 255))
     }
 }
 
@@ -144,12 +144,11 @@ fn word(u: u32, subset: usize, i3: bool, number: impl Fn(usize) -> u32) -> u32 {
 fn choices<S: Search>(u: u32, c: &[i32]) -> Choices {
     let near = [S::nearest(1 << u, c[0], c[1]), S::nearest(1 << u, c[2], c[3])];
     let numbers = std::array::from_fn(|n| near[n / 4][n % 4].1 as u8);
-    let counted = near.map(|of| of.map(|(d, _)| d.min(CAP)));
     let mut best = Choices { costs: [0; 8], i3: [false; 8], numbers };
     for subset in 0..8 {
         let cost = |i3: bool| {
             let (first, second) = labels(subset, i3);
-            (counted[0][first] + counted[1][second]) as u64
+            (near[0][first].0 + near[1][second].0) as u64
         };
         let (zero, one) = (cost(false), cost(true));
         (best.costs[subset], best.i3[subset]) = if one < zero { (one, true) } else { (zero, false) };

@@ -4,7 +4,7 @@
 --   nearKey u h l           the key of the nearest number of label l
 --   keys-near               the least keys below 2^u are those
 --   rest-le, read           number, distance and counted distance of such a key
-use mathlib.Core.Path.{_≡_, refl, sym, ap, ap₂, _∙_}
+use mathlib.Core.Path.{_≡_, refl, sym, ap, _∙_}
 use mathlib.Core.Bool.{Bool, true, false}
 use Prim.Native.Nat.{ℕ, zero, suc, _+_, _-_, _%_, _^_, _≤_, _<_, min}
 use native.Mathlib.Decide.{decLt}

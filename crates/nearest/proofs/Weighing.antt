@@ -6,6 +6,7 @@ use mathlib.Core.Bool.{Bool, true, false}
 use Prim.Native.Nat.{ℕ, _+_, _<_}
 use native.Mathlib.Omega.{arith}
 use lib.Dec.{ltb}
+use lib.ListN.{getD}
 use Rattle.wei.specs.Label.{turnOf, secondLabel}
 use Rattle.wei.proofs.Labels.{second-below}
 use Rattle.points.specs.declared.Accord.{Accord}
@@ -24,11 +25,19 @@ use Rattle.nearest.proofs.Laws.{counted-below}
 pub summable : (k : Accord) (g h : Received) → Summable (nearestOf k g .counted) (nearestOf k h .counted)
 summable k g h = record { first-below = counted-below k g; second-below = counted-below k h }
 
-sum-is : (k : Accord) (y : Two Received) (y0 i1 i2 i3 : ℕ) → i2 < 2 → i3 < 2 → sumOf (nearestOf k (y .first) .counted) (nearestOf k (y .second) .counted) y0 i1 i2 i3 ≡ typeSum (k .u) lineDistance counted y y0 i1 i2 i3
-unfolding sumOf nearestOf typeSum
+-- what the types of a subset count for, from the rows of two searches
+abbrev found : Accord → Two Received → ℕ → ℕ → ℕ → ℕ → ℕ
+found k y = sumOf (nearestOf k (y .first) .counted) (nearestOf k (y .second) .counted)
+
+at-label : (k : Accord) (h : Received) (l : ℕ) → l < 4 → getD (nearestOf k h .counted) l 0 ≡ counted (gapOf (k .u) lineDistance h l)
+unfolding nearestOf
+at-label k h = four-at (λ l. counted (gapOf (k .u) lineDistance h l))
+
+sum-is : (k : Accord) (y : Two Received) (y0 i1 i2 i3 : ℕ) → i2 < 2 → i3 < 2 → found k y y0 i1 i2 i3 ≡ typeSum (k .u) lineDistance counted y y0 i1 i2 i3
+unfolding sumOf typeSum
 sum-is k y y0 i1 i2 i3 a b =
     let q = turnOf i2 i3 in
-    ap₂ (λ (m n : ℕ). m + n) (four-at (λ l. counted (gapOf (k .u) lineDistance (y .first) l)) q (omega arith)) (four-at (λ l. counted (gapOf (k .u) lineDistance (y .second) l)) (secondLabel q y0 i1) (second-below q y0 i1))
+    ap₂ (λ (m n : ℕ). m + n) (at-label k (y .first) q (omega arith)) (at-label k (y .second) (secondLabel q y0 i1) (second-below q y0 i1))
 
 -- the choice looks at both types and at nothing else
 both : (f g : ℕ → ℕ) → f 0 ≡ g 0 → f 1 ≡ g 1 → nearerOf f ≡ nearerOf g
@@ -39,17 +48,18 @@ both f g p q = rw (p, q) (go (ltb (g 1) (g 0)))
     go true = ap (λ (n : ℕ). record { cost = n; i3 = 1 }) q
     go false = ap (λ (n : ℕ). record { cost = n; i3 = 0 }) p
 
-chosen : (k : Accord) (y : Two Received) (y0 i1 i2 : ℕ) → i2 < 2 → nearerOf (sumOf (nearestOf k (y .first) .counted) (nearestOf k (y .second) .counted) y0 i1 i2) ≡ record { cost = costOf k y y0 i1 i2; i3 = bestI3 (k .u) lineDistance counted y y0 i1 i2 }
+chosen : (k : Accord) (y : Two Received) (y0 i1 i2 : ℕ) → i2 < 2 → nearerOf (found k y y0 i1 i2) ≡ record { cost = costOf k y y0 i1 i2; i3 = bestI3 (k .u) lineDistance counted y y0 i1 i2 }
 unfolding costOf bestI3 nearerOf
 chosen k y y0 i1 i2 h =
-    both (sumOf (nearestOf k (y .first) .counted) (nearestOf k (y .second) .counted) y0 i1 i2) (typeSum (k .u) lineDistance counted y y0 i1 i2) (sum-is k y y0 i1 i2 0 h (omega arith)) (sum-is k y y0 i1 i2 1 h (omega arith))
+    both (found k y y0 i1 i2) (typeSum (k .u) lineDistance counted y y0 i1 i2) (sum-is k y y0 i1 i2 0 h (omega arith)) (sum-is k y y0 i1 i2 1 h (omega arith))
 
 numbers : (k : Accord) (h : Received) → nearestOf k h .w ≡ four (near (k .u) lineDistance h)
 unfolding nearestOf
 numbers k h = refl
 
 -- what `weigh` puts together
-pub weighed : (k : Accord) (g h : Received) (a b : Nearest) (c : Choices) → a ≡ nearestOf k g → b ≡ nearestOf k h → c ≡ choicesOf (λ y0 i1 i2. nearerOf (sumOf (a .counted) (b .counted) y0 i1 i2)) → record { costs = c .costs; i3 = c .i3; w1 = a .w; w2 = b .w } ≡ weighedOf k (heardAs g h)
+pub weighed : (k : Accord) (g h : Received) (a b : Nearest) (c : Choices) → a ≡ nearestOf k g → b ≡ nearestOf k h →
+    c ≡ choicesOf (λ y0 i1 i2. nearerOf (sumOf (a .counted) (b .counted) y0 i1 i2)) → record { costs = c .costs; i3 = c .i3; w1 = a .w; w2 = b .w } ≡ weighedOf k (heardAs g h)
 unfolding weighedOf
 weighed k g h a b c p q r =
     let y = heardAs g h in

@@ -95,7 +95,8 @@ read-off-requires-4 : tie.Need-read-off-requires-4
 read-off-requires-4 c κs = asked (c .before .before .before) 3 (c .before .before .before .least-keys .result .d) (keys-at (c .before .before .before) (λ k. k .d))
 
 -- the four candidates, as rows
-rows : (k : Accord) (h : Received) (a c b d : Candidate) → a ≡ found (k .u) h 0 → c ≡ found (k .u) h 1 → b ≡ found (k .u) h 2 → d ≡ found (k .u) h 3 → record { w = a .w ∷ c .w ∷ b .w ∷ d .w ∷ []; d = a .d ∷ c .d ∷ b .d ∷ d .d ∷ []; counted = a .counted ∷ c .counted ∷ b .counted ∷ d .counted ∷ [] } ≡ nearestOf k h
+rows : (k : Accord) (h : Received) (a c b d : Candidate) → a ≡ found (k .u) h 0 → c ≡ found (k .u) h 1 → b ≡ found (k .u) h 2 → d ≡ found (k .u) h 3 →
+    record { w = a .w ∷ c .w ∷ b .w ∷ d .w ∷ []; d = a .d ∷ c .d ∷ b .d ∷ d .d ∷ []; counted = a .counted ∷ c .counted ∷ b .counted ∷ d .counted ∷ [] } ≡ nearestOf k h
 unfolding nearestOf
 rows k h a c b d p q r s = rw (p, q, r, s)
 

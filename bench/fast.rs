@@ -34,8 +34,11 @@ pub const A_POINTS: [(i32, i32); 256] = {
     table
 };
 
-/// Squared distance and number of the nearest point of each label.
+/// Of the nearest point of each label what its squared distance counts for, and its number.
 pub type Near = [(u32, u32); 4];
+
+/// The most that the distance of one point counts for in a sum.
+const CAP: u32 = 262_144;
 
 pub trait Search {
     fn nearest(points: usize, x: i32, y: i32) -> Near;
@@ -70,7 +73,7 @@ impl Search for Direct {
                 least[l] = least[l].min(((dx * dx + dy * dy) as u64) << 8 | w as u64);
             }
         }
-        least.map(|key| ((key >> 8) as u32, key as u32 & 255))
+        least.map(|key| (((key >> 8) as u32).min(CAP), key as u32 & 255))
     }
 }
 
@@ -110,12 +113,12 @@ impl Search for Keyed {
             least[3] = least[3].min(norm[w] + across);
         }
         let heard = x * x + y * y;
-        least.map(|key| ((heard + (key & !255)) as u32, key as u32 & 255))
+        least.map(|key| (((heard + (key & !255)) as u32).min(CAP), key as u32 & 255))
     }
 }
 
-/// For each subset its least squared distance and I3' of its best symbol; for each label the number of the nearest first
-/// point, then for each label that of the second.
+/// For each subset its least sum of counted distances and I3' of its best symbol; for each label the number of the nearest
+/// first point, then for each label that of the second.
 pub struct Choices {
     costs: [u64; 8],
     i3: [bool; 8],

@@ -4,19 +4,23 @@
 use crate::reference::*;
 use crate::rng::Rng;
 
-/// An allowed sequence. The key is the scope's order: the sum, the states from the last back to the first, then in each
-/// symbol I3', w1, w2.
+/// In one symbol I3', then for each point its true distance and its number.
+type Ties = (u32, (u64, u32), (u64, u32));
+
+/// An allowed sequence. The key is the order of 02, Wish 8: the sum of counted distances, the states from the last back to the
+/// first, then the ties of each symbol.
 #[derive(Clone)]
 struct Sequence {
     sum: u64,
     states: Vec<u32>,
     symbols: Vec<Symbol>,
+    ties: Vec<Ties>,
 }
 
 impl Sequence {
-    fn key(&self) -> (u64, Vec<u32>, Vec<(u32, u32, u32)>) {
+    fn key(&self) -> (u64, Vec<u32>, &[Ties]) {
         let back = self.states.iter().rev().copied().collect();
-        (self.sum, back, self.symbols.iter().map(|s| (s.turn >> 1, s.w1, s.w2)).collect())
+        (self.sum, back, &self.ties)
     }
 
     fn is_before(&self, other: &Sequence) -> bool {
@@ -46,8 +50,11 @@ fn list_all(map: &Map, u: u32, heard: &[(Point, Point)], so_far: &mut Sequence, 
         let s = symbol(map, from & 1, i1, turn, parts >> 3 & low, parts >> (3 + u) & low);
         so_far.symbols.push(s);
         so_far.states.push(next_state(from, i1, turn % 2));
-        so_far.sum = sum + distance(y.0, s.points.0) + distance(y.1, s.points.1);
+        let (d1, d2) = (distance(y.0, s.points.0), distance(y.1, s.points.1));
+        so_far.ties.push((turn >> 1, (d1, s.w1), (d2, s.w2)));
+        so_far.sum = sum + d1.min(CAP) + d2.min(CAP);
         list_all(map, u, heard, so_far, best);
+        so_far.ties.pop();
         so_far.symbols.pop();
         so_far.states.pop();
         so_far.sum = sum;
@@ -65,7 +72,7 @@ fn words(u: u32, start: u32, symbols: &[Symbol]) -> Vec<u32> {
 fn owed(map: &Map, u: u32, start: u32, heard: &[(Point, Point)]) -> (Vec<u32>, Vec<u32>) {
     let mut best: Vec<Option<Sequence>> = vec![None; 16];
     for s in (0..16).filter(|&s| start == FREE || start == s) {
-        let mut none = Sequence { sum: 0, states: vec![s], symbols: vec![] };
+        let mut none = Sequence { sum: 0, states: vec![s], symbols: vec![], ties: vec![] };
         list_all(map, u, heard, &mut none, &mut best);
     }
     let live: Vec<&Sequence> = best.iter().flatten().collect();
@@ -76,13 +83,15 @@ fn owed(map: &Map, u: u32, start: u32, heard: &[(Point, Point)]) -> (Vec<u32>, V
     (words(u, start, &live[0].symbols[..common]), words(u, start, &answer.unwrap().symbols))
 }
 
-/// One received coordinate: small whole points, midpoints (ties), the ends of the range, or anything.
+/// One received coordinate: small whole points, midpoints (ties), the ends of the range, where distances pass the cap, or
+/// anything.
 fn coordinate(rng: &mut Rng) -> i32 {
-    match rng.below(5) {
+    match rng.below(6) {
         0 => 0,
         1 => 128 * (rng.below(9) as i32 - 4),
         2 => [-8192, 8192, -8191, 8191][rng.below(4) as usize],
         3 => rng.below(16385) as i32 - 8192,
+        4 => (rng.below(2) as i32 * 2 - 1) * (384 + rng.below(1400) as i32),
         _ => 256 * (rng.below(5) as i32 - 2) + 128 + rng.below(61) as i32 - 30,
     }
 }

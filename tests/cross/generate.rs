@@ -16,6 +16,8 @@ enum Source {
     Sent(f64),
     /// The same with bursts in which nothing of the sent symbol is left.
     Bursts(f64),
+    /// The same with sparks: now and then a single point is anywhere, most often beyond the cap.
+    Sparks(f64),
     /// Halfway between points, and on them: many sums are equal.
     Ties,
     /// One symbol again and again.
@@ -122,7 +124,7 @@ impl<'m> Session<'m> {
     fn source(&mut self) -> Source {
         let r = &mut self.rng;
         let deviation = r.pick(&[0.0, 10.0, 40.0, 60.0, 75.0, 90.0, 130.0, 400.0]);
-        match r.below(16) {
+        match r.below(17) {
             0..=8 => Source::Sent(deviation),
             9 => Source::Bursts(deviation.min(60.0)),
             10 | 11 => Source::Ties,
@@ -132,6 +134,7 @@ impl<'m> Session<'m> {
             }
             13 => Source::Ends,
             14 => Source::Anything,
+            15 => Source::Sparks(deviation.min(60.0)),
             _ => Source::Mixed,
         }
     }
@@ -333,6 +336,16 @@ impl LineSource {
                     return Ok(each(&mut session.rng, &anything));
                 }
                 self.undamaged(Source::Sent(deviation), session)
+            }
+            Source::Sparks(deviation) => {
+                let mut symbol = self.undamaged(Source::Sent(deviation), session)?;
+                let r = &mut session.rng;
+                if r.once_in(8) {
+                    let at = 2 * r.below(2) as usize;
+                    symbol[at] = anything(r);
+                    symbol[at + 1] = anything(r);
+                }
+                Ok(symbol)
             }
             Source::Ties => Ok(each(&mut session.rng, &|r| match r.below(4) {
                 0 => 0,

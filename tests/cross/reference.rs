@@ -10,6 +10,8 @@ pub const FREE: u32 = 16;
 pub const REACH: i64 = 8192;
 /// Line units to one unit of a point's coordinate.
 pub const SCALE: i64 = 128;
+/// The most that the squared distance of one point counts for in a sum (02, Wish 8).
+pub const CAP: u64 = 262_144;
 
 pub type Point = (i32, i32);
 
@@ -207,6 +209,8 @@ pub struct Receiver {
     open: bool,
     u: u32,
     window: u32,
+    /// What a point's distance counts for at most.
+    cap: u64,
     taken: u64,
     /// The turn that the next released word is measured against: none before the first word of a free start.
     turn: Option<u32>,
@@ -234,19 +238,19 @@ pub fn distance(heard: Point, p: Point) -> u64 {
     (dx * dx + dy * dy) as u64
 }
 
-/// The nearest number of a label, the smaller of equals, with its squared distance.
+/// The nearest number of a label, by its true distance, the smaller of equals; with that distance.
 fn nearest(map: &Map, u: u32, label: u32, heard: Point) -> (u64, u32) {
     (0..1u32 << u).map(|w| (distance(heard, map.point(label, w)), w)).min().unwrap()
 }
 
-/// For each subset 4·Y0 + 2·I1 + I2' the best symbol and its squared distance.
-fn best_of_subsets(map: &Map, u: u32, heard: (Point, Point)) -> Vec<(u64, Symbol)> {
+/// For each subset 4·Y0 + 2·I1 + I2' the best symbol and the sum of its distances, each counted up to the cap.
+fn best_of_subsets(map: &Map, u: u32, cap: u64, heard: (Point, Point)) -> Vec<(u64, Symbol)> {
     let first: Vec<(u64, u32)> = (0..4).map(|l| nearest(map, u, l, heard.0)).collect();
     let second: Vec<(u64, u32)> = (0..4).map(|l| nearest(map, u, l, heard.1)).collect();
     let of_type = |y0: u32, i1: u32, turn: u32| {
         let (a, b) = labels(turn, y0, i1);
         let ((d1, w1), (d2, w2)) = (first[a as usize], second[b as usize]);
-        (d1 + d2, symbol(map, y0, i1, turn, w1, w2))
+        (d1.min(cap) + d2.min(cap), symbol(map, y0, i1, turn, w1, w2))
     };
     (0..8)
         .map(|subset| {
@@ -272,7 +276,7 @@ fn agreed(best: &[Option<Reading>]) -> usize {
 
 impl Receiver {
     pub fn closed() -> Receiver {
-        Receiver { open: false, u: 0, window: 0, taken: 0, turn: None, best: vec![] }
+        Receiver { open: false, u: 0, window: 0, cap: CAP, taken: 0, turn: None, best: vec![] }
     }
 
     pub fn open(u: u32, window: u32, start: u32) -> (u32, Receiver) {
@@ -290,7 +294,12 @@ impl Receiver {
         }
         let nothing = || Reading { sum: 0, pending: vec![] };
         let best = (0..16).map(|s| (start == FREE || start == s).then(nothing)).collect();
-        (0, Receiver { open: true, u, window, taken: 0, turn: (start != FREE).then_some(0), best })
+        (0, Receiver { open: true, u, window, cap: CAP, taken: 0, turn: (start != FREE).then_some(0), best })
+    }
+
+    /// The receiver of 01 alone, in which every distance counts whole.
+    pub fn counting_whole(self) -> Receiver {
+        Receiver { cap: u64::MAX, ..self }
     }
 
     pub fn open_plain(u: u32) -> (u32, Receiver) {
@@ -308,7 +317,7 @@ impl Receiver {
     /// The best sequences after one more symbol. A state's predecessors are tried in rising order and a later one must be
     /// strictly better: ties go to the smaller state.
     fn after(&self, map: &Map, heard: (Point, Point)) -> Vec<Option<Reading>> {
-        let choices = best_of_subsets(map, self.u, heard);
+        let choices = best_of_subsets(map, self.u, self.cap, heard);
         let mut found: Vec<Option<(u64, usize, Symbol)>> = vec![None; 16];
         for (before, reading) in self.best.iter().enumerate() {
             let Some(reading) = reading else { continue };

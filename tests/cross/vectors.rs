@@ -57,7 +57,8 @@ fn sender(path: &Path, map: &Map) -> Result<usize, String> {
     Ok(sends)
 }
 
-/// The cases are of 01 alone. 02, Wish 5, clears bits 1 and 2 of the first word that a free start releases.
+/// The cases are of 01 alone: distances count whole, as they did before 02, Wish 8. Wish 5 clears bits 1 and 2 of the first
+/// word that a free start releases. With counted distances the reference is held to lab's cases and to the definition.
 fn receiver(path: &Path, map: &Map) -> Result<usize, String> {
     let mut file = Numbers::read(path)?;
     let mut calls = 0;
@@ -73,7 +74,8 @@ fn receiver(path: &Path, map: &Map) -> Result<usize, String> {
                 start as u32
             }
         };
-        let (number, mut receiver) = Receiver::open(u as u32, window as u32, named);
+        let (number, receiver) = Receiver::open(u as u32, window as u32, named);
+        let mut receiver = receiver.counting_whole();
         let case = format!("u {u} window {window} start {start}");
         same(&case, file.next(), number as i64)?;
         let mut unclaimed = if start < 0 { 6 } else { 0 };

@@ -16,6 +16,7 @@ use Rattle.wei.specs.Label.{secondLabel}
 use Rattle.points.specs.Agreed.{ofWidth}
 use Rattle.points.specs.Points.{aPoint, coordinates}
 use Rattle.points.specs.Turn.{pointOf}
+use Rattle.trellis.specs.Measure.{counted}
 use Rattle.trellis.specs.Pick.{least, near, gapOf, typeSum, bestI3}
 use Rattle.trellis.specs.Search.{range}
 use Rattle.trellis.specs.Speak.{speak, after}
@@ -80,17 +81,17 @@ many-row = refl
 -- "Window 1, u 0, free start, (128,128,128,128) twice: the first is taken, nothing released; the second gets 6"; with no room, the second
 -- symbol's word; with no room, the one pending word; (A,A) five times
 at-work : (row (hearing (freshly 1 Free) (pieceOf (a-a ++ a-a)) 0) ≡ 6 ∷ 0 ∷ 1 ∷ 0 ∷ [])
-    × (row (hearing (freshly 64 Free) (pieceOf (replicate 4 (pos 8192) ++ zeros)) 0) ≡ 8 ∷ 0 ∷ 1 ∷ 0 ∷ [])
+    × (row (hearing (freshly 64 Free) (pieceOf (a-a ++ zeros)) 0) ≡ 8 ∷ 0 ∷ 1 ∷ 0 ∷ [])
     × (row (finishing (hearing (freshly 64 Free) (pieceOf zeros) 0 .receiver) 0) ≡ 8 ∷ 0 ∷ 0 ∷ 0 ∷ [])
     × (hearing (freshly 64 (At 0)) (pieceOf a-a-five) 5 .words ≡ 0 ∷ [])
     × (hearing (freshly 64 (At 0)) (pieceOf a-a-five) 5 .taken ≡ 5)
-unfolding opening hearing finishing sound soundCore allUpTo opened freshSums running symbolAt faultOf taking agreedOf grown releasedOf oldest sameFrom carried movedWords movedOf tabled followed liveOf reachedOf sumAt stepAt firstStep winner arrive weighedOf costOf bestI3 typeSum gapOf near least lineDistance distance pointOf aPoint coordinates secondLabel before between carryI1 carryI2 wayFrom range speak after endOf lastSymbols symbolBy numbersOf keptIn word wordParts packed
+unfolding opening hearing finishing sound soundCore allUpTo opened freshSums running symbolAt faultOf taking agreedOf grown releasedOf oldest sameFrom carried movedWords movedOf tabled followed liveOf reachedOf sumAt stepAt firstStep winner arrive weighedOf costOf bestI3 typeSum counted gapOf near least lineDistance distance pointOf aPoint coordinates secondLabel before between carryI1 carryI2 wayFrom range speak after endOf lastSymbols symbolBy numbersOf keptIn word wordParts packed
 at-work = (refl, refl, refl, refl, refl)
 
 pub window-row : row (hearing (freshly 1 Free) (pieceOf (a-a ++ a-a)) 0) ≡ 6 ∷ 0 ∷ 1 ∷ 0 ∷ []
 window-row = at-work .0
 
-pub room-row : row (hearing (freshly 64 Free) (pieceOf (replicate 4 (pos 8192) ++ zeros)) 0) ≡ 8 ∷ 0 ∷ 1 ∷ 0 ∷ []
+pub room-row : row (hearing (freshly 64 Free) (pieceOf (a-a ++ zeros)) 0) ≡ 8 ∷ 0 ∷ 1 ∷ 0 ∷ []
 room-row = at-work .1
 
 pub finish-row : row (finishing (hearing (freshly 64 Free) (pieceOf zeros) 0 .receiver) 0) ≡ 8 ∷ 0 ∷ 0 ∷ 0 ∷ []

@@ -22,7 +22,7 @@ use Rattle.points.specs.declared.Accord.{Accord}
 use Rattle.points.specs.Agreed.{ofWidth}
 use Rattle.points.specs.Points.{coordinates, aPoint}
 use Rattle.points.specs.Turn.{pointOf}
-use Rattle.trellis.specs.Measure.{Two, free}
+use Rattle.trellis.specs.Measure.{Two, free, counted}
 use Rattle.trellis.specs.Pick.{keepN, least, near, gapOf, typeSum, bestI3}
 use Rattle.planes.specs.Planes.{subsetIn, movedOf, sameAt, oldest}
 use Rattle.planes.proofs.Moved.{newest-subset, older-subset}
@@ -54,7 +54,7 @@ abbrev costs : List ℕ
 costs = weighedOf (ofWidth 0) zeros .costs
 
 costs-at : (i : ℕ) → i < 8 → getD costs i 0 ≡ 65536
-unfolding weighedOf costOf bestI3 typeSum gapOf near least lineDistance distance pointOf aPoint coordinates secondLabel
+unfolding weighedOf costOf bestI3 typeSum counted gapOf near least lineDistance distance pointOf aPoint coordinates secondLabel
 costs-at = equal1 8 (λ i. getD costs i 0) (λ i. 65536) tt
 
 least-flat : (f : ℕ → ℕ) (c n : ℕ) → ((k : ℕ) → k ≤ n → f k ≡ c) → least f n ≡ 0

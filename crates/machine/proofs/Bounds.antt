@@ -20,7 +20,7 @@ use Rattle.wei.proofs.States.{carryI1-below, carryI2-below}
 use Rattle.nearest.specs.declared.Received.{Received}
 use Rattle.nearest.specs.Line.{BothInRange, lineMeasure, lineChoice}
 use Rattle.nearest.specs.Found.{weighedOf}
-use Rattle.nearest.proofs.Laws.{far-below, costs-below, line-chooses}
+use Rattle.nearest.proofs.Laws.{far-most, costs-most, line-chooses}
 use Rattle.select.specs.Select.{limit, sixteen, arrive, winner, sumAt, rowOf}
 use Rattle.machine.specs.Machine.{topSum}
 use Rattle.select.proofs.Lists.{sixteen-most}
@@ -29,9 +29,9 @@ use Rattle.machine.proofs.Arrivals.{Room}
 use Rattle.points.specs.declared.Accord.{Accord}
 use Rattle.points.specs.Agreed.{isAccord}
 
--- "The squared distance of a 4D point from a received symbol stays below 2^30"
+-- what a symbol counts for stays below 2^30
 near : (ac : Accord) → isAccord ac ≡ true → Near (ac .u) (lineMeasure ac) BothInRange
-near ac small y c a v = far-below ac y small a c v
+near ac small y c a v = omega (arith, far-most ac y c)
 
 module _ (ac : Accord) (small : isAccord ac ≡ true) (b : Start) (ys : List (Two Received)) (good : Every BothInRange ys) (y : Two Received) (fine : BothInRange y)
     (few : length (y ∷ ys) ≤ 4294967295) where
@@ -50,4 +50,4 @@ top-next ac small y fine n sums top =
     let costs : List ℕ = weighedOf ac y .costs in
     sixteen-most (sumAt sums costs) (topSum (n + 1)) (λ t.
     let s : ℕ = before t (winner sums costs t) in
-    omega (arith, top s, costs-below ac y small fine (between s t)))
+    omega (arith, top s, costs-most ac y (between s t)))

@@ -20,7 +20,7 @@ use Rattle.nearest.specs.declared.Received.{Received}
 use Rattle.nearest.specs.declared.Weighed.{Weighed}
 use Rattle.nearest.specs.Line.{InRange}
 use Rattle.nearest.specs.Found.{heardAs, weighedOf}
-use Rattle.nearest.proofs.Laws.{costs-below}
+use Rattle.nearest.proofs.Laws.{costs-most}
 use Rattle.select.specs.declared.Selected.{Selected}
 use Rattle.machine.specs.declared.Core.{Core}
 use Rattle.machine.specs.declared.Receiver.{Receiver}
@@ -48,7 +48,7 @@ pub summable : (core : Core) (sums : List ℕ) (g h : Received) (w : Weighed) �
 summable core sums g h w r few a b e =
     record {
       sums-below = λ i. omega (arith, r .sums-fit i);
-      costs-below = rw e (costs-below (core .accord) (heardAs g h) (r .core-fits .agreed) (record { first-in = a; second-in = b }));
+      costs-below = rw e (λ i. omega (arith, costs-most (core .accord) (heardAs g h) i));
     }
 
 pub looked : (core : Core) (sums planes : List ℕ) (y : Two Received) (w : Weighed) (next : Selected) (ways : List ℕ) (n numbers : ℕ)

@@ -3,10 +3,10 @@
 --   first-keys, next-keys   the search starts with number 0, and looks at one number more
 --   nearKey u h l           the key of the nearest number of label l
 --   keys-near               the least keys below 2^u are those
---   rest-le, read           number and distance of such a key
-use mathlib.Core.Path.{_≡_, refl, sym, ap, ap₂, _∙_}
+--   rest-le, read           number, distance and counted distance of such a key
+use mathlib.Core.Path.{_≡_, refl, sym, ap, _∙_}
 use mathlib.Core.Bool.{Bool, true, false}
-use Prim.Native.Nat.{ℕ, zero, suc, _+_, _-_, _%_, _^_, _≤_, _<_}
+use Prim.Native.Nat.{ℕ, zero, suc, _+_, _-_, _%_, _^_, _≤_, _<_, min}
 use native.Mathlib.Decide.{decLt}
 use native.Mathlib.Omega.{arith}
 use borrow.Author.Tests.{lt-ltb, le-ltb}
@@ -14,6 +14,7 @@ use lib.Dec.{ltb}
 use Rattle.points.specs.declared.Point.{Point}
 use Rattle.points.specs.Points.{aPoint}
 use Rattle.points.specs.Turn.{turned, pointOf}
+use Rattle.trellis.specs.Measure.{cap, counted}
 use Rattle.trellis.specs.Pick.{keepN, least, near, gapOf}
 use Rattle.nearest.specs.declared.Received.{Received}
 use Rattle.nearest.specs.Line.{distance, lineDistance}
@@ -23,6 +24,15 @@ use Rattle.nearest.proofs.Laws.{least-le, near-listed}
 
 lesser-self : (x : ℕ) → lesserOf x x ≡ x
 lesser-self x = ap (λ (b : Bool). keepN b x x) (le-ltb x x (omega arith))
+
+-- the lesser of a distance and the cap is what it counts for
+lesser-capped : (d : ℕ) → lesserOf d cap ≡ counted d
+unfolding counted
+lesser-capped d = go (decLt cap d)
+  where
+    go : Dec (cap < d) → lesserOf d cap ≡ min d cap
+    go (yes l) = ap (λ (b : Bool). keepN b d cap) (lt-ltb cap d l) ∙ omega arith
+    go (no l) = ap (λ (b : Bool). keepN b d cap) (le-ltb cap d (omega arith)) ∙ omega arith
 
 -- keys compare as the distances do, where the later number is the larger
 same-test : (d e v w : ℕ) → d % 256 ≡ e % 256 → v < w → w < 256 → ltb (e + w) (d + v) ≡ ltb e d
@@ -95,5 +105,8 @@ module _ (u : ℕ) (h : Received) (g : u ≤ 8) (l : ℕ) where
     number-is : (key - first % 256) % 256 ≡ near u lineDistance h l
     number-is = omega (arith, same, near-listed u lineDistance h l g)
 
-    pub read : candidateOf key (first % 256) ≡ record { w = near u lineDistance h l; d = gapOf u lineDistance h l }
-    read = ap₂ (λ (w d : ℕ). record { w = w; d = d }) number-is (omega (arith, number-is))
+    pub read : candidateOf key (first % 256) ≡ record { w = near u lineDistance h l; d = gapOf u lineDistance h l; counted = counted (gapOf u lineDistance h l) }
+    read =
+        let e : key - (key - first % 256) % 256 ≡ gapOf u lineDistance h l = omega (arith, number-is) in
+        let f : lesserOf (key - (key - first % 256) % 256) cap ≡ counted (gapOf u lineDistance h l) = ap (λ (n : ℕ). lesserOf n cap) e ∙ lesser-capped (gapOf u lineDistance h l) in
+        λ i. record { w = number-is i; d = e i; counted = f i }

@@ -1,13 +1,14 @@
 -- What callers may rely on, over the definitions that the contracts name. Bounds on a row hold at every index, past its end too.
 --   near-below, i3-below               a chosen number is below 2^u, a chosen I3' below 2
 --   far-below                          "The squared distance of a 4D point from a received symbol stays below 2^30"
---   best-cost, cost-below              a subset's cost is the distance of its best symbol, so it is below 2^30
+--   far-most                           what it counts for is at most 524,288
+--   best-cost                          a subset's cost is what its best symbol counts for
 --   costs-at, best-read                a subset's cost and its best symbol, read off what `weigh` answers
 --   line-chooses                       the choice of the line is the first of its subset
---   d-below, costs-below, i3s-below, w1-below, w2-below   the rows of `search` and `weigh`
+--   counted-below, costs-most, i3s-below, w1-below, w2-below   the rows of `search` and `weigh`
 use mathlib.Core.Path.{_≡_, refl}
 use mathlib.Core.Bool.{Bool, true, false}
-use Prim.Native.Nat.{ℕ, zero, suc, _-_, _^_, _≤_, _<_}
+use Prim.Native.Nat.{ℕ, zero, suc, _+_, _-_, _^_, _≤_, _<_}
 use native.Mathlib.Omega.{arith}
 use lib.Dec.{ltb}
 use lib.ListN.{getD}
@@ -21,9 +22,10 @@ use Rattle.points.specs.Agreed.{isAccord}
 use Rattle.points.specs.Turn.{pointOf}
 use Rattle.points.proofs.Agreed.{accord-width}
 use Rattle.points.proofs.Turns.{small-point}
-use Rattle.trellis.specs.Measure.{Two, farOf}
+use Rattle.trellis.specs.Measure.{Two, counted, firstFar, secondFar, farOf}
 use Rattle.trellis.specs.Pick.{keepN, least, near, gapOf, typeSum, bestI3, bestOf, Chooses}
 use Rattle.trellis.proofs.Pairs.{pairs-chooses}
+use Rattle.trellis.proofs.Counted.{counted-rises, counted-most, most}
 use Rattle.nearest.specs.declared.Received.{Received}
 use Rattle.nearest.specs.Line.{InRange, BothInRange, lineDistance, lineMeasure, lineChoice}
 use Rattle.nearest.specs.Found.{nearestOf, costOf, weighedOf, pickedFrom}
@@ -53,51 +55,44 @@ module _ {P : Type 0} (u : ℕ) (d : P → ℕ → ℕ → ℕ) where
   pub near-listed : (p : P) (l : ℕ) → u ≤ 8 → near u d p l < 256
   near-listed p l g = listed u (near u d p l) g (near-below p l)
 
-  pub i3-below : (y : Two P) (y0 i1 i2 : ℕ) → bestI3 u d y y0 i1 i2 < 2
+  pub i3-below : (count : ℕ → ℕ) (y : Two P) (y0 i1 i2 : ℕ) → bestI3 u d count y y0 i1 i2 < 2
   unfolding bestI3
-  i3-below y y0 i1 i2 = omega (arith, least-le (typeSum u d y y0 i1 i2) 1)
+  i3-below count y y0 i1 i2 = omega (arith, least-le (typeSum u d count y y0 i1 i2) 1)
 
 line-below : (h : Received) (l w : ℕ) → InRange h → w < 256 → lineDistance h l w < 2 ^ 29
 unfolding lineDistance
 line-below h l w a b = distance-below h (pointOf l w) a (small-point l w b)
 
-gap-below : (k : Accord) (h : Received) (l : ℕ) → isAccord k ≡ true → InRange h → gapOf (k .u) lineDistance h l < 2 ^ 29
-unfolding gapOf
-gap-below k h l g a = line-below h l (near (k .u) lineDistance h l) a (near-listed (k .u) lineDistance h l (accord-width k g))
+-- "The squared distance of a 4D point from a received symbol stays below 2^30"
+pub far-below : (k : Accord) (y : Two Received) → isAccord k ≡ true → BothInRange y → (c : Symbol) → Valid (k .u) c → firstFar Received lineDistance y c + secondFar Received lineDistance y c < 2 ^ 30
+unfolding firstFar secondFar
+far-below k y g a c v =
+    omega (
+      arith,
+      line-below (y .first) (firstLabel c) (c .w1) (a .first-in) (listed (k .u) (c .w1) (accord-width k g) (v .w1-below)),
+      line-below (y .second) (lastLabel c) (c .w2) (a .second-in) (listed (k .u) (c .w2) (accord-width k g) (v .w2-below)),
+    )
+
+-- a symbol counts for no more than two caps, whatever was received
+pub far-most : (k : Accord) (y : Two Received) (c : Symbol) → lineMeasure k .far y c ≤ 524288
+far-most k y c = most lineDistance y c
 
 pub best-cost : (k : Accord) (y : Two Received) (y0 i1 i2 : ℕ) → lineMeasure k .far y (lineChoice k y y0 i1 i2) ≡ costOf k y y0 i1 i2
-unfolding farOf bestOf costOf typeSum gapOf lastLabel
+unfolding farOf firstFar secondFar bestOf costOf typeSum gapOf lastLabel
 best-cost k y y0 i1 i2 = refl
 
-module _ (k : Accord) (y : Two Received) (g : isAccord k ≡ true) (a : BothInRange y) where
-  -- "The squared distance of a 4D point from a received symbol stays below 2^30"
-  pub far-below : (c : Symbol) → Valid (k .u) c → lineMeasure k .far y c < 2 ^ 30
-  unfolding farOf
-  far-below c v =
-      omega (
-        arith,
-        line-below (y .first) (firstLabel c) (c .w1) (a .first-in) (listed (k .u) (c .w1) (accord-width k g) (v .w1-below)),
-        line-below (y .second) (lastLabel c) (c .w2) (a .second-in) (listed (k .u) (c .w2) (accord-width k g) (v .w2-below)),
-      )
-
-  pub cost-below : (y0 i1 i2 : ℕ) → costOf k y y0 i1 i2 < 2 ^ 30
-  unfolding costOf typeSum
-  cost-below y0 i1 i2 =
-      let q = turnOf i2 (bestI3 (k .u) lineDistance y y0 i1 i2) in
-      omega (arith, gap-below k (y .first) q g (a .first-in), gap-below k (y .second) (secondLabel q y0 i1) g (a .second-in))
-
-pub d-below : (k : Accord) (h : Received) → isAccord k ≡ true → InRange h → (i : ℕ) → getD (nearestOf k h .d) i 0 < 2 ^ 29
+pub counted-below : (k : Accord) (h : Received) (i : ℕ) → getD (nearestOf k h .counted) i 0 < 2 ^ 29
 unfolding nearestOf
-d-below k h g a = four-each (λ n. n < 2 ^ 29) (omega arith) (gapOf (k .u) lineDistance h) (λ l. gap-below k h l g a)
+counted-below k h = four-each (λ n. n < 2 ^ 29) (omega arith) (λ l. counted (gapOf (k .u) lineDistance h l)) (λ l. omega (arith, counted-most (gapOf (k .u) lineDistance h l)))
 
-pub costs-below : (k : Accord) (y : Two Received) → isAccord k ≡ true → BothInRange y → (i : ℕ) → getD (weighedOf k y .costs) i 0 < 2 ^ 30
+pub costs-most : (k : Accord) (y : Two Received) (i : ℕ) → getD (weighedOf k y .costs) i 0 ≤ 524288
 unfolding weighedOf
-costs-below k y g a = eight-each (λ n. n < 2 ^ 30) (omega arith) (costOf k y) (cost-below k y g a)
+costs-most k y = eight-each (λ n. n ≤ 524288) (omega arith) (costOf k y) (λ y0 i1 i2. omega (arith, best-cost k y y0 i1 i2, far-most k y (lineChoice k y y0 i1 i2)))
 
 module _ (k : Accord) (y : Two Received) where
   pub i3s-below : (i : ℕ) → getD (weighedOf k y .i3) i 0 < 2
   unfolding weighedOf
-  i3s-below = eight-each (λ n. n < 2) (omega arith) (bestI3 (k .u) lineDistance y) (i3-below (k .u) lineDistance y)
+  i3s-below = eight-each (λ n. n < 2) (omega arith) (bestI3 (k .u) lineDistance counted y) (i3-below (k .u) lineDistance counted y)
 
   pub w1-below : (i : ℕ) → getD (weighedOf k y .w1) i 0 < 2 ^ k .u
   unfolding weighedOf
@@ -115,10 +110,10 @@ module _ (k : Accord) (y : Two Received) where
     pub best-read : pickedFrom (weighedOf k y .i3) (weighedOf k y .w1) (weighedOf k y .w2) y0 i1 i2 ≡ lineChoice k y y0 i1 i2
     unfolding pickedFrom weighedOf bestOf
     best-read =
-        let q = turnOf i2 (bestI3 (k .u) lineDistance y y0 i1 i2) in
-        rw (eight-at (bestI3 (k .u) lineDistance y) y0 i1 i2 a b c)
-        (cc (four-at (near (k .u) lineDistance (y .first)) q (omega (arith, i3-below (k .u) lineDistance y y0 i1 i2)), four-at (near (k .u) lineDistance (y .second)) (secondLabel q y0 i1) (second-below q y0 i1)))
+        let q = turnOf i2 (bestI3 (k .u) lineDistance counted y y0 i1 i2) in
+        rw (eight-at (bestI3 (k .u) lineDistance counted y) y0 i1 i2 a b c)
+        (cc (four-at (near (k .u) lineDistance (y .first)) q (omega (arith, i3-below (k .u) lineDistance counted y y0 i1 i2)), four-at (near (k .u) lineDistance (y .second)) (secondLabel q y0 i1) (second-below q y0 i1)))
 
 -- the choice is the first of its subset
 pub line-chooses : (k : Accord) → Chooses (k .u) (lineMeasure k) (lineChoice k)
-line-chooses k = pairs-chooses (k .u) lineDistance
+line-chooses k = pairs-chooses (k .u) lineDistance counted counted-rises

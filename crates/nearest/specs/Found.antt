@@ -1,12 +1,11 @@
 -- What is found for a received point and for a received symbol, as rows by label and by subset. Which number is nearest and which
 -- symbol is best is said by the theory alone (`near`, `gapOf`, `typeSum`, `bestI3`): here it is only laid out.
 --   four f            f at the labels 0 to 3
---   eight f           f at Y0, I1 and I2', in the order of the subset's number 4·Y0 + 2·I1 + I2'
 --   heardAs g h       the received symbol of two received points
 --   chartOf k         what a search on a line of the accord k needs
---   nearestOf k h     for each label the nearest number below 2^u, and its distance
---   costOf k y        the distance of the best symbol of a subset
---   weighedOf k y     for each subset that distance and the chosen I3'; for each label the nearest numbers
+--   nearestOf k h     for each label the nearest number below 2^u, its true distance and what that counts for
+--   costOf k y        what the best symbol of a subset counts for
+--   weighedOf k y     for each subset that cost and the chosen I3'; for each label the nearest numbers
 --   pickedFrom        the symbol of a subset, read off the rows of I3' and of the numbers
 use Prim.Native.Nat.{ℕ}
 use mathlib.Core.List.{List, [], _∷_}
@@ -17,8 +16,9 @@ use Rattle.points.specs.Points.{coordinates}
 use Rattle.wei.specs.Label.{turnOf, secondLabel}
 use Rattle.wei.specs.State.{subsetOf}
 use Rattle.wei.specs.Symbol.{Symbol}
-use Rattle.trellis.specs.Measure.{Two}
+use Rattle.trellis.specs.Measure.{Two, counted}
 use Rattle.trellis.specs.Pick.{near, gapOf, typeSum, bestI3}
+use Rattle.types.specs.Types.{eight}
 use Rattle.nearest.specs.declared.Received.{Received}
 use Rattle.nearest.specs.declared.Nearest.{Nearest}
 use Rattle.nearest.specs.declared.Weighed.{Weighed}
@@ -26,9 +26,6 @@ use Rattle.nearest.specs.Line.{lineDistance}
 
 abbrev pub four : (ℕ → ℕ) → List ℕ
 four f = f 0 ∷ f 1 ∷ f 2 ∷ f 3 ∷ []
-
-abbrev pub eight : (ℕ → ℕ → ℕ → ℕ) → List ℕ
-eight f = f 0 0 0 ∷ f 0 0 1 ∷ f 0 1 0 ∷ f 0 1 1 ∷ f 1 0 0 ∷ f 1 0 1 ∷ f 1 1 0 ∷ f 1 1 1 ∷ []
 
 abbrev pub heardAs : Received → Received → Two Received
 heardAs g h = record { first = g; second = h }
@@ -38,16 +35,21 @@ unfoldable pub chartOf : Accord → List ℤ
 chartOf k = coordinates
 
 unfoldable pub nearestOf : Accord → Received → Nearest
-nearestOf k h = record { w = four (near (k .u) lineDistance h); d = four (gapOf (k .u) lineDistance h) }
+nearestOf k h =
+    record {
+      w = four (near (k .u) lineDistance h);
+      d = four (gapOf (k .u) lineDistance h);
+      counted = four (λ l. counted (gapOf (k .u) lineDistance h l));
+    }
 
 unfoldable pub costOf : Accord → Two Received → ℕ → ℕ → ℕ → ℕ
-costOf k y y0 i1 i2 = typeSum (k .u) lineDistance y y0 i1 i2 (bestI3 (k .u) lineDistance y y0 i1 i2)
+costOf k y y0 i1 i2 = typeSum (k .u) lineDistance counted y y0 i1 i2 (bestI3 (k .u) lineDistance counted y y0 i1 i2)
 
 unfoldable pub weighedOf : Accord → Two Received → Weighed
 weighedOf k y =
     record {
       costs = eight (costOf k y);
-      i3 = eight (bestI3 (k .u) lineDistance y);
+      i3 = eight (bestI3 (k .u) lineDistance counted y);
       w1 = four (near (k .u) lineDistance (y .first));
       w2 = four (near (k .u) lineDistance (y .second));
     }

@@ -6,12 +6,13 @@
 --   lesserOf x y       the smaller of two numbers; lesserKeys, label by label
 --   keyOf f w          the key of the number w: its distance f w plus w
 --   leastKeys h n      for each label the key of the nearest number below n
---   candidateOf key r  the number and the distance of a key, where r is the distances' remainder modulo 256
+--   candidateOf key r  number, distance and counted distance of a key, where r is the distances' remainder modulo 256
 use Prim.Native.Nat.{ℕ, _+_, _-_, _%_}
 use lib.Dec.{ltb}
 use lib.IntN.{negℤ}
 use Rattle.points.specs.declared.Point.{Point}
 use Rattle.points.specs.Turn.{turns}
+use Rattle.trellis.specs.Measure.{cap}
 use Rattle.trellis.specs.Pick.{keepN, least}
 use Rattle.nearest.specs.declared.Received.{Received}
 use Rattle.nearest.specs.declared.key.Keys.{Keys}
@@ -40,4 +41,4 @@ unfoldable pub leastKeys : Received → ℕ → Keys
 leastKeys h n = keysOf (λ l. keyOf (lineDistance h l) (least (lineDistance h l) (n - 1)))
 
 abbrev pub candidateOf : ℕ → ℕ → Candidate
-candidateOf key rest = record { w = (key - rest) % 256; d = key - (key - rest) % 256 }
+candidateOf key rest = let d = key - (key - rest) % 256 in record { w = (key - rest) % 256; d = d; counted = lesserOf d cap }

@@ -3,4 +3,3 @@ pub mod Line
 pub mod Found
 -- how it is found
 pub mod Key
-pub mod Types

@@ -7,7 +7,7 @@
 --   square z             the square of a signed number
 --   distance h p         the squared distance of h from the point p
 --   lineDistance h l w   its squared distance from the point with label l and number w
---   lineMeasure k        01's measure on a line of the accord k: what is heard is two received points
+--   lineMeasure k        the measure on a line of the accord k: what is heard is two received points, their distances are counted
 --   lineChoice k         the symbol of each subset that it puts first
 use Prim.Native.Nat.{ℕ, _+_, _*_, _≤_}
 use mathlib.Core.Bool.{Bool}
@@ -17,7 +17,7 @@ use Rattle.points.specs.declared.Accord.{Accord}
 use Rattle.points.specs.declared.Point.{Point}
 use Rattle.points.specs.Turn.{pointOf}
 use Rattle.wei.specs.Symbol.{Symbol}
-use Rattle.trellis.specs.Measure.{Measure, Two, pairs}
+use Rattle.trellis.specs.Measure.{Measure, Two, counted, pairs}
 use Rattle.trellis.specs.Pick.{bestOf}
 use Rattle.nearest.specs.declared.Received.{Received}
 
@@ -49,10 +49,10 @@ distance h p = square (difference (h .x) (p .x)) + square (difference (h .y) (p 
 unfoldable pub lineDistance : Received → ℕ → ℕ → ℕ
 lineDistance h l w = distance h (pointOf l w)
 
--- "A received symbol is four coordinates: x, y of the first point, x, y of the second"
+-- "A received symbol is four coordinates: x, y of the first point, x, y of the second"; "least sum of counted distances" (02, Wish 8)
 abbrev pub lineMeasure : Accord → Measure
-lineMeasure k = pairs Received lineDistance
+lineMeasure k = pairs Received lineDistance counted
 
--- the symbol of each subset that 01's order puts first, found
+-- the symbol of each subset that this measure puts first, found
 abbrev pub lineChoice : Accord → Two Received → ℕ → ℕ → ℕ → Symbol
-lineChoice k = bestOf (k .u) lineDistance
+lineChoice k = bestOf (k .u) lineDistance counted

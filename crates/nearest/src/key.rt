@@ -4,6 +4,7 @@
 // leave the same remainder modulo 256. Numbers are below 256. So keys stand in the order of the distances, and of equal
 // distances in the order of the numbers: the least key is the nearest point with the tie rule in it, found by one comparison,
 // and distance and number can be read off it.
+use crate::CAP;
 use crate::Received;
 use crate::line;
 use points::Point;
@@ -22,10 +23,11 @@ pub struct Keys {
     pub d: u32,
 }
 
-// What a key is made of: a number and its distance.
+// What a key is made of, a number and its distance, and what that distance counts for.
 pub struct Candidate {
     pub w: u8,
     pub d: u32,
+    pub counted: u32,
 }
 
 // The keys of the points that p becomes by no, one, two and three turns, with the number w. The received point is turned
@@ -77,14 +79,16 @@ pub fn least_keys(t: &[i8; 512], h: Received, n: usize) -> Keys
     best
 }
 
-// The number and the distance of a key, where `rest` is the remainder that all distances leave.
+// The number and the distance of a key, where `rest` is the remainder that all distances leave, and the counted distance.
 pub fn read_off(key: u32, rest: u32) -> Candidate
     requires { ⌜ rest ≤ key ⌝ }
     ensures { λ r. ⌜ r ≡ candidateOf key rest ⌝ }
 {
     let w = (key - rest) % 256;
+    let d = key - w;
     Candidate {
         w: w as u8,
-        d: key - w,
+        d: d,
+        counted: lesser(d, CAP),
     }
 }

@@ -1,14 +1,14 @@
 // The nearest point of each label and the best symbol of each subset, for what a receiver hears.
 //
 // A received point is two coordinates in line units, and the point coordinate c stands at 128·c. `search` gives, for each of
-// the four labels, the number of the nearest point and its squared distance; of equals the smaller number. `weigh` gives, for
-// a received symbol and each of the eight subsets, the best symbol: its distance and its I3', with the numbers of its points
-// in the rows of `search`. Both types of a subset are weighed, always. A caller makes the chart once and lends it.
+// the four labels, the number of the nearest point, its squared distance and what that counts for; of equals the smaller number.
+// `weigh` gives, for a received symbol and each of the eight subsets, the best symbol: its cost, a sum of counted distances, and
+// its I3', with the numbers of its points in the rows of `search`. Both types of a subset are weighed, always. A caller makes
+// the chart once and lends it.
 //
 // Each contract here is an equation of the result with one definition, so any two results that it allows are equal.
 mod key;
 mod line;
-mod types;
 
 use points::Accord;
 ghost use mathlib.Core.Path.{_≡_};
@@ -23,14 +23,18 @@ pub struct Received {
     pub y: i32,
 }
 
-// For each label the number of the nearest point, and its squared distance.
+// The most that the distance of one point counts for in any sum, however far off the point was received.
+pub const CAP: u32 = 262144;
+
+// For each label the number of the nearest point, its squared distance and what that counts for.
 pub struct Nearest {
     pub w: [u8; 4],
     pub d: [u32; 4],
+    pub counted: [u32; 4],
 }
 
-// For each subset, by its number 4·Y0 + 2·I1 + I2', the squared distance of its best symbol and that symbol's I3'; for each
-// label the number of the nearest point to the first and to the second received point.
+// For each subset, by its number 4·Y0 + 2·I1 + I2', what its best symbol counts for and that symbol's I3'; for each label the
+// number of the nearest point to the first and to the second received point.
 pub struct Weighed {
     pub costs: [u32; 8],
     pub i3: [u8; 8],
@@ -54,8 +58,9 @@ pub fn is_coordinate(x: i32) -> bool
     -8192 <= x && x <= 8192
 }
 
-// The nearest number below 2^u of each label, and its distance. Keys carry both (see `key`): `rest` is the remainder that
-// all distances from h leave modulo 256, as that of number 0 shows.
+// The nearest number below 2^u of each label, its distance, and what that counts for. Keys carry number and distance (see `key`):
+// `rest` is the remainder that all distances from h leave modulo 256, as that of number 0 shows. The nearest is found by the true
+// distance, so the cap is met by the four that were found and not by each candidate.
 pub fn search(t: &Chart, k: Accord, h: Received) -> Nearest
     requires { ⌜ (now t ≡ chartOf k) × (isAccord k ≡ true) × InRange h ⌝ }
     ensures { λ r. ⌜ r ≡ nearestOf k h ⌝ }
@@ -69,18 +74,20 @@ pub fn search(t: &Chart, k: Accord, h: Received) -> Nearest
     Nearest {
         w: [a.w, c.w, b.w, d.w],
         d: [a.d, c.d, b.d, d.d],
+        counted: [a.counted, c.counted, b.counted, d.counted],
     }
 }
 
-// The best symbol of each subset for a received symbol: the smaller distance, then the smaller I3', then w1, then w2.
+// The best symbol of each subset for a received symbol: the smaller sum of counted distances, then the smaller I3', then for each
+// point the smaller distance and then the smaller number.
 pub fn weigh(t: &Chart, k: Accord, first: Received, second: Received) -> Weighed
     requires { ⌜ (now t ≡ chartOf k) × (isAccord k ≡ true) × InRange first × InRange second ⌝ }
     ensures { λ r. ⌜ r ≡ weighedOf k (heardAs first second) ⌝ }
 {
     let a = search(t, k, first);
     let b = search(t, k, second);
-    let d1 = a.d;
-    let d2 = b.d;
+    let d1 = a.counted;
+    let d2 = b.counted;
     let c = types::nearer_types(d1, d2);
     let costs = c.costs;
     let i3 = c.i3;

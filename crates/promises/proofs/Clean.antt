@@ -1,4 +1,4 @@
--- What a clean line is to 01's measure, and what a sender's run is on it.
+-- What a clean line is to the line's measure, and what a sender's run is on it.
 --   exact        what is received lies on one valid symbol at most
 --   hits         symbols heard exactly lie on themselves
 --   first-sent   the first m symbols heard are those of the first m words
@@ -28,7 +28,7 @@ use Rattle.points.specs.Pair.{firstPoint, secondPoint}
 use Rattle.points.proofs.Turns.{small-point}
 use Rattle.points.proofs.Apart.{symbols-apart}
 use Rattle.trellis.specs.Lists.{Every}
-use Rattle.trellis.specs.Measure.{Two, farOf}
+use Rattle.trellis.specs.Measure.{Two, counted, firstFar, secondFar, farOf}
 use Rattle.trellis.specs.Clean.{Hits, Exact}
 use Rattle.nearest.specs.declared.Received.{Received}
 use Rattle.nearest.specs.Line.{onLine, difference, square, distance, lineDistance, lineMeasure}
@@ -76,15 +76,20 @@ one-point h p q e f =
     let y : p .y ≡ q .y = one-coordinate (h .y) (p .y) (q .y) (omega arith) (omega arith) in
     λ i. record { x = x i; y = y i }
 
-far-points : (ac : Accord) (y : Two Received) (c : Symbol) → lineMeasure ac .far y c ≡ distance (y .first) (firstPoint c) + distance (y .second) (secondPoint c)
-unfolding farOf lineDistance firstPoint secondPoint
+far-points : (ac : Accord) (y : Two Received) (c : Symbol) → lineMeasure ac .far y c ≡ counted (distance (y .first) (firstPoint c)) + counted (distance (y .second) (secondPoint c))
+unfolding farOf firstFar secondFar lineDistance firstPoint secondPoint
 far-points ac y c = refl
+
+-- what counts for nothing is no distance
+none-counted : (a b : ℕ) → counted a + counted b ≡ 0 → (a ≡ 0) × (b ≡ 0)
+unfolding counted
+none-counted a b e = (omega arith, omega arith)
 
 pub exact : (ac : Accord) → isAccord ac ≡ true → Exact (ac .u) (lineMeasure ac)
 exact ac h y c d v w e f =
-    symbols-apart (ac .u) c d (accord-width ac h) v w
-    (one-point (y .first) (firstPoint c) (firstPoint d) (omega (arith, far-points ac y c)) (omega (arith, far-points ac y d)))
-    (one-point (y .second) (secondPoint c) (secondPoint d) (omega (arith, far-points ac y c)) (omega (arith, far-points ac y d)))
+    let (c₁, c₂) = none-counted (distance (y .first) (firstPoint c)) (distance (y .second) (secondPoint c)) (sym (far-points ac y c) ∙ e) in
+    let (d₁, d₂) = none-counted (distance (y .first) (firstPoint d)) (distance (y .second) (secondPoint d)) (sym (far-points ac y d) ∙ f) in
+    symbols-apart (ac .u) c d (accord-width ac h) v w (one-point (y .first) (firstPoint c) (firstPoint d) c₁ d₁) (one-point (y .second) (secondPoint c) (secondPoint d) c₂ d₂)
 
 -- ---- symbols heard exactly
 
@@ -92,9 +97,13 @@ at-itself : (p : Point) → distance (heardAt p) p ≡ 0
 unfolding distance
 at-itself p = ap₂ (λ (a b : ℤ). square a + square b) (+ℤ-invr (onLine (p .x))) (+ℤ-invr (onLine (p .y)))
 
+counts-nothing : {d : ℕ} → d ≡ 0 → counted d ≡ 0
+unfolding counted
+counts-nothing e = omega arith
+
 pub hits : (ac : Accord) (cs : List Symbol) → Hits (lineMeasure ac) (map heardExactly cs) cs
 hits ac [] = tt
-hits ac (c ∷ cs) = (far-points ac (heardExactly c) c ∙ ap₂ (λ (a b : ℕ). a + b) (at-itself (firstPoint c)) (at-itself (secondPoint c)), hits ac cs)
+hits ac (c ∷ cs) = (far-points ac (heardExactly c) c ∙ ap₂ (λ (a b : ℕ). a + b) (counts-nothing (at-itself (firstPoint c))) (counts-nothing (at-itself (secondPoint c))), hits ac cs)
 
 take-symbols : (u s q m : ℕ) (ns : List ℕ) → take m (map heardExactly (symbolsFrom u s q ns)) ≡ map heardExactly (symbolsFrom u s q (take m ns))
 unfolding symbolsFrom

@@ -3,7 +3,8 @@
 -- as floats through `samples`), into a fresh receiver of the same width with a free start or start 0 and any window, however cut into
 -- calls, none refused and the finish done, come back as the words sent." 02, Wish 5: "The clean round trip of demand 2 then excepts
 -- these two bits with a free start": `asHeard` (trellis/specs/Words) clears bits 1 and 2 of the first word there, and changes nothing
--- with start 0. And with no condition on refusals: "if the symbols taken are the first m of the sender's, the words written so far begin
+-- with start 0. Wish 8: demand 2 "reads 'least sum of counted distances'", and the order of ties is its own: both are in `lineMeasure`
+-- (nearest/specs/Line). And with no condition on refusals: "if the symbols taken are the first m of the sender's, the words written so far begin
 -- the words sent, and with a finish that succeeds they are the first m."
 --
 -- `Talk u w b took ws rx` and `Ended u w b took ws` (specs/Talk) are any runs of calls on a receiver, cut as they may be and whichever

@@ -22,6 +22,7 @@ pub mod Branches
 pub mod WeiLaws
 pub mod Least
 pub mod Pairs
+pub mod Counted
 -- T5 and T6, and the newest symbol
 pub mod IvEight
 pub mod Paths

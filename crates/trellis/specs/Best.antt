@@ -27,7 +27,7 @@ module _ (K : Code) where
     pub ends : last p ≡ s
     pub least : (q : Path C) → Allowed K ys q → last q ≡ s → Le K ys p q
 
-  -- "the allowed sequence with the least sum of squared distances. Ties: .."
+  -- "the allowed sequence with the least sum of squared distances. Ties: .."; 02, Wish 8: "least sum of counted distances"
   pub record Answer (ys : List Y) (p : Path C) : Type 0 where
     pub allowed : Allowed K ys p
     pub least : (q : Path C) → Allowed K ys q → Le K ys p q

@@ -1,20 +1,24 @@
 -- 01's rows that concern the receiver's answer, and some where ties decide, as one table: what is heard, which words are final then,
--- and the words of the answer. That each row holds is computed in proofs/Examples.
+-- and the words of the answer; then a line that a spark struck. That each row holds is computed in proofs/Examples.
 --   gap h l w      the squared distance of the received point h from the point with label l and number w
 --   heard a b c d  a received symbol by its four coordinates
 --   Row            width, start, what is heard (the oldest first), the words spoken, the words of the answer
---   Holds r        the row holds
+--   Holds n r      the row holds where distances count by n
 --   table          the rows
+--   whole          a distance counts for all of it, as before 02's Wish 8
+--   sent, struck   six words; what is heard of them, of the third one's first point a spark
+--   misled, healed the rows of `struck`: where distances count whole, and where they are counted
 --   HasLabels l m c   the two points of c have the labels l and m
 use mathlib.Core.Path.{_≡_}
-use mathlib.Core.List.{List, [], _∷_, reverse}
-use Prim.Native.Nat.{ℕ, _+_, _*_}
+use mathlib.Core.List.{List, [], _∷_, map, reverse}
+use Prim.Native.Nat.{ℕ, zero, suc, _+_, _*_}
 use lib.IntN.{ℤ, pos, negℤ, natAbs, _-ℤ_, _*ℤ_}
 use lib.ListN.{replicate}
 use Rattle.trellis.specs.Measure.{Start, free, named, Two, pairs}
 use Rattle.trellis.specs.Pick.{bestOf}
+use Rattle.trellis.specs.IvEight.{pointsOf}
 use Rattle.trellis.specs.Said.{spokenWords, answerWords}
-use Rattle.wei.specs.Symbol.{Symbol, firstLabel, lastLabel}
+use Rattle.wei.specs.Symbol.{Symbol, firstLabel, lastLabel, symbolsFrom}
 use Rattle.points.specs.declared.Point.{Point}
 use Rattle.points.specs.Turn.{pointOf}
 
@@ -36,10 +40,10 @@ pub record Row : Type 0 where
   pub spoken : List ℕ
   pub answer : List ℕ
 
-abbrev pub Holds : Row → Type 0
-Holds r =
-    (spokenWords (r .width) (pairs Point gap) (bestOf (r .width) gap) (r .start) (reverse (r .received)) ≡ r .spoken)
-    × (answerWords (r .width) (pairs Point gap) (bestOf (r .width) gap) (r .start) (reverse (r .received)) ≡ r .answer)
+abbrev pub Holds : (ℕ → ℕ) → Row → Type 0
+Holds n r =
+    (spokenWords (r .width) (pairs Point gap n) (bestOf (r .width) gap n) (r .start) (reverse (r .received)) ≡ r .spoken)
+    × (answerWords (r .width) (pairs Point gap n) (bestOf (r .width) gap n) (r .start) (reverse (r .received)) ≡ r .answer)
 
 -- all zeros; on the points (A, A) of number 0; at the corner of what can be heard
 abbrev pub zeros : Two Point
@@ -65,8 +69,9 @@ table =
     ∷ (record { width = 0; start = free; received = zeros ∷ zeros ∷ []; spoken = []; answer = 0 ∷ 0 ∷ [] })
     ∷ (record { width = 0; start = free; received = zeros ∷ zeros ∷ zeros ∷ []; spoken = 0 ∷ []; answer = 0 ∷ 0 ∷ 0 ∷ [] })
     ∷ (record { width = 0; start = named 0; received = zeros ∷ zeros ∷ zeros ∷ []; spoken = 0 ∷ []; answer = 0 ∷ 0 ∷ 0 ∷ [] })
-    -- symbols agree before states meet
-    ∷ (record { width = 0; start = free; received = corner ∷ zeros ∷ []; spoken = 0 ∷ []; answer = 0 ∷ 0 ∷ [] })
+    -- symbols agree before states meet; what is far from all points says nothing
+    ∷ (record { width = 0; start = free; received = onAA ∷ zeros ∷ []; spoken = 0 ∷ []; answer = 0 ∷ 0 ∷ [] })
+    ∷ (record { width = 0; start = free; received = corner ∷ zeros ∷ []; spoken = []; answer = 0 ∷ 0 ∷ [] })
     -- a named start that cannot send what is heard: the nearer type has I3' = 1
     ∷ (record { width = 0; start = named 5; received = onAA ∷ onAA ∷ []; spoken = []; answer = 6 ∷ 2 ∷ [] })
     -- halfway between the two points B of width 1, which start 0 must take: the smaller number
@@ -76,6 +81,38 @@ table =
     ∷ (record { width = 0; start = free; received = replicate 8 onAA; spoken = replicate 3 0; answer = replicate 8 0 })
     ∷ (record { width = 0; start = free; received = replicate 9 onAA; spoken = replicate 5 0; answer = replicate 9 0 })
     ∷ []
+
+-- ── a spark: one point of a clean line at (8192, 8192) ──
+unfoldable pub whole : ℕ → ℕ
+whole n = n
+
+abbrev pub sent : List ℕ
+sent = 7 ∷ 6 ∷ 3 ∷ 1 ∷ 7 ∷ 0 ∷ []
+
+abbrev pub onLine : Point → Point
+onLine p = record { x = pos 128 *ℤ p .x; y = pos 128 *ℤ p .y }
+
+-- what is heard of a sender at width 0 that starts in state 0, if nothing disturbs it
+abbrev pub clean : List ℕ → List (Two Point)
+clean ns = map (λ c. let p = pointsOf c in record { first = onLine (p .first); second = onLine (p .second) }) (symbolsFrom 0 0 0 ns)
+
+abbrev pub spark : Two Point → Two Point
+spark y = record { first = corner .first; second = y .second }
+
+abbrev pub struckAt : ℕ → List (Two Point) → List (Two Point)
+struckAt k [] = []
+struckAt zero (y ∷ ys) = spark y ∷ ys
+struckAt (suc k) (y ∷ ys) = y ∷ struckAt k ys
+
+abbrev pub struck : List (Two Point)
+struck = struckAt 2 (clean sent)
+
+-- counted whole, the spark forces its point to A: three words are wrong
+abbrev pub misled : Row
+misled = record { width = 0; start = named 0; received = struck; spoken = 7 ∷ []; answer = 7 ∷ 6 ∷ 5 ∷ 7 ∷ 6 ∷ 0 ∷ [] }
+
+abbrev pub healed : Row
+healed = record { width = 0; start = named 0; received = struck; spoken = 7 ∷ 6 ∷ []; answer = sent }
 
 -- (A, A) are the labels 0 and 0, (A, C) the labels 0 and 1
 abbrev pub HasLabels : ℕ → ℕ → Symbol → Type 0

@@ -8,13 +8,16 @@
 --   Near u M Good    what is good lies less than 2^30 from every symbol that can be sent
 --   weiCode u M b    the code of width u
 --   Two P            a received symbol: two received points
---   Sooner c d       of symbols of a subset, c is before d or is d
---   farOf P d y c    the sum of the distances of the two points
---   pairs P d        01's measure, from the distance d of a received point from the point with a label and a number
+--   cap, counted     the most that a point's distance counts for, and what it counts for
+--   firstFar P d y c, secondFar P d y c   the true distance of each point of c, where d is that of a received point from the point
+--                    with a label and a number
+--   farOf P d n y c  the sum of what the two distances count for, by n
+--   tieRow P d y c   the numbers by which ties between symbols of a subset are settled, the first first
+--   pairs P d n      the measure of 01 and 02: counted distances, and that order
 use mathlib.Core.Path.{_≡_}
-use Prim.Native.Nat.{ℕ, _+_, _^_, _≤_, _<_}
+use Prim.Native.Nat.{ℕ, _+_, _^_, _≤_, _<_, min}
 use mathlib.Core.Bool.{Bool, true}
-use mathlib.Core.List.{[], _∷_}
+use mathlib.Core.List.{List, [], _∷_}
 use lib.Dec.{eqb}
 use Rattle.trellis.specs.Lists.{LexLe}
 use Rattle.trellis.specs.Code.{Code}
@@ -68,13 +71,28 @@ pub record Two (P : Type 0) : Type 0 where
   pub first : P
   pub second : P
 
--- "then, in each symbol, the smaller I3', then the smaller w1, then the smaller w2"
-abbrev pub Sooner : Symbol → Symbol → Type 0
-Sooner c d = LexLe (c .i3 ∷ c .w1 ∷ c .w2 ∷ []) (d .i3 ∷ d .w1 ∷ d .w2 ∷ [])
+-- "The squared distance of each single 2D point is to count for no more than 262,144 in any sum" (02, Wish 8)
+abbrev pub cap : ℕ
+cap = 262144
+
+unfoldable pub counted : ℕ → ℕ
+counted n = min n cap
 
 module _ (P : Type 0) (d : P → ℕ → ℕ → ℕ) where
-  unfoldable pub farOf : Two P → Symbol → ℕ
-  farOf y c = d (y .first) (firstLabel c) (c .w1) + d (y .second) (lastLabel c) (c .w2)
+  unfoldable pub firstFar : Two P → Symbol → ℕ
+  firstFar y c = d (y .first) (firstLabel c) (c .w1)
 
-  abbrev pub pairs : Measure
-  pairs = record { Heard = Two P; far = farOf; ties = λ y c d. Sooner c d }
+  unfoldable pub secondFar : Two P → Symbol → ℕ
+  secondFar y c = d (y .second) (lastLabel c) (c .w2)
+
+  -- "then I3', then for each point the smaller true distance and then the smaller w" (02, Wish 8)
+  abbrev pub tieRow : Two P → Symbol → List ℕ
+  tieRow y c = c .i3 ∷ firstFar y c ∷ c .w1 ∷ secondFar y c ∷ c .w2 ∷ []
+
+  module _ (count : ℕ → ℕ) where
+    -- "whatever adds distances uses the counted" (02, Wish 8)
+    unfoldable pub farOf : Two P → Symbol → ℕ
+    farOf y c = count (firstFar y c) + count (secondFar y c)
+
+    abbrev pub pairs : Measure
+    pairs = record { Heard = Two P; far = farOf; ties = λ y b c. LexLe (tieRow y b) (tieRow y c) }

@@ -1,16 +1,16 @@
--- How the best branch of Wei's code is found: the states before a state, the best symbol of each subset, and, for 01's measure of
--- two points, the nearest number of each label and the nearer of the two types.
+-- How the best branch of Wei's code is found: the states before a state, the best symbol of each subset, and, for the measure of two
+-- points, the nearest number of each label, by the true distance, and the nearer of the two types, by what distances count for.
 --   least f n           the smallest number at which f is least, of 0 to n
 --   Choice M            a symbol of each subset Y0, I1, I2', for what was heard
 --   Chooses u M H       that choice is the first of its subset, by distance and then by the order of ties
 --   befores t           the four states before t, rising
 --   weiSearch u M H same b   the search
 --   near u d p l        the nearest number of label l to the received point p, the smaller of equals
---   gapOf u d p l       its distance
---   typeSum u d y y0 i1 i2 i3   the distance of the nearest symbol with these bits
---   bestI3 u d y y0 i1 i2       the nearer of the two types of a subset, the smaller I3' of equals
---   bestOf u d y y0 i1 i2       the best symbol of a subset: the choice for 01's measure
---   pairSearch u d b    the search with that choice
+--   gapOf u d p l       its true distance
+--   typeSum u d n y y0 i1 i2 i3   what the nearest symbol with these bits counts for, by n
+--   bestI3 u d n y y0 i1 i2       the nearer of the two types of a subset, the smaller I3' of equals
+--   bestOf u d n y y0 i1 i2       the best symbol of a subset: the choice for the measure of two points
+--   pairSearch u d n b  the search with that choice
 use Prim.Native.Nat.{ℕ, zero, suc, _+_, _-_, _^_, _<_}
 use mathlib.Core.Path.{_≡_}
 use mathlib.Core.Bool.{Bool, true, false}
@@ -57,16 +57,17 @@ module _ {P : Type 0} (u : ℕ) (d : P → ℕ → ℕ → ℕ) where
   unfoldable pub gapOf : P → ℕ → ℕ
   gapOf p l = d p l (near p l)
 
-  unfoldable pub typeSum : Two P → ℕ → ℕ → ℕ → ℕ → ℕ
-  typeSum y y0 i1 i2 i3 = gapOf (y .first) (turnOf i2 i3) + gapOf (y .second) (secondLabel (turnOf i2 i3) y0 i1)
+  module _ (count : ℕ → ℕ) where
+    unfoldable pub typeSum : Two P → ℕ → ℕ → ℕ → ℕ → ℕ
+    typeSum y y0 i1 i2 i3 = count (gapOf (y .first) (turnOf i2 i3)) + count (gapOf (y .second) (secondLabel (turnOf i2 i3) y0 i1))
 
-  unfoldable pub bestI3 : Two P → ℕ → ℕ → ℕ → ℕ
-  bestI3 y y0 i1 i2 = least (typeSum y y0 i1 i2) 1
+    unfoldable pub bestI3 : Two P → ℕ → ℕ → ℕ → ℕ
+    bestI3 y y0 i1 i2 = least (typeSum y y0 i1 i2) 1
 
-  unfoldable pub bestOf : Two P → ℕ → ℕ → ℕ → Symbol
-  bestOf y y0 i1 i2 =
-      let i3 = bestI3 y y0 i1 i2 in
-      record { y0 = y0; i1 = i1; i2 = i2; i3 = i3; w1 = near (y .first) (turnOf i2 i3); w2 = near (y .second) (secondLabel (turnOf i2 i3) y0 i1) }
+    unfoldable pub bestOf : Two P → ℕ → ℕ → ℕ → Symbol
+    bestOf y y0 i1 i2 =
+        let i3 = bestI3 y y0 i1 i2 in
+        record { y0 = y0; i1 = i1; i2 = i2; i3 = i3; w1 = near (y .first) (turnOf i2 i3); w2 = near (y .second) (secondLabel (turnOf i2 i3) y0 i1) }
 
-abbrev pub pairSearch : {P : Type 0} (u : ℕ) (d : P → ℕ → ℕ → ℕ) (b : Start) → Search (weiCode u (pairs P d) b)
-pairSearch {P} u d b = weiSearch u (pairs P d) (bestOf u d) sameSymbol b
+abbrev pub pairSearch : {P : Type 0} (u : ℕ) (d : P → ℕ → ℕ → ℕ) (count : ℕ → ℕ) (b : Start) → Search (weiCode u (pairs P d count) b)
+pairSearch {P} u d count b = weiSearch u (pairs P d count) (bestOf u d count) sameSymbol b

@@ -12,4 +12,4 @@
 // Wei's code stands on it, with the rules of `wei` and the points of `points`. To be believed: Measure says what the code is
 // for any way to measure received symbols, Allowed which symbols a start allows, IvEight what 000's IV-8 says, Words which
 // words symbols have, Clean what a clean line is. Pick and Said say how it is found. proofs/WeiTheorems.antt is the summary,
-// T1 to T6 for 01's measure at every width; proofs/Line.antt has demand 3 over any list of calls.
+// T1 to T6 for the measure of two points at every width; proofs/Line.antt has demand 3 over any list of calls.

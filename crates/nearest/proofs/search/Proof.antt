@@ -1,4 +1,4 @@
--- `search`: the least keys are those of the nearest numbers, and number and distance are read off each.
+-- `search`: the least keys are those of the nearest numbers, and number, distance and counted distance are read off each.
 use Prim.Native.Nat.{ℕ, _*_, _%_, _^_, _≤_}
 use mathlib.Core.Path.{_≡_, sym, ap, subst, _∙_}
 use mathlib.Core.List.{[], _∷_}
@@ -11,6 +11,7 @@ use Rattle.points.specs.Points.{aPoint}
 use Rattle.points.proofs.Agreed.{accord-width}
 use Rattle.points.specs.Turn.{Small}
 use Rattle.points.proofs.Rule.{small}
+use Rattle.trellis.specs.Measure.{counted}
 use Rattle.trellis.specs.Pick.{near, gapOf}
 use Rattle.nearest.specs.declared.Received.{Received}
 use Rattle.nearest.specs.declared.key.Keys.{Keys}
@@ -31,7 +32,7 @@ rest-is c = c .distance-from .ensures ∙ ap (distance (c .before .before .args 
 
 -- what is found for a label
 abbrev found : ℕ → Received → ℕ → Candidate
-found u h l = record { w = near u lineDistance h l; d = gapOf u lineDistance h l }
+found u h l = record { w = near u lineDistance h l; d = gapOf u lineDistance h l; counted = counted (gapOf u lineDistance h l) }
 
 -- what reading off asks and gives, for each label
 module _ (c : tie.After-least-keys) where
@@ -94,7 +95,8 @@ read-off-requires-4 : tie.Need-read-off-requires-4
 read-off-requires-4 c κs = asked (c .before .before .before) 3 (c .before .before .before .least-keys .result .d) (keys-at (c .before .before .before) (λ k. k .d))
 
 -- the four candidates, as rows
-rows : (k : Accord) (h : Received) (a c b d : Candidate) → a ≡ found (k .u) h 0 → c ≡ found (k .u) h 1 → b ≡ found (k .u) h 2 → d ≡ found (k .u) h 3 → record { w = a .w ∷ c .w ∷ b .w ∷ d .w ∷ []; d = a .d ∷ c .d ∷ b .d ∷ d .d ∷ [] } ≡ nearestOf k h
+rows : (k : Accord) (h : Received) (a c b d : Candidate) → a ≡ found (k .u) h 0 → c ≡ found (k .u) h 1 → b ≡ found (k .u) h 2 → d ≡ found (k .u) h 3 →
+    record { w = a .w ∷ c .w ∷ b .w ∷ d .w ∷ []; d = a .d ∷ c .d ∷ b .d ∷ d .d ∷ []; counted = a .counted ∷ c .counted ∷ b .counted ∷ d .counted ∷ [] } ≡ nearestOf k h
 unfolding nearestOf
 rows k h a c b d p q r s = rw (p, q, r, s)
 

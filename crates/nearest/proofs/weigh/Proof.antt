@@ -2,7 +2,7 @@
 use mathlib.Core.Path.{sym, subst₂}
 use borrow.Author.Needs.{needs}
 use Rattle.nearest.specs.declared.Nearest.{Nearest}
-use Rattle.nearest.specs.Types.{Summable}
+use Rattle.types.specs.Types.{Summable}
 use Rattle.nearest.proofs.Weighing.{summable, weighed}
 use Rattle.nearest.proofs.weigh.Statement.{statement}
 use Rattle.nearest.proofs.weigh.Tie as tie
@@ -18,7 +18,7 @@ nearer-types-requires c κs =
     let s = c .before .before .before .before in
     let a = c .before .before .before .search in
     let b = c .before .before .search2 in
-    subst₂ (λ (m n : Nearest). Summable (m .d) (n .d)) (sym (a .ensures)) (sym (b .ensures)) (summable (s .args .k) (s .args .first) (s .args .second) (s .pre .1) (s .pre .2) (s .pre .3))
+    subst₂ (λ (m n : Nearest). Summable (m .counted) (n .counted)) (sym (a .ensures)) (sym (b .ensures)) (summable (s .args .k) (s .args .first) (s .args .second))
 
 returns : tie.Need-returns
 returns c =

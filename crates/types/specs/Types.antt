@@ -1,17 +1,20 @@
--- The two types of a subset, from the distances of the nearest points of each label. That this is the theory's choice is proved in
--- proofs/Weighing.
+-- The two types of a subset, from the counted distances of the nearest points of each label, and rows by subset. That this is the theory's
+-- choice is proved in nearest/proofs/Weighing.
+--   eight f                    f at Y0, I1 and I2', in the order of the subset's number 4·Y0 + 2·I1 + I2'
 --   Summable d1 d2             every distance is below 2^29, so that two of them add up to less than 2^30
---   sumOf d1 d2 y0 i1 i2 i3    the distance of the best symbol of a type
+--   sumOf d1 d2 y0 i1 i2 i3    what the best symbol of a type counts for
 --   nearerOf f                 of f 0 and f 1 the smaller, f 0 of equals, and which it is
 --   choicesOf n                cost and I3' of each subset, as rows
 use Prim.Native.Nat.{ℕ, _+_, _^_, _<_}
-use mathlib.Core.List.{List}
+use mathlib.Core.List.{List, [], _∷_}
 use lib.ListN.{getD}
 use Rattle.wei.specs.Label.{turnOf, secondLabel}
 use Rattle.trellis.specs.Pick.{least}
-use Rattle.nearest.specs.declared.types.Nearer.{Nearer}
-use Rattle.nearest.specs.declared.types.Choices.{Choices}
-use Rattle.nearest.specs.Found.{eight}
+use Rattle.types.specs.declared.Nearer.{Nearer}
+use Rattle.types.specs.declared.Choices.{Choices}
+
+abbrev pub eight : (ℕ → ℕ → ℕ → ℕ) → List ℕ
+eight f = f 0 0 0 ∷ f 0 0 1 ∷ f 0 1 0 ∷ f 0 1 1 ∷ f 1 0 0 ∷ f 1 0 1 ∷ f 1 1 0 ∷ f 1 1 1 ∷ []
 
 pub record Summable (d1 d2 : List ℕ) : Type 0 where
   pub first-below : (l : ℕ) → getD d1 l 0 < 2 ^ 29

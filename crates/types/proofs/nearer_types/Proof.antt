@@ -3,10 +3,10 @@ use Prim.Native.Nat.{ℕ}
 use mathlib.Core.Path.{_≡_}
 use mathlib.Core.List.{[], _∷_}
 use borrow.Author.Needs.{needs}
-use Rattle.nearest.specs.declared.types.Nearer.{Nearer}
-use Rattle.nearest.specs.Types.{sumOf, nearerOf, choicesOf}
-use Rattle.nearest.proofs.types.nearer_types.Statement.{statement}
-use Rattle.nearest.proofs.types.nearer_types.Tie as tie
+use Rattle.types.specs.declared.Nearer.{Nearer}
+use Rattle.types.specs.Types.{sumOf, nearerOf, choicesOf}
+use Rattle.types.proofs.nearer_types.Statement.{statement}
+use Rattle.types.proofs.nearer_types.Tie as tie
 
 nearer-type-requires : tie.Need-nearer-type-requires
 nearer-type-requires c κs = search needs

@@ -4,9 +4,9 @@ use native.Mathlib.Omega.{arith}
 use borrow.Author.Needs.{needs}
 use Rattle.wei.specs.declared.label.LabelPair.{LabelPair}
 use Rattle.wei.specs.Label.{turnOf, secondLabel}
-use Rattle.nearest.specs.Types.{sumOf}
-use Rattle.nearest.proofs.types.type_sum.Statement.{statement}
-use Rattle.nearest.proofs.types.type_sum.Tie as tie
+use Rattle.types.specs.Types.{sumOf}
+use Rattle.types.proofs.type_sum.Statement.{statement}
+use Rattle.types.proofs.type_sum.Tie as tie
 
 first-is : (c : tie.After-labels) → c .labels .result .first ≡ turnOf (c .before .args .i2) (c .before .args .i3)
 first-is c = ap (λ (l : LabelPair). l .first) (c .labels .ensures)

@@ -1,12 +1,13 @@
-// The nearer of the two types of a subset.
+// The nearer of the two types of a subset, from what the nearest points of each label count for.
 //
 // A type is a pair of labels: the turn q = 2·I3' + I2', Y0 and I1 give it. A subset fixes Y0, I1 and I2' and leaves I3' open, so
-// it has two types, with the turns q and q + 2, and both are weighed.
+// it has two types, with the turns q and q + 2, and both are weighed. Each contract is an equation of the result with one
+// definition of specs/Types, so any two results that it allows are equal.
 ghost use mathlib.Core.Path.{_≡_};
 ghost use Prim.Native.Nat.{_<_};
-ghost use Rattle.nearest.specs.Types.{Summable, sumOf, nearerOf, choicesOf};
+ghost use Rattle.types.specs.Types.{Summable, sumOf, nearerOf, choicesOf};
 
-// The distance of the nearer type, and its I3'.
+// What the nearer type counts for, and its I3'.
 pub struct Nearer {
     pub cost: u32,
     pub i3: u8,
@@ -18,7 +19,7 @@ pub struct Choices {
     pub i3: [u8; 8],
 }
 
-// The distance of the best symbol of a type, from the distances d1 and d2 of the nearest points of each label.
+// What the best symbol of a type counts for, from the counted distances d1 and d2 of the nearest points of each label.
 fn type_sum(d1: [u32; 4], d2: [u32; 4], y0: u32, i1: u32, i2: u32, i3: u32) -> u32
     requires { ⌜ Summable d1 d2 × ((y0 < 2) × (i1 < 2)) × ((i2 < 2) × (i3 < 2)) ⌝ }
     ensures { λ r. ⌜ r ≡ sumOf d1 d2 y0 i1 i2 i3 ⌝ }

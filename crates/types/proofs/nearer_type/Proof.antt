@@ -2,9 +2,9 @@
 use borrow.Author.Needs.{needs}
 use borrow.Author.Tests.{lt-ltb, le-ltb}
 use Rattle.trellis.specs.Pick.{least}
-use Rattle.nearest.specs.Types.{nearerOf}
-use Rattle.nearest.proofs.types.nearer_type.Statement.{statement}
-use Rattle.nearest.proofs.types.nearer_type.Tie as tie
+use Rattle.types.specs.Types.{nearerOf}
+use Rattle.types.proofs.nearer_type.Statement.{statement}
+use Rattle.types.proofs.nearer_type.Tie as tie
 
 type-sum-requires : tie.Need-type-sum-requires
 type-sum-requires c κs = search needs

@@ -145,7 +145,9 @@ module _ (f : Frame) (k at : ℕ) (xs : List ℕ) (i : Inside f k at xs) (b : �
       whole-ready (grew f b) (f .phase) _ (grew-whole h) (length-set (f .body) (f .have) b ∙ i .eight) refl (i .begun) (fed-is ∙ ap capped e)
 
   said-whole : length xs + 1 ≡ kindOf k .size → ended (grew f b .stage) (grew f b) ≡ entry k (xs ++ b ∷ []) ∷ []
-  said-whole h = rw (grew-whole h, i .kind, taken)
+  said-whole h =
+      let e : kindOf k .size ≡ f .have + 1 = omega (arith, i .have) in
+      rw (grew-whole h, i .kind, e, taken)
 
 -- ---- one byte
 

@@ -52,7 +52,7 @@ unfoldable pub pushed : Frame → ℕ → Frame
 pushed f b = pushedAt (f .stage) f b
 
 abbrev pub entryOf : Frame → Entry
-entryOf f = entry (f .kind) (take (f .have) (f .body))
+entryOf f = entry (f .kind) (take (kindOf (f .kind) .size) (f .body))
 
 pub record Read : Type 0 where
   pub entries : List Entry

@@ -162,7 +162,7 @@ module _ (j : Judge) (sums planes picks due : List ℕ) where
         let is = k .always in
         let g : isDone (finishing (s .receiver) (length due) .why) ≡ true = sym (done-is (is .given)) ∙ e in
         let y : stateOf (record { live = a .receiver .live; core = a .receiver .core; given = a .written; shown = 0; records = n; verdict = j .verdict }) sums₁ planes₁ picks₁ due₁ ≡ answered s (finishing (s .receiver) (length due)) =
-            rw (g, l .sums-is, l .planes-is, l .picks-is, is .receiver, is .written, is .output, z) in
+        rw (g, l .sums-is, l .planes-is, l .picks-is, is .receiver, is .written, is .output, z) in
         y ∙ nothing-due s _ (leftOf s) f
 
 -- ---- the coordinates that the code reads

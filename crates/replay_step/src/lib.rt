@@ -67,12 +67,7 @@ fn rule(j: Judge, verdict: Verdict) -> Judge
 }
 
 // The receiver's lists, anew.
-fn lay(
-    rx: Receiver,
-    sums: &mut [u64; 16],
-    planes: &mut [u64; 48],
-    picks: &mut [u64; 72],
-)
+fn lay(rx: Receiver, sums: &mut [u64; 16], planes: &mut [u64; 48], picks: &mut [u64; 72])
     ensures { λ _. ⌜ Laid rx (now (sums .exit)) (now (planes .exit)) (now (picks .exit)) ⌝ }
 {
     let s = rx.sums;
@@ -93,9 +88,7 @@ fn take_open(
 ) -> Judge
     ensures { λ r. ⌜ stateOf r (now (sums .exit)) (now (planes .exit)) (now (picks .exit)) (now (due .entry)) ≡ opened (stateOf j (now (sums .entry)) (now (planes .entry)) (now (picks .entry)) (now (due .entry))) (widthOf body) (windowOf body) (startOf body) ⌝ }
 {
-    let accord = Accord {
-        u: body[0] as u32,
-    };
+    let accord = Accord { u: body[0] as u32 };
     let start = openings::start_at(body[2] as u32);
     let o = openings::open_receiver(accord, body[1] as u32, start);
     let why = o.why;

@@ -104,19 +104,19 @@ module _ (f : Frame) (j : Judge) (due : List ℕ) where
     ended-cut h = rw (e, h)
 
     module _ (h : isWhole (f .stage) ≡ true) where
-      at-end : ended f j due ≡ unlessLeft j (left (j .shown) (j .given) due)
+      at-end : ended f j due ≡ unlessLeft (j .verdict) (j .records) (left (j .shown) (j .given) due)
       unfolding ended
       at-end = rw (e, h)
 
       next-none : (n : ℕ) → Next n ≡ None → ⊥
       next-none n e = let z : _≡_ {A = ℕ} 0 1 = cc in omega arith
 
-      agrees : (l : List ℕ) → firstDue l ≡ None → j .verdict ≡ unlessLeft j l
+      agrees : (l : List ℕ) → firstDue l ≡ None → j .verdict ≡ unlessLeft (j .verdict) (j .records) l
       unfolding firstDue
       agrees [] k = refl
       agrees (x ∷ l) k = absurd (next-none x k)
 
-      misses : (l : List ℕ) (w : ℕ) → firstDue l ≡ Next w → Missing (j .records) w ≡ unlessLeft j l
+      misses : (l : List ℕ) (w : ℕ) → firstDue l ≡ Next w → Missing (j .records) w ≡ unlessLeft (j .verdict) (j .records) l
       unfolding firstDue
       misses [] w k = absurd (next-none w (sym k))
       misses (x ∷ l) w k = let y : x ≡ w = cc in rw y

@@ -58,13 +58,13 @@ unfoldable pub feedings : Course → List ℕ → Course
 feedings c [] = c
 feedings c (b ∷ bs) = feedings (stepped c b) bs
 
-abbrev pub unlessLeft : Judge → List ℕ → Verdict
-unlessLeft j [] = j .verdict
-unlessLeft j (h ∷ hs) = Missing (j .records) h
+abbrev pub unlessLeft : Verdict → ℕ → List ℕ → Verdict
+unlessLeft v n [] = v
+unlessLeft v n (h ∷ hs) = Missing n h
 
 unfoldable pub ended : Frame → Judge → List ℕ → Verdict
 ended f j due =
-    cond (agreed (j .verdict)) (cond (isWhole (f .stage)) (unlessLeft j (left (j .shown) (j .given) due)) (Malformed (f .at))) (j .verdict)
+    cond (agreed (j .verdict)) (cond (isWhole (f .stage)) (unlessLeft (j .verdict) (j .records) (left (j .shown) (j .given) due)) (Malformed (f .at))) (j .verdict)
 
 unfoldable pub found : Frame → Verdict → Bool
 found f v = cond (agreed v) (isBad (f .stage)) true

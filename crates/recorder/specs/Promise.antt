@@ -8,7 +8,7 @@
 --   FinishTaped rx out bytes r o b  the promise of `finish`
 use Prim.Native.Nat.{ℕ, _<_}
 use mathlib.Core.Path.{_≡_}
-use mathlib.Core.Bool.{Bool, true, cond}
+use mathlib.Core.Bool.{Bool, true, false, cond}
 use mathlib.Core.List.{List, [], _∷_, _++_}
 use lib.Dec.{eqb}
 use lib.IntN.{ℤ, pos}
@@ -23,7 +23,7 @@ use Rattle.machine.specs.Taken.{whole}
 use Rattle.told.specs.Told.{Told, Fine}
 use Rattle.told.specs.Piece.{Piece, symbolFrom}
 use Rattle.reasons.specs.declared.Why.{Why}
-use Rattle.reasons.specs.Reason.{givenOf}
+use Rattle.reasons.specs.Reason.{givenOf, isDone}
 use Rattle.receiver.specs.Promise.{Written, partsOf, lentLive}
 use Rattle.tape.specs.Front.{Fronted}
 use Rattle.recorder.specs.declared.Taped.{Taped}
@@ -56,7 +56,7 @@ symbolIn xs = symbolFrom (getD xs 0 (pos 0)) (getD xs 1 (pos 0)) (getD xs 2 (pos
 
 -- inside: what is said to a symbol whose own record has no room
 abbrev pub Refuses : Receiver → Two Received → Why → Type 0
-Refuses rx y w = (room bytes : ℕ) → bytes < 9 → tapedAt rx y room bytes ≡ refused rx w
+Refuses rx y w = (isDone w ≡ false) × ((room bytes : ℕ) → bytes < 9 → tapedAt rx y room bytes ≡ refused rx w)
 
 pub record StepIs (y : Two Received) (q : Outcome) (r : Step) (sums planes picks out bytes o b : List ℕ) : Type 0 where
   pub receiver : whole (r .core) sums planes picks ≡ q .receiver

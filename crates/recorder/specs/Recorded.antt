@@ -9,9 +9,9 @@
 --   FinishRecorded, finishRecorded   what a finish owes
 --   openingRecorded         the number of an opening's record: 8, 1, 2, 3 in this order
 use Prim.Native.Nat.{ℕ, suc, _-_}
-use mathlib.Core.Bool.{Bool, true, false, cond, _&&_}
+use mathlib.Core.Bool.{Bool, true, false, cond, _&&_, _||_}
 use mathlib.Core.List.{List, [], _∷_, _++_}
-use lib.Dec.{eqb, leb, ltb}
+use lib.Dec.{eqb, ltb}
 use lib.ListN.{length}
 use Rattle.calls.specs.Calls.{fresh, rest}
 use Rattle.trellis.specs.Measure.{Two}
@@ -22,7 +22,6 @@ use Rattle.openings.specs.Given.{startAt}
 use Rattle.openings.specs.Opening.{openingOwed}
 use Rattle.told.specs.Told.{Told, speakerOf, judgeSymbol, withHeard}
 use Rattle.told.specs.Piece.{Piece}
-use Rattle.told.specs.Owed.{finishOwed}
 use Rattle.records.specs.Values.{Entry, openEntry, symbolEntry, finishEntry, bytesOf}
 use Rattle.tape.specs.Front.{wordEntries}
 
@@ -89,14 +88,13 @@ pub record FinishRecorded : Type 0 where
   pub records : List Entry
   pub closes : Bool
 
--- a finish that is done, and has the bytes for its records
+-- 8: the output too short for all pending words, or the bytes too short for the finish and these words
 unfoldable pub finishRecorded : Told → ℕ → ℕ → FinishRecorded
 finishRecorded t room bytes =
-    let d = finishOwed t room in
-    let rs = finishRecords (d .words) in
-    cond (d .closes && leb (spaceOf rs) bytes)
-    (record { reason = d .reason; words = d .words; records = rs; closes = true })
+    let ws = rest (speakerOf t) (t .heard) in
+    cond (ltb room (length ws) || ltb bytes (spaceOf (finishRecords ws)))
     (record { reason = reason 8; words = []; records = []; closes = false })
+    (record { reason = reason 0; words = ws; records = finishRecords ws; closes = true })
 
 -- ---- an opening
 

@@ -128,8 +128,7 @@ fn record_symbol(
         };
     }
     let written = h.written;
-    tape::put_symbol(four[0], four[1], four[2], four[3], bytes);
-    tape::put_words(&out[..written], &mut bytes[9..]);
+    tape::put_taken(four, &out[..written], bytes);
     Step {
         core: after,
         written: written,
@@ -233,7 +232,16 @@ pub fn hear(rx: Receiver, samples: &[i32], out: &mut [u32], bytes: &mut [u8]) ->
     let mut sums = rx.sums;
     let mut planes = rx.planes;
     let mut picks = rx.picks;
-    let h = hear_lent(live, core, samples, &mut sums, &mut planes, &mut picks, out, bytes);
+    let h = hear_lent(
+        live,
+        core,
+        samples,
+        &mut sums,
+        &mut planes,
+        &mut picks,
+        out,
+        bytes,
+    );
     let after = h.core;
     let why = h.why;
     Taped {
@@ -281,8 +289,7 @@ pub fn finish(rx: Receiver, out: &mut [u32], bytes: &mut [u8]) -> Taped
     }
     let closed = a.receiver;
     let written = a.written;
-    tape::put_finish(bytes);
-    tape::put_words(&out[..written], &mut bytes[1..]);
+    tape::put_finish(&out[..written], bytes);
     Taped {
         receiver: closed,
         taken: 0,

@@ -1,110 +1,109 @@
+-- `finish`: closed, no room, refused, or done and recorded.
+use mathlib.Core.Path.{_≡_, sym, _∙_}
+use Prim.Native.Nat.{_≤_}
+use native.Mathlib.Omega.{arith}
+use borrow.Author.Tests.{not-true, not-false}
+use denote.Ref.{now}
+use lib.ListN.{length, take}
+use lib.Seq.{length-take-le}
+use Rattle.machine.proofs.Sound.{sound-core}
+use Rattle.receiver.proofs.Laws.{finishes-fit}
+use Rattle.recorder.proofs.Ends.{finish-closed, finish-short, finish-refused, finish-written, finish-done}
 use borrow.Author.Needs.{needs}
 use Rattle.recorder.proofs.finish.Statement.{statement}
 use Rattle.recorder.proofs.finish.Tie as tie
-use Rattle.recorder.proofs.finish.Reads as reads
-use Rattle.recorder.proofs.finish.Lts as lts
-use Rattle.openings.proofs.is_open.Reads as is-open-reads
-use Rattle.reasons.proofs.is_done.Reads as is-done-reads
-use Rattle.receiver.proofs.finish.Reads as finish-reads
-use Rattle.recorder.proofs.stopped.Reads as stopped-reads
-use Rattle.tape.proofs.put_finish.Reads as put-finish-reads
-use Rattle.tape.proofs.put_words.Reads as put-words-reads
 
--- src/lib.rt:270:9
+-- no more words are written than there are places
+fits : (f : tie.After-finish) → f .finish .result .written ≤ length (f .finish .last .1 .0)
+fits f = let s = f .before .before .before .before .before .before .before .before .before in omega (arith, finishes-fit (s .args .rx) (now (s .args .out)) (f .finish .result) _ (f .finish .ensures), f .finish .kept .1 .0)
+
 is-open-requires : tie.Need-is-open-requires
 is-open-requires c κs = search needs
 
--- src/lib.rt:271:9
 stopped-requires : tie.Need-stopped-requires
 stopped-requires c κs = search needs
 
--- src/lib.rt:271:9
 returns : tie.Need-returns
-returns c = ?
+returns c =
+    let s = c .before .before .before .before .before in
+    rw (c .stopped .ensures) (finish-closed (s .args .rx) (now (s .args .out)) (now (s .args .bytes)) (sym (c .before .before .is-open .ensures) ∙ not-true _ (c .before .if1 .taken)))
 
--- src/lib.rt:274:26
 mul-if2 : tie.Need-mul-if2
-mul-if2 c = ?
+mul-if2 c =
+    let k = sound-core (c .before .before .before .before .before .before .args .rx) (sym (c .before .before .before .is-open .ensures) ∙ not-false _ (c .before .before .if1 .left)) in
+    omega (arith, k .held, k .small-window)
 
--- src/lib.rt:274:22
 add-if2 : tie.Need-add-if2
-add-if2 c = ?
+add-if2 c =
+    let k = sound-core (c .before .before .before .before .before .before .args .rx) (sym (c .before .before .before .is-open .ensures) ∙ not-false _ (c .before .before .if1 .left)) in
+    omega (arith, k .held, k .small-window)
 
--- src/lib.rt:275:9
 stopped-requires-2 : tie.Need-stopped-requires-2
 stopped-requires-2 c κs = search needs
 
--- src/lib.rt:275:9
 returns-2 : tie.Need-returns-2
-returns-2 c = ?
+returns-2 c =
+    let s = c .before .before .before .before .before .before .before .before in
+    rw (c .stopped2 .ensures) (finish-short (s .args .rx) (now (s .args .out)) (now (s .args .bytes)) (sym (c .before .before .before .before .before .is-open .ensures) ∙ not-false _ (c .before .before .before .before .if1 .left)) (c .before .if2 .taken))
 
--- src/lib.rt:277:9
 finish-requires : tie.Need-finish-requires
 finish-requires c κs = search needs
 
--- src/lib.rt:279:9
 is-done-requires : tie.Need-is-done-requires
 is-done-requires c κs = search needs
 
--- src/lib.rt:280:9
 stopped-requires-3 : tie.Need-stopped-requires-3
 stopped-requires-3 c κs = search needs
 
--- src/lib.rt:280:9
 same-length : tie.Need-same-length
 same-length c = search needs
 
--- src/lib.rt:280:9
 returns-3 : tie.Need-returns-3
-returns-3 c = ?
+returns-3 c =
+    let f = c .before .before .before .before .before in
+    let s = f .before .before .before .before .before .before .before .before .before in
+    rw (c .stopped3 .ensures) (finish-refused (s .args .rx) (now (s .args .out)) (now (s .args .bytes)) (f .finish .result) _ (f .finish .ensures) (sym (c .before .before .is-done .ensures) ∙ not-true _ (c .before .if3 .taken)))
 
--- src/lib.rt:284:5
+slice-reshare-prefix-put-finish : tie.Need-slice-reshare-prefix-put-finish
+slice-reshare-prefix-put-finish c = fits (c .before .before .before .before .before)
+
+slice-aggregate-put-finish : tie.Need-slice-aggregate-put-finish
+slice-aggregate-put-finish c = sym (length-take-le _ _ (fits (c .before .before .before .before .before .before)))
+
 put-finish-requires : tie.Need-put-finish-requires
-put-finish-requires c κs = search needs
+put-finish-requires c κs =
+    let f = c .before .before .before .before .before .before .before in
+    let s = f .before .before .before .before .before .before .before .before .before in
+    let w = finish-written (s .args .rx) (now (s .args .out)) (now (s .args .bytes)) (f .finish .result) _ (f .finish .ensures) (sym (c .before .before .before .before .is-done .ensures) ∙ not-false _ (c .before .before .before .if3 .left)) in
+    omega (arith, length-take-le (f .finish .result .written) (f .finish .last .1 .0) (fits f), w, f .before .before .if2 .left)
 
--- src/lib.rt:285:21
-slice-reshare-prefix-put-words : tie.Need-slice-reshare-prefix-put-words
-slice-reshare-prefix-put-words c = ?
+mul-t12 : tie.Need-mul-t12
+mul-t12 c =
+    let f = c .before .before .before .before .before .before .before .before .before .before in
+    let s = f .before .before .before .before .before .before .before .before .before in
+    let w = finish-written (s .args .rx) (now (s .args .out)) (now (s .args .bytes)) (f .finish .result) _ (f .finish .ensures) (sym (c .before .before .before .before .before .before .before .is-done .ensures) ∙ not-false _ (c .before .before .before .before .before .before .if3 .left)) in
+    let k = sound-core (s .args .rx) (sym (f .before .before .before .before .before .before .is-open .ensures) ∙ not-false _ (f .before .before .before .before .before .if1 .left)) in
+    omega (arith, w, k .held, k .small-window)
 
--- src/lib.rt:285:21
-slice-aggregate-put-words : tie.Need-slice-aggregate-put-words
-slice-aggregate-put-words c = ?
+add-t13 : tie.Need-add-t13
+add-t13 c =
+    let f = c .before .before .before .before .before .before .before .before .before .before in
+    let s = f .before .before .before .before .before .before .before .before .before in
+    let w = finish-written (s .args .rx) (now (s .args .out)) (now (s .args .bytes)) (f .finish .result) _ (f .finish .ensures) (sym (c .before .before .before .before .before .before .before .is-done .ensures) ∙ not-false _ (c .before .before .before .before .before .before .if3 .left)) in
+    let k = sound-core (s .args .rx) (sym (f .before .before .before .before .before .before .is-open .ensures) ∙ not-false _ (f .before .before .before .before .before .if1 .left)) in
+    omega (arith, w, k .held, k .small-window)
 
--- src/lib.rt:285:38
-sub-put-words : tie.Need-sub-put-words
-sub-put-words c = search needs
-
--- src/lib.rt:285:38
-part-put-words-start : tie.Need-part-put-words-start
-part-put-words-start c = search needs
-
--- src/lib.rt:285:38
-part-put-words-end : tie.Need-part-put-words-end
-part-put-words-end c = search needs
-
--- src/lib.rt:285:5
-put-words-requires : tie.Need-put-words-requires
-put-words-requires c κs = ?
-
--- src/lib.rt:290:23
-mul-t13 : tie.Need-mul-t13
-mul-t13 c = ?
-
--- src/lib.rt:290:19
-add-t12 : tie.Need-add-t12
-add-t12 c = ?
-
--- src/lib.rt:267:1
 same-length-2 : tie.Need-same-length-2
 same-length-2 c = search needs
 
--- src/lib.rt:267:1
 same-length-3 : tie.Need-same-length-3
 same-length-3 c = search needs
 
--- src/lib.rt:267:1
 returns-4 : tie.Need-returns-4
-returns-4 c = ?
+returns-4 c =
+    let f = c .before .before .before .before .before .before .before .before .before .before in
+    let s = f .before .before .before .before .before .before .before .before .before in
+    finish-done (s .args .rx) (now (s .args .out)) (now (s .args .bytes)) (f .finish .result) _ (f .finish .ensures) (sym (c .before .before .before .before .before .before .before .is-done .ensures) ∙ not-false _ (c .before .before .before .before .before .before .if3 .left)) (f .before .before .if2 .left) _ (c .before .before .put-finish .ensures)
 
 pub finish-spec : {M : Type 1} → statement M
 finish-spec =
@@ -122,15 +121,11 @@ finish-spec =
     stopped-requires-3
     same-length
     returns-3
+    slice-reshare-prefix-put-finish
+    slice-aggregate-put-finish
     put-finish-requires
-    slice-reshare-prefix-put-words
-    slice-aggregate-put-words
-    sub-put-words
-    part-put-words-start
-    part-put-words-end
-    put-words-requires
-    mul-t13
-    add-t12
+    mul-t12
+    add-t13
     same-length-2
     same-length-3
     returns-4)

@@ -1,44 +1,46 @@
+-- `record_open`: too short, refused, or recorded.
+use mathlib.Core.Path.{subst}
+use denote.Ref.{now}
+use Rattle.openings.specs.declared.Start.{Start}
+use Rattle.openings.specs.Opening.{Opens}
+use Rattle.recorder.proofs.Opens.{open-short, open-refused, open-done, open-small}
 use borrow.Author.Needs.{needs}
 use Rattle.recorder.proofs.record_open.Statement.{statement}
 use Rattle.recorder.proofs.record_open.Tie as tie
-use Rattle.recorder.proofs.record_open.Reads as reads
-use Rattle.recorder.proofs.record_open.Lts as lts
-use Rattle.openings.proofs.open_receiver.Reads as open-receiver-reads
-use Rattle.openings.proofs.start_at.Reads as start-at-reads
-use Rattle.reasons.proofs.number.Reads as number-reads
-use Rattle.tape.proofs.put_open.Reads as put-open-reads
 
--- src/lib.rt:54:9
 returns : tie.Need-returns
-returns c = ?
+returns c = let s = c .before .before in open-short (s .args .accord) (s .args .window) (s .args .start) (now (s .args .bytes)) (c .if1 .taken)
 
--- src/lib.rt:56:53
 start-at-requires : tie.Need-start-at-requires
 start-at-requires c κs = search needs
 
--- src/lib.rt:56:9
 open-receiver-requires : tie.Need-open-receiver-requires
 open-receiver-requires c κs = search needs
 
--- src/lib.rt:58:9
 number-requires : tie.Need-number-requires
 number-requires c κs = search needs
 
--- src/lib.rt:60:9
 returns-2 : tie.Need-returns-2
-returns-2 c = ?
+returns-2 c =
+    let m = c .before in
+    let s = m .before .before .before .before .before in
+    open-refused (s .args .accord) (s .args .window) (s .args .start) (now (s .args .bytes)) (m .before .before .before .if1 .left) (m .before .open-receiver .result) (subst (λ (b : Start). Opens (s .args .accord) (s .args .window) b (m .before .open-receiver .result)) (m .before .before .start-at .ensures) (m .before .open-receiver .ensures)) (m .number .result) (m .number .ensures) (c .if2 .taken)
 
--- src/lib.rt:62:5
 put-open-requires : tie.Need-put-open-requires
-put-open-requires c κs = ?
+put-open-requires c κs =
+    let m = c .before .before in
+    let s = m .before .before .before .before .before in
+    let k = open-small (s .args .accord) (s .args .window) (s .args .start) (now (s .args .bytes)) (m .before .before .before .if1 .left) (m .before .open-receiver .result) (subst (λ (b : Start). Opens (s .args .accord) (s .args .window) b (m .before .open-receiver .result)) (m .before .before .start-at .ensures) (m .before .open-receiver .ensures)) (m .number .result) (m .number .ensures) (c .before .if2 .left) in
+    (m .before .before .before .if1 .left, k .0, k .1, k .2)
 
--- src/lib.rt:50:1
 same-length : tie.Need-same-length
 same-length c = search needs
 
--- src/lib.rt:50:1
 returns-3 : tie.Need-returns-3
-returns-3 c = ?
+returns-3 c =
+    let m = c .before .before .before .before .before in
+    let s = m .before .before .before .before .before in
+    open-done (s .args .accord) (s .args .window) (s .args .start) (now (s .args .bytes)) (m .before .before .before .if1 .left) (m .before .open-receiver .result) (subst (λ (b : Start). Opens (s .args .accord) (s .args .window) b (m .before .open-receiver .result)) (m .before .before .start-at .ensures) (m .before .open-receiver .ensures)) (m .number .result) (m .number .ensures) (c .before .before .before .before .if2 .left) _ (c .before .before .put-open .ensures)
 
 pub record-open-spec : {M : Type 1} → statement M
 record-open-spec =

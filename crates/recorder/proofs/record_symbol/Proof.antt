@@ -1,121 +1,106 @@
+-- `record_symbol`: no room for its own record, refused, or taken and recorded.
+use mathlib.Core.Path.{_≡_, sym, _∙_}
+use native.Mathlib.Omega.{arith}
+use denote.Ref.{now}
+use lib.ListN.{length, take}
+use lib.Seq.{length-take-le}
+use Rattle.recorder.proofs.One.{step-short, step-refused, step-taken, small, space, lent-few, words-many, words-space}
 use borrow.Author.Needs.{needs}
 use Rattle.recorder.proofs.record_symbol.Statement.{statement}
 use Rattle.recorder.proofs.record_symbol.Tie as tie
-use Rattle.recorder.proofs.record_symbol.Reads as reads
-use Rattle.recorder.proofs.record_symbol.Lts as lts
-use Rattle.receiver.proofs.hear_lent.Reads as hear-lent-reads
-use Rattle.recorder.proofs.places.Reads as places-reads
-use Rattle.recorder.proofs.refusal.Reads as refusal-reads
-use Rattle.tape.proofs.put_symbol.Reads as put-symbol-reads
-use Rattle.tape.proofs.put_words.Reads as put-words-reads
 
--- src/lib.rt:110:13
 refusal-requires : tie.Need-refusal-requires
 refusal-requires c κs = search needs
 
--- src/lib.rt:111:9
 same-length : tie.Need-same-length
 same-length c = search needs
 
--- src/lib.rt:111:9
 returns : tie.Need-returns
-returns c = ?
+returns c =
+    let s = c .before .before .before .before .before .before .before .before in
+    step-short (s .args .core) (now (s .args .sums)) (now (s .args .planes)) (now (s .args .picks)) (now (s .args .out)) (now (s .args .bytes)) _ (c .refusal .result) (c .refusal .ensures) (c .before .before .before .before .if1 .taken)
 
--- src/lib.rt:118:9
 places-requires : tie.Need-places-requires
 places-requires c κs = search needs
 
--- src/lib.rt:119:72
 slice-relend-prefix-hear-lent : tie.Need-slice-relend-prefix-hear-lent
 slice-relend-prefix-hear-lent c = search needs
 
--- src/lib.rt:119:72
 slice-aggregate-hear-lent : tie.Need-slice-aggregate-hear-lent
-slice-aggregate-hear-lent c = ?
+slice-aggregate-hear-lent c = sym (length-take-le (c .before .before .before .before .places .result) (now (c .before .before .before .before .before .before .before .before .before .args .out)) (rw (c .before .before .before .before .places .ensures) (omega arith)))
 
--- src/lib.rt:119:9
 hear-lent-requires : tie.Need-hear-lent-requires
 hear-lent-requires c κs = search needs
 
--- src/lib.rt:123:9
 same-length-2 : tie.Need-same-length-2
 same-length-2 c = search needs
 
--- src/lib.rt:123:9
 same-length-3 : tie.Need-same-length-3
 same-length-3 c = search needs
 
--- src/lib.rt:123:9
 returns-2 : tie.Need-returns-2
-returns-2 c = ?
+returns-2 c =
+    let d = c .before .before .before .before .before .before .before in
+    let s = d .before .before .before .before .before .before .before .before .before .before in
+    step-refused (s .args .core) (now (s .args .sums)) (now (s .args .planes)) (now (s .args .picks)) (now (s .args .four)) (s .pre .0) (s .pre .1) (s .pre .2) (d .hear-lent .result) _ _ _ (now (s .args .out)) (now (s .args .bytes)) _ _ (d .before .before .before .before .before .places .ensures) (d .before .before .before .before .before .before .if1 .left)
+    (d .hear-lent .ensures) (d .hear-lent .kept .1 .1 .1 .1 .1 .1 .0) (c .if2 .taken)
 
--- src/lib.rt:131:22
-shared-slice-copy-out-put-symbol : tie.Need-shared-slice-copy-out-put-symbol
-shared-slice-copy-out-put-symbol c = search needs
+slice-reshare-prefix-put-taken : tie.Need-slice-reshare-prefix-put-taken
+slice-reshare-prefix-put-taken c =
+    let d = c .before .before .before .before .before .before .before in
+    let s = d .before .before .before .before .before .before .before .before .before .before in
+    lent-few (s .args .core) (now (s .args .sums)) (now (s .args .planes)) (now (s .args .picks)) (now (s .args .four)) (s .pre .0) (s .pre .1) (s .pre .2) (d .hear-lent .result) _ _ _ (now (s .args .out)) (now (s .args .bytes)) _ _ (d .before .before .before .before .before .places .ensures) (d .before .before .before .before .before .before .if1 .left)
+    (d .hear-lent .ensures) (d .hear-lent .kept .1 .1 .1 .1 .1 .1 .0) (c .if2 .left)
 
--- src/lib.rt:131:31
-shared-slice-copy-out-put-symbol-2 : tie.Need-shared-slice-copy-out-put-symbol-2
-shared-slice-copy-out-put-symbol-2 c = search needs
+slice-aggregate-put-taken : tie.Need-slice-aggregate-put-taken
+slice-aggregate-put-taken c =
+    let d = c .before .before .before .before .before .before .before .before in
+    let s = d .before .before .before .before .before .before .before .before .before .before in
+    words-many (s .args .core) (now (s .args .sums)) (now (s .args .planes)) (now (s .args .picks)) (now (s .args .four)) (s .pre .0) (s .pre .1) (s .pre .2) (d .hear-lent .result) _ _ _ (now (s .args .out)) (now (s .args .bytes)) _ _ (d .before .before .before .before .before .places .ensures) (d .before .before .before .before .before .before .if1 .left)
+    (d .hear-lent .ensures) (d .hear-lent .kept .1 .1 .1 .1 .1 .1 .0) (c .before .if2 .left)
 
--- src/lib.rt:131:40
-shared-slice-copy-out-put-symbol-3 : tie.Need-shared-slice-copy-out-put-symbol-3
-shared-slice-copy-out-put-symbol-3 c = search needs
+put-taken-requires : tie.Need-put-taken-requires
+put-taken-requires c κs =
+    let d = c .before .before .before .before .before .before .before .before .before in
+    let s = d .before .before .before .before .before .before .before .before .before .before in (
+      s .pre .2,
+      small (s .args .core) (now (s .args .sums)) (now (s .args .planes)) (now (s .args .picks)) (now (s .args .four)) (s .pre .0) (s .pre .1) (s .pre .2) (d .hear-lent .result) _ _ _ (now (s .args .out)) (now (s .args .bytes)) _ _ (d .before .before .before .before .before .places .ensures) (d .before .before .before .before .before .before .if1 .left)
+          (d .hear-lent .ensures) (d .hear-lent .kept .1 .1 .1 .1 .1 .1 .0) (c .before .before .if2 .left),
+      words-space (s .args .core) (now (s .args .sums)) (now (s .args .planes)) (now (s .args .picks)) (now (s .args .four)) (s .pre .0) (s .pre .1) (s .pre .2) (d .hear-lent .result) _ _ _ (now (s .args .out)) (now (s .args .bytes)) _ _ (d .before .before .before .before .before .places .ensures) (d .before .before .before .before .before .before .if1 .left)
+          (d .hear-lent .ensures) (d .hear-lent .kept .1 .1 .1 .1 .1 .1 .0) (c .before .before .if2 .left),
+    )
 
--- src/lib.rt:131:49
-shared-slice-copy-out-put-symbol-4 : tie.Need-shared-slice-copy-out-put-symbol-4
-shared-slice-copy-out-put-symbol-4 c = search needs
+mul-t20 : tie.Need-mul-t20
+mul-t20 c =
+    let d = c .before .before .before .before .before .before .before .before .before .before .before .before in
+    let s = d .before .before .before .before .before .before .before .before .before .before in
+    let h = space (s .args .core) (now (s .args .sums)) (now (s .args .planes)) (now (s .args .picks)) (now (s .args .four)) (s .pre .0) (s .pre .1) (s .pre .2) (d .hear-lent .result) _ _ _ (now (s .args .out)) (now (s .args .bytes)) _ _ (d .before .before .before .before .before .places .ensures) (d .before .before .before .before .before .before .if1 .left)
+    (d .hear-lent .ensures) (d .hear-lent .kept .1 .1 .1 .1 .1 .1 .0) (c .before .before .before .before .before .if2 .left) in
+    omega (arith, h, s .good)
 
--- src/lib.rt:131:5
-put-symbol-requires : tie.Need-put-symbol-requires
-put-symbol-requires c κs = ?
+add-t14 : tie.Need-add-t14
+add-t14 c =
+    let d = c .before .before .before .before .before .before .before .before .before .before .before .before in
+    let s = d .before .before .before .before .before .before .before .before .before .before in
+    let h = space (s .args .core) (now (s .args .sums)) (now (s .args .planes)) (now (s .args .picks)) (now (s .args .four)) (s .pre .0) (s .pre .1) (s .pre .2) (d .hear-lent .result) _ _ _ (now (s .args .out)) (now (s .args .bytes)) _ _ (d .before .before .before .before .before .places .ensures) (d .before .before .before .before .before .before .if1 .left)
+    (d .hear-lent .ensures) (d .hear-lent .kept .1 .1 .1 .1 .1 .1 .0) (c .before .before .before .before .before .if2 .left) in
+    omega (arith, h, s .good)
 
--- src/lib.rt:132:21
-slice-reshare-prefix-put-words : tie.Need-slice-reshare-prefix-put-words
-slice-reshare-prefix-put-words c = ?
-
--- src/lib.rt:132:21
-slice-aggregate-put-words : tie.Need-slice-aggregate-put-words
-slice-aggregate-put-words c = ?
-
--- src/lib.rt:132:38
-sub-put-words : tie.Need-sub-put-words
-sub-put-words c = search needs
-
--- src/lib.rt:132:38
-part-put-words-start : tie.Need-part-put-words-start
-part-put-words-start c = search needs
-
--- src/lib.rt:132:38
-part-put-words-end : tie.Need-part-put-words-end
-part-put-words-end c = search needs
-
--- src/lib.rt:132:5
-put-words-requires : tie.Need-put-words-requires
-put-words-requires c κs = ?
-
--- src/lib.rt:136:23
-mul-t14 : tie.Need-mul-t14
-mul-t14 c = ?
-
--- src/lib.rt:136:19
-add-t20 : tie.Need-add-t20
-add-t20 c = ?
-
--- src/lib.rt:97:1
 same-length-4 : tie.Need-same-length-4
 same-length-4 c = search needs
 
--- src/lib.rt:97:1
 same-length-5 : tie.Need-same-length-5
 same-length-5 c = search needs
 
--- src/lib.rt:97:1
 same-length-6 : tie.Need-same-length-6
 same-length-6 c = search needs
 
--- src/lib.rt:97:1
 returns-3 : tie.Need-returns-3
-returns-3 c = ?
+returns-3 c =
+    let d = c .before .before .before .before .before .before .before .before .before .before .before .before in
+    let s = d .before .before .before .before .before .before .before .before .before .before in
+    step-taken (s .args .core) (now (s .args .sums)) (now (s .args .planes)) (now (s .args .picks)) (now (s .args .four)) (s .pre .0) (s .pre .1) (s .pre .2) (d .hear-lent .result) _ _ _ (now (s .args .out)) (now (s .args .bytes)) _ _ (d .before .before .before .before .before .places .ensures) (d .before .before .before .before .before .before .if1 .left)
+    (d .hear-lent .ensures) (d .hear-lent .kept .1 .1 .1 .1 .1 .1 .0) (c .before .before .before .before .before .if2 .left) _ (c .before .before .put-taken .ensures)
 
 pub record-symbol-spec : {M : Type 1} → statement M
 record-symbol-spec =
@@ -131,19 +116,11 @@ record-symbol-spec =
     same-length-2
     same-length-3
     returns-2
-    shared-slice-copy-out-put-symbol
-    shared-slice-copy-out-put-symbol-2
-    shared-slice-copy-out-put-symbol-3
-    shared-slice-copy-out-put-symbol-4
-    put-symbol-requires
-    slice-reshare-prefix-put-words
-    slice-aggregate-put-words
-    sub-put-words
-    part-put-words-start
-    part-put-words-end
-    put-words-requires
-    mul-t14
-    add-t20
+    slice-reshare-prefix-put-taken
+    slice-aggregate-put-taken
+    put-taken-requires
+    mul-t20
+    add-t14
     same-length-4
     same-length-5
     same-length-6

@@ -1,0 +1,3 @@
+pub mod Recorded
+pub mod Taping
+pub mod Promise

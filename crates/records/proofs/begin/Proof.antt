@@ -1,0 +1,61 @@
+use Rattle.records.specs.Frames.{begun}
+use mathlib.Core.Path.{_≡_, refl, sym, ap, _∙_}
+use native.Mathlib.Omega.{arith}
+use borrow.Author.Tests.{not-true, not-false, eq-eqb, ne-eqb, lt-ltb, le-ltb, le-leb, lt-leb}
+use borrow.Author.Needs.{needs}
+use Rattle.records.proofs.begin.Statement.{statement}
+use Rattle.records.proofs.begin.Tie as tie
+use Rattle.records.proofs.begin.Reads as reads
+use Rattle.records.proofs.begin.Lts as lts
+use Rattle.records.proofs.after.Reads as after-reads
+use Rattle.records.proofs.counted.Reads as counted-reads
+use Rattle.records.proofs.kind_of.Reads as kind-of-reads
+use Rattle.records.proofs.may_stand.Reads as may-stand-reads
+use Rattle.records.proofs.stage_at.Reads as stage-at-reads
+
+-- src/lib.rt:175:9
+kind-of-requires : tie.Need-kind-of-requires
+kind-of-requires c κs = search needs
+
+-- src/lib.rt:177:9
+may-stand-requires : tie.Need-may-stand-requires
+may-stand-requires c κs = search needs
+
+-- src/lib.rt:185:18
+counted-requires : tie.Need-counted-requires
+counted-requires c κs = search needs
+
+-- src/lib.rt:178:9
+returns : tie.Need-returns
+unfolding begun
+returns c = simp (sym (c .before .before .before .kind-of .ensures), sym (c .before .before .may-stand .ensures) ∙ not-true _ (c .before .if1 .taken), c .counted .ensures)
+
+-- src/lib.rt:189:16
+stage-at-requires : tie.Need-stage-at-requires
+stage-at-requires c κs = search needs
+
+-- src/lib.rt:190:16
+after-requires : tie.Need-after-requires
+after-requires c κs = search needs
+
+-- src/lib.rt:195:14
+counted-requires-2 : tie.Need-counted-requires-2
+counted-requires-2 c κs = search needs
+
+-- src/lib.rt:170:1
+returns-2 : tie.Need-returns-2
+unfolding begun
+returns-2 c = simp (sym (c .before .before .before .before .before .kind-of .ensures), sym (c .before .before .before .before .may-stand .ensures) ∙ not-false _ (c .before .before .before .if1 .left), c .counted2 .ensures, c .before .after .ensures, c .before .before .stage-at .ensures)
+
+pub begin-spec : {M : Type 1} → statement M
+begin-spec =
+    tie.close
+    (tie.spec
+    kind-of-requires
+    may-stand-requires
+    counted-requires
+    returns
+    stage-at-requires
+    after-requires
+    counted-requires-2
+    returns-2)

@@ -1,0 +1,25 @@
+use Rattle.records.proofs.Counts.{capped-small, capped-last}
+use Rattle.records.specs.Frames.{capped}
+use mathlib.Core.Path.{_≡_, refl, sym, ap, _∙_}
+use native.Mathlib.Omega.{arith}
+use borrow.Author.Tests.{not-true, not-false, eq-eqb, ne-eqb, lt-ltb, le-ltb, le-leb, lt-leb}
+use borrow.Author.Needs.{needs}
+use Rattle.records.proofs.counted.Statement.{statement}
+use Rattle.records.proofs.counted.Tie as tie
+use Rattle.records.proofs.counted.Reads as reads
+use Rattle.records.proofs.counted.Lts as lts
+
+-- src/lib.rt:141:23
+add-result : tie.Need-add-result
+add-result c = search needs
+
+-- src/lib.rt:138:1
+returns : tie.Need-returns
+returns c = sym (capped-small _ (omega arith))
+
+-- src/lib.rt:138:1
+returns-2 : tie.Need-returns-2
+returns-2 c = capped-last _ (omega arith) (omega arith)
+
+pub counted-spec : {M : Type 1} → statement M
+counted-spec = tie.close (tie.spec add-result returns returns-2)

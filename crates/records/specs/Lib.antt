@@ -1,0 +1,4 @@
+pub mod Kinds
+pub mod Values
+pub mod Reading
+pub mod Frames

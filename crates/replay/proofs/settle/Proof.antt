@@ -1,0 +1,34 @@
+use Rattle.replay.proofs.Feeds.{settle-no, settle-yes}
+use mathlib.Core.Path.{_≡_, refl, sym, ap, _∙_}
+use native.Mathlib.Omega.{arith}
+use borrow.Author.Tests.{not-true, not-false, eq-eqb, ne-eqb, lt-ltb, le-ltb, le-leb, lt-leb}
+use borrow.Author.Needs.{needs}
+use Rattle.replay.proofs.settle.Statement.{statement}
+use Rattle.replay.proofs.settle.Tie as tie
+use Rattle.replay.proofs.settle.Reads as reads
+use Rattle.replay.proofs.settle.Lts as lts
+use Rattle.replay.proofs.is_whole.Reads as is-whole-reads
+use Rattle.replay_step.proofs.take.Reads as take-reads
+
+-- src/lib.rt:79:9
+is-whole-requires : tie.Need-is-whole-requires
+is-whole-requires c κs = search needs
+
+-- src/lib.rt:80:9
+returns : tie.Need-returns
+returns c = settle-no _ _ _ (sym (c .before .is-whole .ensures) ∙ not-true _ (c .if1 .taken))
+
+-- src/lib.rt:83:5
+take-requires : tie.Need-take-requires
+take-requires c κs = search needs
+
+-- src/lib.rt:68:1
+same-length : tie.Need-same-length
+same-length c = search needs
+
+-- src/lib.rt:68:1
+returns-2 : tie.Need-returns-2
+returns-2 c = settle-yes _ _ _ _ _ (sym (c .before .before .before .before .before .before .before .before .before .is-whole .ensures) ∙ not-false _ (c .before .before .before .before .before .before .before .before .if1 .left)) (c .before .before .take .ensures)
+
+pub settle-spec : {M : Type 1} → statement M
+settle-spec = tie.close (tie.spec is-whole-requires returns take-requires same-length returns-2)

@@ -1,0 +1,100 @@
+// Records put into lent bytes: one place that writes an open, one that writes a symbol, one that writes words, one that writes a finish.
+// Each writes at the front of the bytes that it is lent and leaves the rest as it was; what the bytes say is records/specs/Values.
+ghost use mathlib.Core.Path.{_≡_};
+ghost use mathlib.Core.List.{[], _∷_};
+ghost use Prim.Native.Nat.{_+_, _*_, _≤_, _<_};
+ghost use lib.IntN.{natAbs};
+ghost use lib.ListN.{length};
+ghost use Rattle.records.specs.Values.{halfOf, openEntry, symbolEntry, wordEntry, finishEntry};
+ghost use Rattle.tape.specs.Front.{Fronted, wordEntries, Small, takenEntries};
+
+// A coordinate as a number of 16 bits.
+fn bits(x: i32) -> u32
+    requires { ⌜ natAbs x ≤ 32768 ⌝ }
+    ensures { λ r. ⌜ (r ≡ halfOf x) × (r < 65536) ⌝ }
+{
+    if x < 0 {
+        return (x + 65536) as u32;
+    }
+    x as u32
+}
+
+// The numbers of an opening.
+pub fn put_open(u: u32, window: u32, start: u32, bytes: &mut [u8])
+    requires { ⌜ (4 ≤ length (now bytes)) × (u < 256) × (window < 256) × (start < 256) ⌝ }
+    ensures { λ _. ⌜ Fronted (openEntry u window start ∷ []) (now (bytes .entry)) (now (bytes .exit)) ⌝ }
+{
+    bytes[0] = 1;
+    bytes[1] = u as u8;
+    bytes[2] = window as u8;
+    bytes[3] = start as u8;
+}
+
+// The coordinates of a symbol.
+fn put_symbol(x0: i32, x1: i32, x2: i32, x3: i32, bytes: &mut [u8])
+    requires { ⌜ (9 ≤ length (now bytes)) × (natAbs x0 ≤ 32768) × (natAbs x1 ≤ 32768) × (natAbs x2 ≤ 32768) × (natAbs x3 ≤ 32768) ⌝ }
+    ensures { λ _. ⌜ Fronted (symbolEntry x0 x1 x2 x3 ∷ []) (now (bytes .entry)) (now (bytes .exit)) ⌝ }
+{
+    let a = bits(x0);
+    let b = bits(x1);
+    let c = bits(x2);
+    let d = bits(x3);
+    bytes[0] = 2;
+    bytes[1] = (a % 256) as u8;
+    bytes[2] = (a / 256) as u8;
+    bytes[3] = (b % 256) as u8;
+    bytes[4] = (b / 256) as u8;
+    bytes[5] = (c % 256) as u8;
+    bytes[6] = (c / 256) as u8;
+    bytes[7] = (d % 256) as u8;
+    bytes[8] = (d / 256) as u8;
+}
+
+fn put_word(w: u32, bytes: &mut [u8])
+    requires { ⌜ 5 ≤ length (now bytes) ⌝ }
+    ensures { λ _. ⌜ Fronted (wordEntry w ∷ []) (now (bytes .entry)) (now (bytes .exit)) ⌝ }
+{
+    bytes[0] = 3;
+    bytes[1] = (w % 256) as u8;
+    bytes[2] = (w / 256 % 256) as u8;
+    bytes[3] = (w / 65536 % 256) as u8;
+    bytes[4] = (w / 16777216) as u8;
+}
+
+fn put_words(words: &[u32], bytes: &mut [u8])
+    requires { ⌜ 5 * length (now words) ≤ length (now bytes) ⌝ }
+    ensures { λ _. ⌜ Fronted (wordEntries (now (words .entry))) (now (bytes .entry)) (now (bytes .exit)) ⌝ }
+{
+    let mut i: usize = 0;
+    let mut at: usize = 0;
+    while i < words.len() {
+        put_word(words[i], &mut bytes[at..]);
+        at += 5;
+        i += 1;
+    }
+}
+
+// A symbol that was taken, then the words that it released, in their order.
+pub fn put_taken(four: &[i32], words: &[u32], bytes: &mut [u8])
+    requires { ⌜ (length (now four) ≡ 4) × Small (now four) × (9 + 5 * length (now words) ≤ length (now bytes)) ⌝ }
+    ensures { λ _. ⌜ Fronted (takenEntries (now (four .entry)) (now (words .entry))) (now (bytes .entry)) (now (bytes .exit)) ⌝ }
+{
+    put_symbol(four[0], four[1], four[2], four[3], bytes);
+    put_words(words, &mut bytes[9..]);
+}
+
+fn put_end(bytes: &mut [u8])
+    requires { ⌜ 1 ≤ length (now bytes) ⌝ }
+    ensures { λ _. ⌜ Fronted (finishEntry ∷ []) (now (bytes .entry)) (now (bytes .exit)) ⌝ }
+{
+    bytes[0] = 4;
+}
+
+// A finish, then the words that it wrote.
+pub fn put_finish(words: &[u32], bytes: &mut [u8])
+    requires { ⌜ 1 + 5 * length (now words) ≤ length (now bytes) ⌝ }
+    ensures { λ _. ⌜ Fronted (finishEntry ∷ wordEntries (now (words .entry))) (now (bytes .entry)) (now (bytes .exit)) ⌝ }
+{
+    put_end(bytes);
+    put_words(words, &mut bytes[1..]);
+}

@@ -24,7 +24,7 @@ use Rattle.openings.specs.Given.{startAt}
 use Rattle.openings.specs.Given as given
 use Rattle.told.specs.Told.{Told, withHeard, speakerOf, judgeSymbol, Fine}
 use Rattle.told.specs.Piece.{Piece}
-use Rattle.receiver.proofs.Symbols.{symbol-judged}
+use Rattle.pieces.proofs.Symbols.{symbol-judged}
 use Rattle.records.specs.declared.Phase.{Phase}
 use Rattle.records.specs.declared.Phase.the-variants.{Start}
 use Rattle.records.specs.Values.{Entry, openEntry, bytesOf}

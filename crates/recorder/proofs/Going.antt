@@ -21,7 +21,7 @@ use Rattle.reasons.specs.declared.Why.the-variants.{Done}
 use Rattle.reasons.specs.Reason.{reason, givenOf, isDone}
 use Rattle.reasons.proofs.Apart.{done-given}
 use Rattle.told.specs.Piece.{symbolsOf}
-use Rattle.receiver.proofs.Lent.{part, lent-fits, back-is, back-take, back-drop, back-length}
+use Rattle.pieces.proofs.Lent.{part, lent-fits, back-is, back-take, back-drop, back-length}
 use Rattle.records.specs.Values.{Entry, bytesOf}
 use Rattle.tape.proofs.Fronts.{bytes-append}
 use Rattle.recorder.specs.declared.Step.{Step}

@@ -10,8 +10,8 @@ use Rattle.machine.specs.declared.Receiver.{Receiver}
 use Rattle.machine.specs.Machine.{Outcome, refused, sound}
 use Rattle.reasons.specs.declared.Why.the-variants.{NoRoom}
 use Rattle.reasons.specs.Reason.{isDone}
-use Rattle.receiver.specs.Doors.{symbolAt}
-use Rattle.receiver.proofs.Kept.{symbol-refused, symbol-sound}
+use Rattle.pieces.specs.Running.{symbolAt}
+use Rattle.pieces.proofs.Kept.{symbol-refused, symbol-sound}
 use Rattle.recorder.specs.Recorded.{symbolRecords, spaceOf}
 use Rattle.recorder.specs.Taping.{tapedAt}
 

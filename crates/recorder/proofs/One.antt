@@ -26,11 +26,12 @@ use Rattle.reasons.proofs.Apart.{given-one, done-given}
 use Rattle.told.specs.Told.{faultOf}
 use Rattle.told.specs.Piece.{symbolFrom, pieceOf}
 use Rattle.told.proofs.Telling.{in-range}
-use Rattle.receiver.specs.declared.Heard.{Heard}
-use Rattle.receiver.specs.Doors.{symbolAt, Ran, running, hearing}
+use Rattle.pieces.specs.declared.Heard.{Heard}
+use Rattle.pieces.specs.Running.{symbolAt, running}
+use Rattle.receiver.specs.Doors.{Ran, hearing}
 use Rattle.receiver.specs.Promise.{Is, partsOf, lentLive, answerOf}
 use Rattle.receiver.proofs.Doors.{lent-live}
-use Rattle.receiver.proofs.Kept.{symbol-refused}
+use Rattle.pieces.proofs.Kept.{symbol-refused}
 use Rattle.records.specs.Values.{bytesOf}
 use Rattle.tape.specs.Front.{Fronted, Small, takenEntries}
 use Rattle.recorder.specs.declared.Step.{Step}

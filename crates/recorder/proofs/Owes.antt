@@ -22,8 +22,9 @@ use Rattle.reasons.specs.Reason.{Reason, reason, givenOf, isDone}
 use Rattle.told.specs.Told.{Told, speakerOf, judgeSymbol, Fine, withHeard}
 use Rattle.told.specs.Piece.{Piece}
 use Rattle.told.specs.Owed.{finishOwed}
+use Rattle.pieces.specs.Running.{symbolAt}
 use Rattle.receiver.specs.Doors as doors
-use Rattle.receiver.proofs.Symbols.{Judged, symbol-judged}
+use Rattle.pieces.proofs.Symbols.{Judged, symbol-judged}
 use Rattle.receiver.proofs.Doors.{EndedBy, finishing-owes}
 use Rattle.records.specs.Values.{Entry, bytesOf}
 use Rattle.tape.proofs.Fronts.{bytes-append}
@@ -45,7 +46,7 @@ module _ (t : Told) (ys : List (Two Received)) (f : Fine (withHeard t ys)) (y : 
   rx = machineAfter t ys
 
   abbrev o : Outcome
-  o = doors.symbolAt rx y room
+  o = symbolAt rx y room
 
   abbrev j : Reason
   j = judgeSymbol t ys y room

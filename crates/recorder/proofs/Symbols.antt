@@ -24,7 +24,7 @@ use Rattle.reasons.specs.declared.Why.{Why}
 use Rattle.reasons.specs.declared.Why.the-variants.{Done, BadSample, TooMany, Full, NoRoom}
 use Rattle.reasons.specs.Reason.{isDone}
 use Rattle.told.specs.Told.{faultOf}
-use Rattle.receiver.specs.Doors.{symbolAt}
+use Rattle.pieces.specs.Running.{symbolAt}
 use Rattle.recorder.specs.Recorded.{symbolRecords, spaceOf}
 use Rattle.recorder.specs.Taping.{tapedAt}
 use Rattle.recorder.proofs.Spaces.{symbol-space}

@@ -24,7 +24,8 @@ use Rattle.told.specs.Told.{Told, Fine}
 use Rattle.told.specs.Piece.{Piece, symbolFrom}
 use Rattle.reasons.specs.declared.Why.{Why}
 use Rattle.reasons.specs.Reason.{givenOf, isDone}
-use Rattle.receiver.specs.Promise.{Written, partsOf, lentLive}
+use Rattle.pieces.specs.Running.{Written}
+use Rattle.receiver.specs.Promise.{partsOf, lentLive}
 use Rattle.tape.specs.Front.{Fronted}
 use Rattle.recorder.specs.declared.Taped.{Taped}
 use Rattle.recorder.specs.declared.Step.{Step}

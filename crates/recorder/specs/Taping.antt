@@ -17,7 +17,8 @@ use Rattle.reasons.specs.declared.Why.{Why}
 use Rattle.reasons.specs.declared.Why.the-variants.{Done, NoRoom, Closed, Uneven}
 use Rattle.reasons.specs.Reason.{isDone}
 use Rattle.told.specs.Piece.{Piece}
-use Rattle.receiver.specs.Doors.{symbolAt, finishing}
+use Rattle.pieces.specs.Running.{symbolAt}
+use Rattle.receiver.specs.Doors.{finishing}
 use Rattle.records.specs.Values.{Entry}
 use Rattle.recorder.specs.Recorded.{symbolRecords, finishRecords, spaceOf}
 

@@ -28,8 +28,9 @@ use Rattle.openings.specs.declared.Opened.{Opened}
 use Rattle.openings.specs.Given.{startAt}
 use Rattle.openings.specs.Opening.{opening, Opens}
 use Rattle.receiver.specs.declared.Answer.{Answer}
-use Rattle.receiver.specs.declared.Heard.{Heard}
-use Rattle.receiver.specs.Doors.{Ran, symbolAt, running, stopped, hearing, finishing}
+use Rattle.pieces.specs.declared.Heard.{Heard}
+use Rattle.pieces.specs.Running.{symbolAt, running}
+use Rattle.receiver.specs.Doors.{Ran, stopped, hearing, finishing}
 use Rattle.receiver.specs.Promise.{Is, partsOf, lentLive, answerOf, HearsLent, Finishes}
 use Rattle.receiver.proofs.Doors.{lent-live}
 use Rattle.receiver.proofs.Left.{finishes-left}

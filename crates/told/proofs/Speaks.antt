@@ -1,13 +1,13 @@
 -- What a receiver that was told a fine history says: what is spoken stays spoken and begins the answer, and every word has 3 + 2u bits.
 --   speaks                     the laws of speaking, as `calls` asks for them
---   rest-below                 the words of the answer that are not spoken yet
+--   fresh-below, rest-below    the words that one symbol adds, and those that a finish adds
 --   piece-below, finish-below  the words of a piece and of a finish
 use mathlib.Core.Path.{_≡_, refl, sym, ap, _∙_}
-use mathlib.Core.List.{List}
+use mathlib.Core.List.{List, _∷_}
 use Prim.Native.Nat.{ℕ, _+_, _*_, _^_, _<_}
 use lib.ListN.{length, drop}
 use lib.Seq.{drop-at}
-use Rattle.calls.specs.Calls.{Speaks, rest}
+use Rattle.calls.specs.Calls.{Speaks, fresh, rest}
 use Rattle.calls.proofs.Steps.{walk-said}
 use Rattle.trellis.specs.Lists.{Every}
 use Rattle.trellis.specs.Measure.{Two}
@@ -31,6 +31,9 @@ module _ (t : Told) (f : Fine t) where
 
   spoken-words : (ys : List (Two Received)) → Every IsWord (speakerOf t .spoken ys)
   spoken-words ys = spoken-below (t .accord .u) (lineMeasure (t .accord)) (lineChoice (t .accord)) (line-chooses (t .accord)) (t .start) (f .good-start) ys
+
+  pub fresh-below : (ys : List (Two Received)) (y : Two Received) → Every IsWord (fresh (speakerOf t) ys y)
+  fresh-below ys y = every-drop IsWord (length (speakerOf t .spoken ys)) (speakerOf t .spoken (y ∷ ys)) (spoken-words (y ∷ ys))
 
   pub rest-below : (ys : List (Two Received)) → Every IsWord (rest (speakerOf t) ys)
   rest-below ys =

@@ -1,0 +1,101 @@
+use mathlib.Core.Path.{_≡_}
+use Prim.Native.Nat.{_≤_, _-_}
+use lib.ListN.{length}
+use borrow.Author.Needs.{needs}
+use Rattle.capture.proofs.showing.run.Statement.{statement}
+use Rattle.capture.proofs.showing.run.Tie as tie
+use Rattle.capture.proofs.showing.run.Reads as reads
+use Rattle.capture.proofs.showing.run.Lts as lts
+use Rattle.capture.proofs.showing.is_whole.Reads as is-whole-reads
+use Rattle.capture.proofs.showing.print_malformed.Reads as print-malformed-reads
+use Rattle.capture.proofs.showing.read_once.Reads as read-once-reads
+use Rattle.os.proofs.fail.Reads as fail-reads
+use Rattle.records.proofs.start.Reads as start-reads
+
+abbrev Inv-loop : tie.InvT-loop
+Inv-loop fd chunk₀ now₀ turns₀ t7 chunk now turns = length chunk ≡ 65536
+
+abbrev μ-loop : tie.MeasureT-loop
+μ-loop fd chunk₀ now₀ turns₀ t7 chunk now turns = turns
+
+-- src/showing.rt:183:9
+returns : tie.Need-returns Inv-loop μ-loop
+returns c = search needs
+
+-- src/showing.rt:187:16
+start-requires : tie.Need-start-requires Inv-loop μ-loop
+start-requires c κs = search needs
+
+-- src/showing.rt:193:5
+loop-holds : tie.Need-loop-holds Inv-loop μ-loop
+loop-holds c = search needs
+
+-- src/showing.rt:194:34
+slice-aggregate-read-once : tie.Need-slice-aggregate-read-once Inv-loop μ-loop
+slice-aggregate-read-once c = search needs
+
+-- src/showing.rt:194:9
+read-once-requires : tie.Need-read-once-requires Inv-loop μ-loop
+read-once-requires c κs = search needs
+
+-- src/showing.rt:195:9
+sub-turns : tie.Need-sub-turns Inv-loop μ-loop
+sub-turns c = search needs
+
+-- src/showing.rt:193:5
+loop-less : tie.Need-loop-less Inv-loop μ-loop
+loop-less c = search needs
+
+-- src/showing.rt:193:5
+loop-again : tie.Need-loop-again Inv-loop μ-loop
+loop-again c = search needs
+
+-- src/showing.rt:199:20
+is-whole-requires : tie.Need-is-whole-requires Inv-loop μ-loop
+is-whole-requires c κs = search needs
+
+-- src/showing.rt:200:9
+returns-2 : tie.Need-returns-2 Inv-loop μ-loop
+returns-2 c = search needs
+
+-- src/showing.rt:202:9
+print-malformed-requires : tie.Need-print-malformed-requires Inv-loop μ-loop
+print-malformed-requires c κs = search needs
+
+-- src/showing.rt:203:18
+slice-aggregate-fail : tie.Need-slice-aggregate-fail Inv-loop μ-loop
+slice-aggregate-fail c = search needs
+
+-- src/showing.rt:203:9
+fail-requires : tie.Need-fail-requires Inv-loop μ-loop
+fail-requires c κs = search needs
+
+-- src/showing.rt:181:1
+returns-3 : tie.Need-returns-3 Inv-loop μ-loop
+returns-3 c = search needs
+
+-- src/showing.rt:181:1
+returns-4 : tie.Need-returns-4 Inv-loop μ-loop
+returns-4 c = search needs
+
+pub run-spec : {M : Type 1} → statement M
+run-spec =
+    tie.close
+    (tie.spec
+    Inv-loop
+    μ-loop
+    returns
+    start-requires
+    loop-holds
+    slice-aggregate-read-once
+    read-once-requires
+    sub-turns
+    loop-less
+    loop-again
+    is-whole-requires
+    returns-2
+    print-malformed-requires
+    slice-aggregate-fail
+    fail-requires
+    returns-3
+    returns-4)

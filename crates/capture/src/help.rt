@@ -1,0 +1,29 @@
+// The page of `capture help`. It goes to standard output where it is asked for, and to the error stream where a word is unknown.
+pub fn show(to: i32) -> bool {
+    io::write_all(
+        to,
+        b"capture: recorded runs of a receiver.
+
+  capture replay [FILE]   runs the receiver on the capture and prints one line
+  capture show [FILE]     prints a line for each record, then `offset P malformed` if the capture is
+  capture help            prints this page
+
+With no FILE standard input is read, as it comes. A replay prints a fault as soon as the bytes settle it, and reads on to the end:
+
+  agree N                          all N words are those that the receiver says
+  record N word G expected H       record N has the word G where the receiver says H; `none` where it says nothing
+  record N missing word H          the word H should stand where record N is, or at the end
+  record N refused R               the receiver refuses record N with the number R
+  offset P malformed               no record of a capture begins at byte P
+
+Records and offsets count from 0, and words are eight hexadecimal digits. A script asks: capture replay F | grep -q ^agree
+
+A capture is a row of records: a byte of kind, then its body.
+
+  1  open: u, window, start (0 to 15, or 16 for free), a byte each
+  2  symbol taken: four coordinates of 16 bits, low byte first
+  3  word released: 32 bits, low byte first
+  4  finish: no body
+",
+    )
+}

@@ -1,0 +1,71 @@
+// The program for captures: `capture replay [FILE]`, `capture show [FILE]`, `capture help`. It reads a file or standard input, as it comes, in
+// constant memory. What no proof can say of a program, which bytes it reads and writes, is all that stands here; the verdict is that of
+// `replay`, its line that of `replay_line`, and the form of a capture that of `records`.
+mod help;
+mod input;
+mod replaying;
+mod showing;
+
+use libc::STDERR_FILENO;
+use libc::STDOUT_FILENO;
+use text::token;
+
+// Whether argument i is this word. One that has no room is none of ours.
+fn is_word(i: usize, word: &[u8]) -> bool {
+    let mut given = io::buffer();
+    let n = os::arg(i, &mut given);
+    token::same(&given[..n], word)
+}
+
+// The page on the error stream, its first line naming the word that means nothing here, or what fits of it.
+fn unknown(i: usize) {
+    let mut word = io::buffer();
+    let n = os::arg(i, &mut word);
+    io::write_all(STDERR_FILENO, b"capture: not known here: ");
+    io::write_all(STDERR_FILENO, &word[..n]);
+    io::write_all(STDERR_FILENO, b"\n\n");
+    help::show(STDERR_FILENO);
+}
+
+fn nothing_asked() {
+    io::write_all(
+        STDERR_FILENO,
+        b"capture: it wants a word: replay, show or help\n\n",
+    );
+    help::show(STDERR_FILENO);
+}
+
+fn asked_help() {
+    if os::arg_count() > 2 {
+        unknown(2);
+        return;
+    }
+    if !help::show(STDOUT_FILENO) {
+        os::fail(b"capture: standard output");
+    }
+}
+
+fn main() {
+    let count = os::arg_count();
+    if count < 2 {
+        nothing_asked();
+        return;
+    }
+    if count > 3 {
+        unknown(3);
+        return;
+    }
+    if is_word(1, b"replay") {
+        replaying::run(input::open());
+        return;
+    }
+    if is_word(1, b"show") {
+        showing::run(input::open());
+        return;
+    }
+    if is_word(1, b"help") {
+        asked_help();
+        return;
+    }
+    unknown(1);
+}

@@ -1,0 +1,39 @@
+use Rattle.replay_line.specs.Says.{lineOf}
+use Rattle.phrases.proofs.Phrases.{says-number, decimal-short}
+use Rattle.page.proofs.Pages.{joined}
+use Rattle.replay_line.proofs.Lines.{hex-few, hex-put, hex-length, head-near, word-near, line-is}
+use mathlib.Core.Path.{_≡_, refl, sym, ap, _∙_}
+use native.Mathlib.Omega.{arith}
+use borrow.Author.Tests.{not-true, not-false, eq-eqb, ne-eqb, lt-ltb, le-ltb, le-leb, lt-leb}
+use borrow.Author.Needs.{needs}
+use Rattle.replay_line.proofs.head.Statement.{statement}
+use Rattle.replay_line.proofs.head.Tie as tie
+use Rattle.replay_line.proofs.head.Reads as reads
+use Rattle.replay_line.proofs.head.Lts as lts
+use Rattle.page.proofs.put_number.Reads as put-number-reads
+use Rattle.page.proofs.put_text.Reads as put-text-reads
+
+-- src/lib.rt:32:9
+put-text-requires : tie.Need-put-text-requires
+put-text-requires c κs = search needs
+
+-- src/lib.rt:33:9
+put-number-requires : tie.Need-put-number-requires
+put-number-requires c κs = search needs
+
+-- src/lib.rt:34:5
+put-text-requires-2 : tie.Need-put-text-requires-2
+put-text-requires-2 c κs = search needs
+
+-- src/lib.rt:28:1
+same-length : tie.Need-same-length
+same-length c = search needs
+
+-- src/lib.rt:28:1
+returns : tie.Need-returns
+returns c = joined (omega arith) (joined (omega arith) (c .before .before .before .before .before .before .before .before .before .before .put-text .ensures) (says-number (c .before .before .before .before .before .before .put-number .ensures))) (c .before .before .put-text2 .ensures)
+
+pub head-spec : {M : Type 1} → statement M
+head-spec =
+    tie.close
+    (tie.spec put-text-requires put-number-requires put-text-requires-2 same-length returns)

@@ -1,0 +1,50 @@
+use Rattle.text.specs.Bytes.{bytes}
+use Rattle.replay_line.specs.Says.{lineOf}
+use Rattle.phrases.proofs.Phrases.{says-number, decimal-short}
+use Rattle.page.proofs.Pages.{joined}
+use Rattle.replay_line.proofs.Lines.{hex-few, hex-put, hex-length, head-near, word-near, line-is}
+use mathlib.Core.Path.{_≡_, refl, sym, ap, _∙_}
+use native.Mathlib.Omega.{arith}
+use borrow.Author.Tests.{not-true, not-false, eq-eqb, ne-eqb, lt-ltb, le-ltb, le-leb, lt-leb}
+use borrow.Author.Needs.{needs}
+use Rattle.replay_line.proofs.put_hex.Statement.{statement}
+use Rattle.replay_line.proofs.put_hex.Tie as tie
+use Rattle.replay_line.proofs.put_hex.Reads as reads
+use Rattle.replay_line.proofs.put_hex.Lts as lts
+use Rattle.io.proofs.hex.Reads as hex-reads
+use Rattle.page.proofs.put_text.Reads as put-text-reads
+
+-- src/lib.rt:23:9
+hex-requires : tie.Need-hex-requires
+hex-requires c κs = search needs
+
+-- src/lib.rt:24:30
+array-share-prefix-digits : tie.Need-array-share-prefix-digits
+array-share-prefix-digits c = search needs
+
+-- src/lib.rt:24:30
+slice-aggregate-put-text : tie.Need-slice-aggregate-put-text
+slice-aggregate-put-text c = search needs
+
+-- src/lib.rt:24:5
+put-text-requires : tie.Need-put-text-requires
+put-text-requires c κs = omega (arith, hex-few (omega arith) (c .before .before .hex .ensures .1 .0), c .before .before .hex .ensures .0 .1)
+
+-- src/lib.rt:18:1
+same-length : tie.Need-same-length
+same-length c = search needs
+
+-- src/lib.rt:18:1
+returns : tie.Need-returns
+returns c = hex-put _ (omega arith) (c .before .before .before .before .before .hex .ensures .1 .0) (c .before .before .before .before .before .hex .ensures .1 .1) (c .before .before .put-text .ensures)
+
+pub put-hex-spec : {M : Type 1} → statement M
+put-hex-spec =
+    tie.close
+    (tie.spec
+    hex-requires
+    array-share-prefix-digits
+    slice-aggregate-put-text
+    put-text-requires
+    same-length
+    returns)

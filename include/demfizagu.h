@@ -186,6 +186,34 @@ uint32_t demfizagu_hear(uint64_t *state, size_t state_len, const int32_t *piece,
 uint32_t demfizagu_finish(uint64_t *state, size_t state_len, uint32_t *out, size_t out_len, uint64_t *told,
                           size_t told_len);
 
+/*
+ * RECORDING
+ *
+ * A run may be recorded as a capture: the record of its opening, then of each symbol taken, each followed by the records of the
+ * words that it released, then of the finish and its words. What these three functions write, one after the other and whatever
+ * is refused between, is such a capture, and its replay agrees with it.
+ *
+ * demfizagu_record_open puts the record of an opening into bytes[0] to bytes[3]; it opens nothing. Order: 8 (bytes has less than
+ * four places), 1, 2, 3; a refusal writes no byte. An opening with the plain window is recorded with window 32, start 16.
+ */
+uint32_t demfizagu_record_open(uint32_t u, uint32_t window, uint32_t start, uint8_t *bytes, size_t bytes_len);
+
+/*
+ * As demfizagu_hear, and records the symbols taken and their words in bytes, straight after one another: 9 bytes for a symbol and
+ * 5 for each word. told has four places here; told[3] is how many bytes were written, 0 with a 9 or a 10. Other places of bytes
+ * stay. An 8 is an out without room for the words of that symbol, or bytes without room for its records; it was not taken.
+ * 329 bytes are always enough for one symbol.
+ */
+uint32_t demfizagu_hear_recorded(uint64_t *state, size_t state_len, const int32_t *piece, size_t piece_len, uint32_t *out,
+                                 size_t out_len, uint8_t *bytes, size_t bytes_len, uint64_t *told, size_t told_len);
+
+/*
+ * As demfizagu_finish, and records the finish and its words: 1 byte and 5 for each pending word, without which it is an 8. told has
+ * four places; told[3] is how many bytes were written, 0 where the finish was refused. 321 bytes are always enough.
+ */
+uint32_t demfizagu_finish_recorded(uint64_t *state, size_t state_len, uint32_t *out, size_t out_len, uint8_t *bytes,
+                                   size_t bytes_len, uint64_t *told, size_t told_len);
+
 /* How many symbols are pending; 0 for a closed receiver and for a sender. */
 uint32_t demfizagu_pending(const uint64_t *state, size_t state_len);
 

@@ -43,6 +43,29 @@ mod c {
             told: *mut u64,
             told_len: usize,
         ) -> u32;
+        pub fn demfizagu_record_open(u: u32, window: u32, start: u32, bytes: *mut u8, bytes_len: usize) -> u32;
+        pub fn demfizagu_hear_recorded(
+            state: *mut u64,
+            state_len: usize,
+            piece: *const i32,
+            piece_len: usize,
+            out: *mut u32,
+            out_len: usize,
+            bytes: *mut u8,
+            bytes_len: usize,
+            told: *mut u64,
+            told_len: usize,
+        ) -> u32;
+        pub fn demfizagu_finish_recorded(
+            state: *mut u64,
+            state_len: usize,
+            out: *mut u32,
+            out_len: usize,
+            bytes: *mut u8,
+            bytes_len: usize,
+            told: *mut u64,
+            told_len: usize,
+        ) -> u32;
         pub fn demfizagu_sample(x: f32, y: f32, out: *mut i32, out_len: usize) -> u32;
         pub fn demfizagu_samples(
             floats: *const f32,
@@ -127,6 +150,42 @@ pub fn hear(state: &mut [u64], piece: &[i32], out: &mut [u32], told: &mut [u64])
 pub fn finish(state: &mut [u64], out: &mut [u32], told: &mut [u64]) -> u32 {
     unsafe {
         c::demfizagu_finish(state.as_mut_ptr(), state.len(), out.as_mut_ptr(), out.len(), told.as_mut_ptr(), told.len())
+    }
+}
+
+pub fn record_open(u: u32, window: u32, start: u32, bytes: &mut [u8]) -> u32 {
+    unsafe { c::demfizagu_record_open(u, window, start, bytes.as_mut_ptr(), bytes.len()) }
+}
+
+pub fn hear_recorded(state: &mut [u64], piece: &[i32], out: &mut [u32], bytes: &mut [u8], told: &mut [u64]) -> u32 {
+    unsafe {
+        c::demfizagu_hear_recorded(
+            state.as_mut_ptr(),
+            state.len(),
+            piece.as_ptr(),
+            piece.len(),
+            out.as_mut_ptr(),
+            out.len(),
+            bytes.as_mut_ptr(),
+            bytes.len(),
+            told.as_mut_ptr(),
+            told.len(),
+        )
+    }
+}
+
+pub fn finish_recorded(state: &mut [u64], out: &mut [u32], bytes: &mut [u8], told: &mut [u64]) -> u32 {
+    unsafe {
+        c::demfizagu_finish_recorded(
+            state.as_mut_ptr(),
+            state.len(),
+            out.as_mut_ptr(),
+            out.len(),
+            bytes.as_mut_ptr(),
+            bytes.len(),
+            told.as_mut_ptr(),
+            told.len(),
+        )
     }
 }
 

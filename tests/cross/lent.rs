@@ -6,6 +6,12 @@ pub trait Cell: Copy + PartialEq + std::fmt::Debug {
     fn mark(n: usize) -> Self;
 }
 
+impl Cell for u8 {
+    fn mark(n: usize) -> u8 {
+        0xa5 ^ (n as u8).wrapping_mul(29)
+    }
+}
+
 impl Cell for u32 {
     fn mark(n: usize) -> u32 {
         0xd15e_a5e0 ^ n as u32

@@ -10,6 +10,7 @@ mod generate;
 mod lab;
 mod lent;
 mod machine;
+mod recorded;
 mod reference;
 mod rng;
 mod shrink;
@@ -127,6 +128,8 @@ fn compare(o: &Options) -> Result<(), String> {
         return Err(format!("version: expected {}, the library gave {}", ffi::VERSION, ffi::version()));
     }
     println!("library: a sender has {} words, a receiver {}", ffi::sender_words(), ffi::receiver_words());
+    let bytes = recorded::check(&map, o.seed)?;
+    println!("recorded calls: no difference ({bytes} bytes)");
     let seen = run_sessions(&map, o);
     if let Some((index, failure)) = seen.failed {
         report(&map, o, index, failure);

@@ -328,6 +328,112 @@ pub unsafe extern "C" fn demfizagu_finish(
     answer(a, told)
 }
 
+fn words_recorded(kind_and_body: Vec<u8>, words: &[u32]) -> Vec<u8> {
+    let mut r = kind_and_body;
+    for w in words {
+        r.push(3);
+        r.extend(w.to_le_bytes());
+    }
+    r
+}
+
+#[no_mangle]
+pub unsafe extern "C" fn demfizagu_record_open(u: u32, window: u32, start: u32, bytes: *mut u8, bytes_len: usize) -> u32 {
+    let bytes = from_raw_parts_mut(bytes, bytes_len);
+    if bytes.len() < 4 {
+        return 8;
+    }
+    let (number, _) = Held::open(u, window, start);
+    if number == 0 {
+        bytes[..4].copy_from_slice(&[1, u as u8, window as u8, start as u8]);
+    }
+    number
+}
+
+#[no_mangle]
+pub unsafe extern "C" fn demfizagu_hear_recorded(
+    state: *mut u64,
+    state_len: usize,
+    piece: *const i32,
+    piece_len: usize,
+    out: *mut u32,
+    out_len: usize,
+    bytes: *mut u8,
+    bytes_len: usize,
+    told: *mut u64,
+    told_len: usize,
+) -> u32 {
+    let (state, piece) = (from_raw_parts_mut(state, state_len), from_raw_parts(piece, piece_len));
+    let (out, bytes) = (from_raw_parts_mut(out, out_len), from_raw_parts_mut(bytes, bytes_len));
+    let told = from_raw_parts_mut(told, told_len);
+    if told.len() < 4 {
+        return 8;
+    }
+    told[3] = 0;
+    if load(state).is_none() {
+        return closed(told);
+    }
+    if piece.len() % 4 != 0 {
+        return answer(fast::refused(10), told);
+    }
+    let (mut taken, mut written, mut recorded) = (0, 0, 0);
+    let mut given = (0, 0);
+    for c in piece.chunks(4) {
+        let (mut r, mut words) = (load(state).unwrap(), [0; 65]);
+        let a = r.hear(c, &mut words);
+        if a.number != 0 {
+            given = (a.number, a.place);
+            break;
+        }
+        let mut body = vec![2];
+        c.iter().for_each(|&c| body.extend((c as i16).to_le_bytes()));
+        let count = a.written as usize;
+        let records = words_recorded(body, &words[..count]);
+        if out.len() - written < count || bytes.len() - recorded < records.len() {
+            given = (8, 0);
+            break;
+        }
+        out[written..written + count].copy_from_slice(&words[..count]);
+        bytes[recorded..recorded + records.len()].copy_from_slice(&records);
+        store(&r, state);
+        (taken, written, recorded) = (taken + 1, written + count, recorded + records.len());
+    }
+    tell(told, taken, written as u64, given.1);
+    told[3] = recorded as u64;
+    given.0
+}
+
+#[no_mangle]
+pub unsafe extern "C" fn demfizagu_finish_recorded(
+    state: *mut u64,
+    state_len: usize,
+    out: *mut u32,
+    out_len: usize,
+    bytes: *mut u8,
+    bytes_len: usize,
+    told: *mut u64,
+    told_len: usize,
+) -> u32 {
+    let (state, out) = (from_raw_parts_mut(state, state_len), from_raw_parts_mut(out, out_len));
+    let (bytes, told) = (from_raw_parts_mut(bytes, bytes_len), from_raw_parts_mut(told, told_len));
+    if told.len() < 4 {
+        return 8;
+    }
+    told[3] = 0;
+    let Some(mut last) = load(state) else { return closed(told) };
+    if bytes.len() < 1 + 5 * last.pending {
+        return answer(fast::refused(8), told);
+    }
+    let a = last.finish(out);
+    if a.number == 0 {
+        let records = words_recorded(vec![4], &out[..a.written as usize]);
+        bytes[..records.len()].copy_from_slice(&records);
+        told[3] = records.len() as u64;
+        store(&last, state);
+    }
+    answer(a, told)
+}
+
 #[no_mangle]
 pub unsafe extern "C" fn demfizagu_sample(x: f32, y: f32, out: *mut i32, out_len: usize) -> u32 {
     let out = from_raw_parts_mut(out, out_len);

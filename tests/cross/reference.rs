@@ -407,3 +407,76 @@ impl Receiver {
         Answer { number: 0, taken: 0, written: pending as u64, place: 0 }
     }
 }
+
+/// The record of a word (02, Wish 2): kind 3, four bytes, low byte first.
+fn word_record(word: u32) -> Vec<u8> {
+    let mut r = vec![3];
+    r.extend(word.to_le_bytes());
+    r
+}
+
+/// The record of a symbol, kind 2, and of the words that it released.
+fn symbol_records(c: &[i32], words: &[u32]) -> Vec<u8> {
+    let mut r = vec![2];
+    c.iter().for_each(|&c| r.extend((c as i16).to_le_bytes()));
+    words.iter().for_each(|&w| r.extend(word_record(w)));
+    r
+}
+
+/// The record of an opening, kind 1, and its number: 8, 1, 2, 3.
+pub fn record_open(u: u32, window: u32, start: u32, bytes: &mut [u8]) -> u32 {
+    if bytes.len() < 4 {
+        return 8;
+    }
+    let (number, _) = Receiver::open(u, window, start);
+    if number == 0 {
+        bytes[..4].copy_from_slice(&[1, u as u8, window as u8, start as u8]);
+    }
+    number
+}
+
+impl Receiver {
+    /// A piece that is recorded: the answer, and how many bytes were written. Each symbol is first tried on a copy.
+    pub fn hear_recorded(&mut self, map: &Map, piece: &[i32], out: &mut [u32], bytes: &mut [u8]) -> (Answer, u64) {
+        if !self.open {
+            return (refused(9), 0);
+        }
+        if piece.len() % 4 != 0 {
+            return (refused(10), 0);
+        }
+        let (mut answer, mut recorded) = (refused(0), 0);
+        for c in piece.chunks(4) {
+            let (mut next, mut words) = (self.clone(), [0; 65]);
+            let count = match next.hear_one(map, c, &mut words) {
+                Ok(count) => count,
+                Err((number, place)) => return (Answer { number, place, ..answer }, recorded as u64),
+            };
+            let (at, records) = (answer.written as usize, symbol_records(c, &words[..count]));
+            if out.len() - at < count || bytes.len() - recorded < records.len() {
+                return (Answer { number: 8, ..answer }, recorded as u64);
+            }
+            out[at..at + count].copy_from_slice(&words[..count]);
+            bytes[recorded..recorded + records.len()].copy_from_slice(&records);
+            recorded += records.len();
+            answer.taken += 1;
+            answer.written += count as u64;
+            *self = next;
+        }
+        (answer, recorded as u64)
+    }
+
+    /// A finish that is recorded, kind 4, then its words.
+    pub fn finish_recorded(&mut self, out: &mut [u32], bytes: &mut [u8]) -> (Answer, u64) {
+        if self.open && bytes.len() < 1 + 5 * self.pending() {
+            return (refused(8), 0);
+        }
+        let answer = self.finish(out);
+        if answer.number != 0 {
+            return (answer, 0);
+        }
+        let mut records = vec![4];
+        out[..answer.written as usize].iter().for_each(|&w| records.extend(word_record(w)));
+        bytes[..records.len()].copy_from_slice(&records);
+        (answer, records.len() as u64)
+    }
+}

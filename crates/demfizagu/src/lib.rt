@@ -26,6 +26,9 @@ ghost use Rattle.converted.specs.Promise.{Samples, Converts};
 ghost use Rattle.demfizagu.specs.Calls.{senderOpening, receiverOpening, sendCall, sendListCall, hearCall, finishCall, pendingIn, openIn};
 ghost use Rattle.demfizagu.specs.Promise.{Opens, OpensAs, Sends, SendsList, Answers};
 ghost use Rattle.layout.specs.Layout.{senderLength, receiverLength};
+ghost use Rattle.recorder.specs.Promise.{OpenTaped};
+ghost use Rattle.taped.specs.Calls as taped;
+ghost use Rattle.taped.specs.Promise.{Records};
 ghost use Rattle.stored.specs.State.{senderIn, receiverIn};
 
 #[no_mangle]
@@ -239,4 +242,37 @@ pub extern "C" fn demfizagu_samples(floats: &[f32], out: &mut [i32], told: &mut 
     ensures { λ r. ⌜ Converts (samplesCall (now (floats .entry)) (now (out .entry)) (now (told .entry))) r (now (out .exit)) (now (told .exit)) ⌝ }
 {
     converted::convert_list(floats, out, told)
+}
+
+// The record of an opening: 8 where the bytes are too short for it, then 1, 2, 3. A refusal writes no byte.
+#[no_mangle]
+pub extern "C" fn demfizagu_record_open(u: u32, window: u32, start: u32, bytes: &mut [u8]) -> u32
+    ensures { λ r. ⌜ OpenTaped (ofWidth u) window start (now (bytes .entry)) r (now (bytes .exit)) ⌝ }
+{
+    recorder::record_open(Accord { u: u }, window, start, bytes)
+}
+
+#[no_mangle]
+pub extern "C" fn demfizagu_hear_recorded(
+    state: &mut [u64],
+    piece: &[i32],
+    out: &mut [u32],
+    bytes: &mut [u8],
+    told: &mut [u64],
+) -> u32
+    ensures { λ r. ⌜ Records (taped.hearCall (now (state .entry)) (now (piece .entry)) (now (out .entry)) (now (bytes .entry)) (now (told .entry))) r (now (state .exit)) (now (out .exit)) (now (bytes .exit)) (now (told .exit)) ⌝ }
+{
+    taped::hear_recorded(state, piece, out, bytes, told)
+}
+
+#[no_mangle]
+pub extern "C" fn demfizagu_finish_recorded(
+    state: &mut [u64],
+    out: &mut [u32],
+    bytes: &mut [u8],
+    told: &mut [u64],
+) -> u32
+    ensures { λ r. ⌜ Records (taped.finishCall (now (state .entry)) (now (out .entry)) (now (bytes .entry)) (now (told .entry))) r (now (state .exit)) (now (out .exit)) (now (bytes .exit)) (now (told .exit)) ⌝ }
+{
+    taped::finish_recorded(state, out, bytes, told)
 }

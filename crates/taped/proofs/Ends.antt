@@ -16,6 +16,7 @@ use Rattle.reasons.specs.declared.Why.the-variants.{Done, NoRoom, Closed}
 use Rattle.reasons.specs.Reason.{givenOf, isDone}
 use Rattle.told.specs.Told.{faultOf}
 use Rattle.told.specs.Piece.{Piece}
+use Rattle.pieces.specs.Running.{symbolAt}
 use Rattle.receiver.specs.Doors as doors
 use Rattle.records.specs.Values.{Entry}
 use Rattle.recorder.specs.Recorded.{symbolRecords, finishRecords, spaceOf}
@@ -31,15 +32,15 @@ live-of true p q v e f = e
 live-of false p q v e f = f
 
 module _ (rx : Receiver) (y : Two Received) (room : ℕ) where
-  symbol-live : doors.symbolAt rx y room .receiver .live ≡ rx .live
-  unfolding doors.symbolAt taking grown
+  symbol-live : symbolAt rx y room .receiver .live ≡ rx .live
+  unfolding symbolAt taking grown
   symbol-live =
       live-of (ltb (faultOf y) 4) _ _ (rx .live) refl
       (live-of (eqb (rx .core .taken) 4294967295) _ _ (rx .live) refl (live-of (ltb (rx .core .window) (keptOf rx y)) _ _ (rx .live) refl (live-of (ltb room (agreedOf rx y)) _ _ (rx .live) refl refl)))
 
   taped-live : (bytes : ℕ) → tapedAt rx y room bytes .receiver .live ≡ rx .live
   unfolding tapedAt
-  taped-live bytes = live-of (isDone (doors.symbolAt rx y room .why) && ltb bytes (spaceOf (symbolRecords y (doors.symbolAt rx y room .words)))) (refused rx NoRoom) (doors.symbolAt rx y room) (rx .live) refl symbol-live
+  taped-live bytes = live-of (isDone (symbolAt rx y room .why) && ltb bytes (spaceOf (symbolRecords y (symbolAt rx y room .words)))) (refused rx NoRoom) (symbolAt rx y room) (rx .live) refl symbol-live
 
 module _ (p q : Ran) where
   pick-live : (b : Bool) (v : Bool) → p .receiver .live ≡ v → q .receiver .live ≡ v → cond b p q .receiver .live ≡ v

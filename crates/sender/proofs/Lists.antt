@@ -1,14 +1,15 @@
 -- A list is its words sent singly: a list of one word is that word sent, and a list cut in two and sent in two calls, the second into the
 -- rest of the output, is the list sent in one, refusals included. And where the loop of `send_list` stands after some words.
---   one-word                 a list of one word
+--   one-word, one-sent       a list of one word
 --   cut-done, cut-refused    a list cut in two: the first part was sent whole, or refused somewhere
 --   cut                      the same of the definition
 --   list-end, list-sound     the sender after a list is an end again, and open where it was open
 --   list-kept, list-fits     where no word was sent the sender is as it was; what is written has room
 --   list-alike               what the output held before makes no difference to what is sent
 --   Going, start, go-on, stop, end   the loop
+--   went-as, went-is         the sender as the numbers that the loop has of it
 use mathlib.Core.Path.{_≡_, refl, sym, ap, ap₂, subst, _∙_}
-use mathlib.Core.Bool.{Bool, true, false, cond}
+use mathlib.Core.Bool.{Bool, true, false, cond, _&&_}
 use mathlib.Core.List.{List, [], _∷_, _++_, append-assoc, append-nil}
 use Prim.Native.Nat.{ℕ, suc, _+_, _-_, _*_, _≤_, _<_}
 use native.Mathlib.Nat.{add-zero, zero-add, mul-suc}
@@ -19,15 +20,18 @@ use lib.Dec.{eqb, leb}
 use lib.IntN.{ℤ}
 use lib.ListN.{getD, length, take, drop, length-append, length-drop, take-append-drop, drop-of-length-le}
 use lib.Seq.{length-take-le, take-all, take-at, drop-at, drop-drop, take-append-add, drop-append-add, drop-cons}
+use Rattle.points.specs.declared.Accord.{Accord}
 use Rattle.sender.specs.declared.Sender.{Sender}
 use Rattle.sender.specs.declared.Sent.{Sent}
 use Rattle.sender.specs.declared.SentList.{SentList}
+use Rattle.sender.specs.declared.Went.{Went}
 use Rattle.sender.specs.declared.Why.{Why}
 use Rattle.sender.specs.declared.Why.the-variants.{Done, Closed}
 use Rattle.wei.specs.Word.{isWord}
 use Rattle.sender.specs.Send.{numberOf, sound, after, four, symbolFor, Given, sending, End, called}
 use Rattle.sender.specs.SendList.{GivenList, givenList, onward, sendingAll, sendingList}
 use Rattle.sender.specs.Promise.{Sends, SendsList}
+use Rattle.sender.specs.Loop.{senderAt, listBy}
 use Rattle.sender.proofs.Sound.{ranges, after-sound}
 use Rattle.sender.proofs.Exactly.{Taken, done, nine, refused-keeps}
 
@@ -40,6 +44,31 @@ module _ (s : Sender) (n : ℕ) (out : List ℤ) (e : sending s n out .number �
 
   pub sent-sound : sound (sending s n out .sender) ≡ true
   sent-sound = let t = done s n out e in ap sound (t .sender) ∙ after-sound s n (ranges s (t .is-open))
+
+-- the accord stays, whatever is sent
+pub sending-accord : (s : Sender) (n : ℕ) (out : List ℤ) → sending s n out .sender .accord ≡ s .accord
+unfolding sending after
+sending-accord s n out = go (sound s) (isWord (s .accord .u) n) (leb 4 (length out))
+  where
+    gives : Bool → Bool → Bool → Given
+    gives a b c =
+        cond a
+        (cond b (cond c (record { number = 0; sender = after s n; output = four (symbolFor s n) ++ drop 4 out }) (record { number = 8; sender = s; output = out })) (record { number = 4; sender = s; output = out }))
+        (record { number = 9; sender = s; output = out })
+
+    go : (a b c : Bool) → gives a b c .sender .accord ≡ s .accord
+    go true true true = refl
+    go true true false = refl
+    go true false c = refl
+    go false b c = refl
+
+live-of : (b c : Bool) → (b && c) ≡ true → b ≡ true
+live-of true c e = refl
+live-of false c e = e
+
+-- an open sender is what its numbers say
+pub at-is : (s : Sender) (u : ℕ) → sound s ≡ true → s .accord .u ≡ u → s ≡ senderAt u (s .turn) (s .state)
+at-is s u e f = let l = live-of (s .live) _ e in λ i. record { live = l i; accord = record { u = f i }; turn = s .turn; state = s .state }
 
 closed-word : (s : Sender) (n : ℕ) (out : List ℤ) → sound s ≡ false → givenList 9 s 0 out ≡ givenList (sending s n out .number) (sending s n out .sender) 0 (sending s n out .output)
 unfolding sending
@@ -161,12 +190,20 @@ module _ (s : Sender) (ns : List ℕ) (out : List ℤ) where
 
 -- ---- where the loop stands
 
+sending-sound : (s : Sender) (n : ℕ) (out : List ℤ) → sound s ≡ true → sound (sending s n out .sender) ≡ true
+sending-sound s n out e = go (eqb (sending s n out .number) 0) refl
+  where
+    go : (b : Bool) → eqb (sending s n out .number) 0 ≡ b → sound (sending s n out .sender) ≡ true
+    go true z = sent-sound s n out (eqb-true (sending s n out .number) 0 z)
+    go false z = ap sound (refused-keeps s n out (eqb-false (sending s n out .number) 0 z) .0) ∙ e
+
 pub record Going (words : List ℕ) (out₀ : List ℤ) (s₀ : Sender) (out : List ℤ) (s : Sender) (sent : ℕ) (why : Why) : Type 0 where
   pub first : sound s₀ ≡ true
   pub within : sent ≤ length words
   pub room : 4 * sent ≤ length out
   pub long : length out ≡ length out₀
   pub fit : sound s ≡ true
+  pub accord : s .accord ≡ s₀ .accord
   pub going : numberOf why ≡ 0
   pub same : sendingAll s₀ words out₀ ≡ gone sent (take (4 * sent) out) (sendingAll s (drop sent words) (drop (4 * sent) out))
 
@@ -179,6 +216,7 @@ start words out s e =
       room = omega arith;
       long = refl;
       fit = e;
+      accord = refl;
       going = refl;
       same = ap (λ (k : ℕ). givenList (g .number) (g .sender) k (g .output)) (sym (zero-add (g .sent)));
     }
@@ -237,6 +275,13 @@ module _ (words : List ℕ) (out₀ : List ℤ) (s₀ : Sender) (out : List ℤ)
       sends-as s₀ words out₀ (r .sender) sent (r .why) back
       (list-open s₀ words out₀ (g .first) ∙ g .same ∙ ap (gone sent front) refused ∙ ap₂ (givenList (numberOf (r .why)) (r .sender)) (add-zero sent) (sym back-is))
 
+  -- the sender that the loop stops with is open and of the same accord
+  pub stop-open : sound (r .sender) ≡ true
+  stop-open = ap sound (is .sender) ∙ sending-sound s n rest (g .fit)
+
+  pub stop-accord : r .sender .accord ≡ s₀ .accord
+  stop-accord = ap (λ (x : Sender). x .accord) (is .sender) ∙ sending-accord s n rest ∙ g .accord
+
   module _ (z : numberOf (r .why) ≡ 0) where
     taken : sending s n rest .number ≡ 0
     taken = sym (is .number) ∙ z
@@ -264,6 +309,7 @@ module _ (words : List ℕ) (out₀ : List ℤ) (s₀ : Sender) (out : List ℤ)
           room = omega (arith, l, four-more);
           long = back-long;
           fit = ap sound (is .sender) ∙ sent-sound s n rest taken;
+          accord = ap (λ (x : Sender). x .accord) (is .sender) ∙ sending-accord s n rest ∙ g .accord;
           going = z;
           same =
               g .same ∙ ap (gone sent front) (once ∙ rw (eq-eqb (numberOf (r .why)) 0 z))
@@ -272,13 +318,6 @@ module _ (words : List ℕ) (out₀ : List ℤ) (s₀ : Sender) (out : List ℤ)
         }
 
 -- ---- an open sender
-
-sending-sound : (s : Sender) (n : ℕ) (out : List ℤ) → sound s ≡ true → sound (sending s n out .sender) ≡ true
-sending-sound s n out e = go (eqb (sending s n out .number) 0) refl
-  where
-    go : (b : Bool) → eqb (sending s n out .number) 0 ≡ b → sound (sending s n out .sender) ≡ true
-    go true z = sent-sound s n out (eqb-true (sending s n out .number) 0 z)
-    go false z = ap sound (refused-keeps s n out (eqb-false (sending s n out .number) 0 z) .0) ∙ e
 
 all-sound : (s : Sender) (ns : List ℕ) (out : List ℤ) → sound s ≡ true → sound (sendingAll s ns out .sender) ≡ true
 unfolding sendingAll
@@ -415,6 +454,31 @@ list-alike s ns out out' e = go (sound s)
     go : (b : Bool) → Alike (cond b (sendingAll s ns out) (givenList 9 s 0 out)) (cond b (sendingAll s ns out') (givenList 9 s 0 out'))
     go true = all-alike s ns out out' e
     go false = record { number = refl; sender = refl; sent = refl; written = refl }
+
+-- ---- the loop's numbers, and the doors
+
+-- a list of the sender s, whose numbers were given to the loop
+pub went-as : (s : Sender) (ns : List ℕ) (out : List ℤ) → sound s ≡ true → (r : SentList) (o : List ℤ) → SendsList (senderAt (s .accord .u) (s .turn) (s .state)) ns out r o → SendsList s ns out r o
+went-as s ns out e r o p = subst (λ (t : Sender). SendsList t ns out r o) (sym (at-is s (s .accord .u) e refl)) p
+
+-- the loop began with s, and its sender t is given back as its numbers
+pub went-is : (s : Sender) (u q k : ℕ) → s ≡ senderAt u q k → (ns : List ℕ) (out : List ℤ) (t : Sender) (sent : ℕ) (why : Why) (o : List ℤ) → sound t ≡ true → t .accord ≡ s .accord →
+    SendsList s ns out (record { sender = t; sent = sent; why = why }) o → SendsList (senderAt u q k) ns out (listBy u (record { turn = t .turn; state = t .state; sent = sent; why = why })) o
+went-is s u q k is ns out t sent why o e f p =
+    let a : t .accord .u ≡ u = ap (λ (x : Accord). x .u) f ∙ ap (λ (x : Sender). x .accord .u) is in
+    subst (λ (x : Sender). SendsList (senderAt u q k) ns out (record { sender = x; sent = sent; why = why }) o) (at-is t u e a)
+    (subst (λ (x : Sender). SendsList x ns out (record { sender = t; sent = sent; why = why }) o) is p)
+
+-- ---- one word, of the calls themselves
+
+pub one-sent : (s : Sender) (n : ℕ) (out : List ℤ) (r : SentList) (o : List ℤ) → SendsList s (n ∷ []) out r o → Sends s n out (record { sender = r .sender; why = r .why }) o
+one-sent s n out r o p =
+    record {
+      number = p .number ∙ ap (λ (g : GivenList). g .number) (one-word s n out);
+      sender = p .sender ∙ ap (λ (g : GivenList). g .sender) (one-word s n out);
+      output = p .output ∙ ap (λ (g : GivenList). g .output) (one-word s n out);
+      again = p .again;
+    }
 
 -- ---- a list cut in two, of the calls themselves
 

@@ -10,6 +10,7 @@ ghost use mathlib.Core.Bool.{true};
 ghost use Rattle.points.specs.Points.{coordinates};
 ghost use Rattle.sender.specs.Send.{numberOf, sound, shut};
 ghost use Rattle.sender.specs.Promise.{Opens, Sends, SendsList};
+ghost use Rattle.sender.specs.Loop.{senderAt, listBy};
 
 pub struct Sender {
     pub live: bool,
@@ -137,30 +138,33 @@ fn send_word(table: &[i8; 512], s: Sender, word: u32, out: &mut [i32]) -> Sent
     }
 }
 
-// Refused, in this order: a closed sender, a bit at or above 3 + 2u, an output shorter than four places.
-pub fn send(s: Sender, word: u32, out: &mut [i32]) -> Sent
-    ensures { λ r. ⌜ Sends s word (now (out .entry)) r (now (out .exit)) ⌝ }
-{
-    if !is_open(s) {
-        return refuse(s, Why::Closed);
-    }
-    let table = points::table::a_points();
-    send_word(&table, s, word, out)
+// How the words of a list went, and the turn and the state after them.
+struct Went {
+    turn: u32,
+    state: u32,
+    sent: usize,
+    why: Why,
 }
 
-// The words one after another, each into the rest of the output, up to the first that is refused. The table is made once.
-pub fn send_list(s: Sender, words: &[u32], out: &mut [i32]) -> SentList
-    ensures { λ r. ⌜ SendsList s (now (words .entry)) (now (out .entry)) r (now (out .exit)) ⌝ }
+fn sender_at(u: u32, turn: u32, state: u32) -> Sender
+    ensures { λ r. ⌜ r ≡ senderAt u turn state ⌝ }
 {
-    if !is_open(s) {
-        return SentList {
-            sender: s,
-            sent: 0,
-            why: Why::Closed,
-        };
+    Sender {
+        live: true,
+        accord: Accord { u: u },
+        turn: turn,
+        state: state,
     }
+}
+
+// The words one after another, each into the rest of the output, up to the first that is refused. The table is made once. An open
+// sender goes in and comes back as numbers: so they stay in the processor's registers, and both doors can share the loop.
+fn send_words(u: u32, turn: u32, state: u32, words: &[u32], out: &mut [i32]) -> Went
+    requires { ⌜ sound (senderAt u turn state) ≡ true ⌝ }
+    ensures { λ r. ⌜ SendsList (senderAt u turn state) (now (words .entry)) (now (out .entry)) (listBy u r) (now (out .exit)) ⌝ }
+{
     let table = points::table::a_points();
-    let mut sender = s;
+    let mut sender = sender_at(u, turn, state);
     let mut sent: usize = 0;
     let mut why = Why::Done;
     while sent < words.len() {
@@ -172,9 +176,46 @@ pub fn send_list(s: Sender, words: &[u32], out: &mut [i32]) -> SentList
         }
         sent += 1;
     }
-    SentList {
-        sender: sender,
+    Went {
+        turn: sender.turn,
+        state: sender.state,
         sent: sent,
+        why: why,
+    }
+}
+
+// A list of words. Refused as a whole where the sender is closed.
+pub fn send_list(s: Sender, words: &[u32], out: &mut [i32]) -> SentList
+    ensures { λ r. ⌜ SendsList s (now (words .entry)) (now (out .entry)) r (now (out .exit)) ⌝ }
+{
+    if !is_open(s) {
+        return SentList {
+            sender: s,
+            sent: 0,
+            why: Why::Closed,
+        };
+    }
+    let w = send_words(s.accord.u, s.turn, s.state, words, out);
+    let why = w.why;
+    SentList {
+        sender: sender_at(s.accord.u, w.turn, w.state),
+        sent: w.sent,
+        why: why,
+    }
+}
+
+// One word is a list of one. Refused, in this order: a closed sender, a bit at or above 3 + 2u, an output shorter than four places.
+pub fn send(s: Sender, word: u32, out: &mut [i32]) -> Sent
+    ensures { λ r. ⌜ Sends s word (now (out .entry)) r (now (out .exit)) ⌝ }
+{
+    if !is_open(s) {
+        return refuse(s, Why::Closed);
+    }
+    let one = [word];
+    let w = send_words(s.accord.u, s.turn, s.state, &one[0..], out);
+    let why = w.why;
+    Sent {
+        sender: sender_at(s.accord.u, w.turn, w.state),
         why: why,
     }
 }

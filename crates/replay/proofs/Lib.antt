@@ -1,3 +1,4 @@
 pub mod Own
 pub mod Feeds
 pub mod Meant
+pub mod Rows

@@ -11,6 +11,7 @@ use Rattle.wei.specs.State.{before, carryI1, carryI2, between}
 use Rattle.wei.specs.Label.{secondLabel}
 use Rattle.points.specs.Points.{aPoint, coordinates}
 use Rattle.points.specs.Turn.{pointOf}
+use Rattle.trellis.specs.Measure.{counted}
 use Rattle.trellis.specs.Pick.{least, near, gapOf, typeSum, bestI3}
 use Rattle.trellis.specs.Search.{range}
 use Rattle.trellis.specs.Speak.{speak, after}
@@ -74,7 +75,7 @@ computed : (replayed (whole 0) ≡ Agree 1)
     × (replayed (open-record ++ symbol) ≡ Agree 0)
     × (replayed (open-record ++ symbol ++ (4 ∷ 3 ∷ 0 ∷ [])) ≡ Malformed 14)
     × (replayed (whole 0 ++ symbol) ≡ Malformed 19)
-unfolding feedings stepped settled code.took code.opened code.heard code.finished code.answered code.unlessDue code.left frames.pushed frames.begun frames.grown frames.capped kindOf coordinateOf numberOf opening hearing finishing sound soundCore allUpTo opened shut freshSums running symbolAt faultOf taking agreedOf grown releasedOf oldest sameFrom carried movedWords movedOf tabled followed liveOf reachedOf sumAt stepAt firstStep winner arrive weighedOf costOf bestI3 typeSum gapOf near least lineDistance distance pointOf aPoint coordinates secondLabel before between carryI1 carryI2 wayFrom range speak after endOf lastSymbols symbolBy numbersOf keptIn word wordParts packed
+unfolding feedings stepped settled code.took code.opened code.heard code.finished code.answered code.unlessDue code.left frames.pushed frames.begun frames.grown frames.capped kindOf coordinateOf numberOf opening hearing finishing sound soundCore allUpTo opened shut freshSums running symbolAt faultOf taking agreedOf grown releasedOf oldest sameFrom carried movedWords movedOf tabled followed liveOf reachedOf sumAt stepAt firstStep winner arrive weighedOf costOf bestI3 typeSum counted gapOf near least lineDistance distance pointOf aPoint coordinates secondLabel before between carryI1 carryI2 wayFrom range speak after endOf lastSymbols symbolBy numbersOf keptIn word wordParts packed
 computed = (refl, refl, refl, refl, refl, refl, refl, refl, refl)
 
 abbrev says : List ℕ → Verdict → Type 0

@@ -4,9 +4,13 @@ pub fn show(to: i32) -> bool {
         to,
         b"capture: recorded runs of a receiver.
 
+  capture record          records a receiver: lines of lab in, the capture out, each line's answer on the error stream
   capture replay [FILE]   runs the receiver on the capture and prints one line
   capture show [FILE]     prints a line for each record, then `offset P malformed` if the capture is
   capture help            prints this page
+
+A recording takes the lines `receiver ..`, `piece ..` and `finish ..` (`lab help`); any other line answers `?`, and a second receiver ends it.
+For instance: capture record < run.lab | capture replay
 
 With no FILE standard input is read, as it comes. A replay prints a fault as soon as the bytes settle it, and reads on to the end:
 

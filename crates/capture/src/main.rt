@@ -1,8 +1,9 @@
-// The program for captures: `capture replay [FILE]`, `capture show [FILE]`, `capture help`. It reads a file or standard input, as it comes, in
-// constant memory. What no proof can say of a program, which bytes it reads and writes, is all that stands here; the verdict is that of
+// The program for captures: `capture record`, `capture replay [FILE]`, `capture show [FILE]`, `capture help`. It reads a file or standard
+// input, as it comes, in constant memory. What no proof can say of a program, which bytes it reads and writes, is all that stands here; the verdict is that of
 // `replay`, its line that of `replay_line`, and the form of a capture that of `records`.
 mod help;
 mod input;
+mod recording;
 mod replaying;
 mod showing;
 
@@ -30,7 +31,7 @@ fn unknown(i: usize) {
 fn nothing_asked() {
     io::write_all(
         STDERR_FILENO,
-        b"capture: it wants a word: replay, show or help\n\n",
+        b"capture: it wants a word: record, replay, show or help\n\n",
     );
     help::show(STDERR_FILENO);
 }
@@ -45,6 +46,14 @@ fn asked_help() {
     }
 }
 
+fn asked_record() {
+    if os::arg_count() > 2 {
+        unknown(2);
+        return;
+    }
+    recording::run();
+}
+
 fn main() {
     let count = os::arg_count();
     if count < 2 {
@@ -57,6 +66,10 @@ fn main() {
     }
     if is_word(1, b"replay") {
         replaying::run(input::open());
+        return;
+    }
+    if is_word(1, b"record") {
+        asked_record();
         return;
     }
     if is_word(1, b"show") {

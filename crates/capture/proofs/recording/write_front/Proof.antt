@@ -1,0 +1,29 @@
+use lib.Seq.{length-take-le}
+use mathlib.Core.Path.{_≡_, refl, sym, ap, _∙_}
+use native.Mathlib.Omega.{arith}
+use borrow.Author.Needs.{needs}
+use Rattle.capture.proofs.recording.write_front.Statement.{statement}
+use Rattle.capture.proofs.recording.write_front.Tie as tie
+use Rattle.capture.proofs.recording.write_front.Reads as reads
+use Rattle.capture.proofs.recording.write_front.Lts as lts
+use Rattle.io.proofs.write_all.Reads as write-all-reads
+
+-- src/recording.rt:214:9
+returns : tie.Need-returns
+returns c = search needs
+
+-- src/recording.rt:216:23
+slice-aggregate-write-all : tie.Need-slice-aggregate-write-all
+slice-aggregate-write-all c = sym (length-take-le _ _ (omega arith))
+
+-- src/recording.rt:216:5
+write-all-requires : tie.Need-write-all-requires
+write-all-requires c κs = search needs
+
+-- src/recording.rt:212:1
+returns-2 : tie.Need-returns-2
+returns-2 c = search needs
+
+pub write-front-spec : {M : Type 1} → statement M
+write-front-spec =
+    tie.close (tie.spec returns slice-aggregate-write-all write-all-requires returns-2)

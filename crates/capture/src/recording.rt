@@ -29,10 +29,8 @@ struct Noted {
     ends: bool,
 }
 
-// The number of a free start, and the window of the plain opening.
+// The number of a free start.
 const FREE: u32 = 16;
-
-const PLAIN_WINDOW: u32 = 32;
 
 fn kept(rx: Receiver, begun: bool, at: usize, ends: bool) -> Noted {
     Noted {
@@ -201,7 +199,7 @@ fn note(
 {
     match asked {
         Request::Nothing => kept(rx, begun, 0, false),
-        Request::Plain { u } => opened(rx, begun, u, PLAIN_WINDOW, FREE, bytes, page),
+        Request::Plain { u } => opened(rx, begun, u, openings::PLAIN_WINDOW, FREE, bytes, page),
         Request::Free { u, window } => opened(rx, begun, u, window, FREE, bytes, page),
         Request::At { u, window, state } => {
             opened(rx, begun, u, window, named(state), bytes, page)

@@ -38,6 +38,7 @@ use Rattle.stored.specs.State.{senderIn, wordsOfSender, receiverIn, wordsOfRece
 use Rattle.converted.specs.Counts.{toldOf}
 use Rattle.demfizagu.specs.Calls.{pendingIn, senderOpening, receiverOpening, sendCall, sendListCall, callOf, hearCall, finishCall}
 use Rattle.demfizagu.specs.Promise.{Opens, Sends, SendsList, Answers}
+use Rattle.taped.proofs.Around.{receiver-long, picksIn, around, long, picks-at, front-is, all-there}
 use Rattle.layout.proofs.Held.{held}
 use Rattle.layout.proofs.Lent.{part-back}
 use Rattle.front.specs.declared.Copied.{Copied}
@@ -55,13 +56,6 @@ unfolding senderIn
 sender-long ws e = go (holds senderLength senderTag ws) refl where
   go : (b : Bool) → holds senderLength senderTag ws ≡ b → senderLength ≤ length ws
   go true h = held senderLength senderTag ws h .long
-  go false h = absurd (differ (rw h at e))
-
-pub receiver-long : (ws : List ℕ) → sound (receiverIn ws) ≡ true → receiverLength ≤ length ws
-unfolding receiverIn sound shut
-receiver-long ws e = go (holds receiverLength receiverTag ws) refl where
-  go : (b : Bool) → holds receiverLength receiverTag ws ≡ b → receiverLength ≤ length ws
-  go true h = held receiverLength receiverTag ws h .long
   go false h = absurd (differ (rw h at e))
 
 pub sent-open : (s : Sender) (n : ℕ) (out : List ℤ) → sender.sending s n out .number ≡ 0 → sender.sound s ≡ true
@@ -233,57 +227,33 @@ module _ (state : List ℕ) (piece : List ℤ) (out told : List ℕ) where
 
 -- a piece to a receiver whose picks were lent in their place in the state
 module _ (state : List ℕ) (piece : List ℤ) (out told : List ℕ) (yes : holds receiverLength receiverTag state ≡ true) where
-  abbrev picks₀ : List ℕ
-  picks₀ = take 72 (drop picksAt state)
-
-  -- the state once they have come back
-  abbrev around : List ℕ → List ℕ
-  around picks = take picksAt state ++ (picks ++ drop 72 (drop picksAt state))
-
-  long : picksAt ≤ length state
-  long = omega (arith, held receiverLength receiverTag state yes .long)
-
-  pub around-long : (picks : List ℕ) → picksAt ≤ length (around picks)
-  around-long picks = rw (length-append (take picksAt state), length-take-le picksAt state long) (omega arith)
-
-  picks-at : receiverIn state .picks ≡ picks₀
-  unfolding receiverIn
-  picks-at = rw yes
-
-  front-is : (f : Copied) → f ≡ copiedIn state → receives.partsOf true (f .core) (f .sums) (f .planes) picks₀ ≡ receiverIn state
-  unfolding receiverIn
-  front-is f e = rw yes (ap (λ (x : Copied). receives.partsOf true (x .core) (x .sums) (x .planes) picks₀) e)
-
-  all-there : length picks₀ ≡ 72
-  all-there = length-take-le 72 (drop picksAt state) (rw length-drop (omega (arith, held receiverLength receiverTag state yes .long)))
-
   module _ (f : Copied) (loaded : f ≡ copiedIn state) (h : Heard) (sums planes picks o : List ℕ)
-      (was : receives.Is (hearing (receives.partsOf (receives.lentLive true picks₀) (f .core) (f .sums) (f .planes) picks₀) (pieceOf piece) (length out)) out
-      (receives.answerOf (receives.lentLive true picks₀) h sums planes picks) o)
+      (was : receives.Is (hearing (receives.partsOf (receives.lentLive true (picksIn state)) (f .core) (f .sums) (f .planes) (picksIn state)) (pieceOf piece) (length out)) out
+      (receives.answerOf (receives.lentLive true (picksIn state)) h sums planes picks) o)
       (enough : 3 ≤ length told) (t : List ℕ) (n : ℕ) (number : n ≡ givenOf (h .why) .number) (tells : t ≡ toldOf (h .taken) (h .written) (givenOf (h .why) .place) told) where
     abbrev a : Answer
     a = receives.answerOf true h sums planes picks
 
     is : receives.Is (hearing (receiverIn state) (pieceOf piece) (length out)) out a o
     is =
-        subst (λ (rx : Receiver). receives.Is (hearing rx (pieceOf piece) (length out)) out a o) (front-is f loaded)
-        (subst (λ (b : Bool). receives.Is (hearing (receives.partsOf b (f .core) (f .sums) (f .planes) picks₀) (pieceOf piece) (length out)) out (receives.answerOf b h sums planes picks) o)
-        (lent-live true picks₀ all-there) was)
+        subst (λ (rx : Receiver). receives.Is (hearing rx (pieceOf piece) (length out)) out a o) (front-is state yes f loaded)
+        (subst (λ (b : Bool). receives.Is (hearing (receives.partsOf b (f .core) (f .sums) (f .planes) (picksIn state)) (pieceOf piece) (length out)) out (receives.answerOf b h sums planes picks) o)
+        (lent-live true (picksIn state) (all-there state yes)) was)
 
     -- where nothing was taken they come back as they were
-    unchanged : h .taken ≡ 0 → around picks ≡ state
+    unchanged : h .taken ≡ 0 → around state picks ≡ state
     unchanged none =
-        let kept : picks ≡ picks₀ = ap (λ (rx : Receiver). rx .picks) (is .receiver ∙ hearing-keeps (receiverIn state) (pieceOf piece) (length out) (sym (is .taken) ∙ none)) ∙ picks-at in
+        let kept : picks ≡ (picksIn state) = ap (λ (rx : Receiver). rx .picks) (is .receiver ∙ hearing-keeps (receiverIn state) (pieceOf piece) (length out) (sym (is .taken) ∙ none)) ∙ picks-at state yes in
         rw (kept, take-append-drop 72 (drop picksAt state)) (take-append-drop picksAt state)
 
-    pub lent-kept : h .taken ≡ 0 → Answers (hearCall state piece out told) n (around picks) o t
+    pub lent-kept : h .taken ≡ 0 → Answers (hearCall state piece out told) n (around state picks) o t
     lent-kept none = rw (unchanged none) (hear-kept state piece out told enough a o t n is number tells none)
 
     -- where a symbol was taken they stand behind what is written back
-    pub lent-written : (l : List ℕ) → length picks ≡ 72 → (h .taken ≡ 0 → ⊥) → FrontStored true (h .core) sums planes (around picks) l →
+    pub lent-written : (l : List ℕ) → length picks ≡ 72 → (h .taken ≡ 0 → ⊥) → FrontStored true (h .core) sums planes (around state picks) l →
         Answers (hearCall state piece out told) n l o t
     lent-written l sized some s =
-        hear-written state piece out told enough a o t n is number tells l some (front-stored (a .receiver) state (around picks) s sized (part-back state picks picksAt 72 long))
+        hear-written state piece out told enough a o t n is number tells l some (front-stored (a .receiver) state (around state picks) s sized (part-back state picks picksAt 72 (long state yes)))
 
 module _ (state out told : List ℕ) where
   pub finish-short : length told < 3 → Answers (finishCall state out told) 8 state out told

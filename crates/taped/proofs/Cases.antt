@@ -32,18 +32,8 @@ use Rattle.stored.specs.State.{receiverIn, wordsOfReceiver, readReceiver, Recei
 use Rattle.stored.proofs.Back.{front-stored}
 use Rattle.taped.specs.Calls.{toldFour, callOf, hearCall, finishCall}
 use Rattle.taped.specs.Promise.{Records}
+use Rattle.taped.proofs.Around.{receiver-long, picksIn, around, long, picks-at, front-is, all-there}
 use Rattle.taped.proofs.Ends.{hearing-keeps, hearing-reads, finishing-keeps, finishing-reads, finished-open}
-
-differ : false ≡ true → ⊥
-differ e = let z : _≡_ {A = ℕ} 0 1 = cc in omega arith
-
--- an open receiver has the words it needs
-receiver-long : (ws : List ℕ) → sound (receiverIn ws) ≡ true → receiverLength ≤ length ws
-unfolding receiverIn sound shut
-receiver-long ws e = go (holds receiverLength receiverTag ws) refl where
-  go : (b : Bool) → holds receiverLength receiverTag ws ≡ b → receiverLength ≤ length ws
-  go true h = held receiverLength receiverTag ws h .long
-  go false h = absurd (differ (rw h at e))
 
 -- ---- any call
 
@@ -101,54 +91,30 @@ module _ (state : List ℕ) (piece : List ℤ) (out bytes told : List ℕ) where
 
 -- a piece to a receiver whose picks were lent in their place in the state
 module _ (state : List ℕ) (piece : List ℤ) (out bytes told : List ℕ) (yes : holds receiverLength receiverTag state ≡ true) where
-  abbrev picks₀ : List ℕ
-  picks₀ = take 72 (drop picksAt state)
-
-  -- the state once they have come back
-  abbrev around : List ℕ → List ℕ
-  around picks = take picksAt state ++ (picks ++ drop 72 (drop picksAt state))
-
-  long : picksAt ≤ length state
-  long = omega (arith, held receiverLength receiverTag state yes .long)
-
-  pub around-long : (picks : List ℕ) → picksAt ≤ length (around picks)
-  around-long picks = rw (length-append (take picksAt state), length-take-le picksAt state long) (omega arith)
-
-  picks-at : receiverIn state .picks ≡ picks₀
-  unfolding receiverIn
-  picks-at = rw yes
-
-  front-is : (f : Copied) → f ≡ copiedIn state → receives.partsOf true (f .core) (f .sums) (f .planes) picks₀ ≡ receiverIn state
-  unfolding receiverIn
-  front-is f e = rw yes (ap (λ (x : Copied). receives.partsOf true (x .core) (x .sums) (x .planes) picks₀) e)
-
-  all-there : length picks₀ ≡ 72
-  all-there = length-take-le 72 (drop picksAt state) (rw length-drop (omega (arith, held receiverLength receiverTag state yes .long)))
-
   module _ (f : Copied) (loaded : f ≡ copiedIn state) (h : Kept) (sums planes picks o b : List ℕ)
-      (was : recorder.Is (tapedHearing (receives.partsOf (receives.lentLive true picks₀) (f .core) (f .sums) (f .planes) picks₀) (pieceOf piece) (length out) (length bytes)) out bytes (recorder.tapedParts (receives.lentLive true picks₀) h sums planes picks) o b)
+      (was : recorder.Is (tapedHearing (receives.partsOf (receives.lentLive true (picksIn state)) (f .core) (f .sums) (f .planes) (picksIn state)) (pieceOf piece) (length out) (length bytes)) out bytes (recorder.tapedParts (receives.lentLive true (picksIn state)) h sums planes picks) o b)
       (enough : 4 ≤ length told) (t : List ℕ) (n : ℕ) (number : n ≡ givenOf (h .why) .number) (tells : t ≡ toldFour (h .taken) (h .written) (givenOf (h .why) .place) (h .recorded) told) where
     abbrev a : Taped
     a = recorder.tapedParts true h sums planes picks
 
     is : recorder.Is (tapedHearing (receiverIn state) (pieceOf piece) (length out) (length bytes)) out bytes a o b
     is =
-        subst (λ (rx : Receiver). recorder.Is (tapedHearing rx (pieceOf piece) (length out) (length bytes)) out bytes a o b) (front-is f loaded)
-        (subst (λ (v : Bool). recorder.Is (tapedHearing (receives.partsOf v (f .core) (f .sums) (f .planes) picks₀) (pieceOf piece) (length out) (length bytes)) out bytes (recorder.tapedParts v h sums planes picks) o b) (lent-live true picks₀ all-there) was)
+        subst (λ (rx : Receiver). recorder.Is (tapedHearing rx (pieceOf piece) (length out) (length bytes)) out bytes a o b) (front-is state yes f loaded)
+        (subst (λ (v : Bool). recorder.Is (tapedHearing (receives.partsOf v (f .core) (f .sums) (f .planes) (picksIn state)) (pieceOf piece) (length out) (length bytes)) out bytes (recorder.tapedParts v h sums planes picks) o b) (lent-live true (picksIn state) (all-there state yes)) was)
 
     -- where nothing was taken they come back as they were
-    unchanged : h .taken ≡ 0 → around picks ≡ state
+    unchanged : h .taken ≡ 0 → around state picks ≡ state
     unchanged none =
-        let kept : picks ≡ picks₀ = ap (λ (rx : Receiver). rx .picks) (is .receiver ∙ hearing-keeps (receiverIn state) (pieceOf piece) (length out) (length bytes) (sym (is .taken) ∙ none)) ∙ picks-at in
+        let kept : picks ≡ (picksIn state) = ap (λ (rx : Receiver). rx .picks) (is .receiver ∙ hearing-keeps (receiverIn state) (pieceOf piece) (length out) (length bytes) (sym (is .taken) ∙ none)) ∙ picks-at state yes in
         rw (kept, take-append-drop 72 (drop picksAt state)) (take-append-drop picksAt state)
 
-    pub lent-kept : h .taken ≡ 0 → Records (hearCall state piece out bytes told) n (around picks) o b t
+    pub lent-kept : h .taken ≡ 0 → Records (hearCall state piece out bytes told) n (around state picks) o b t
     lent-kept none = rw (unchanged none) (hear-kept state piece out bytes told enough a o b t n is number tells none)
 
     -- where a symbol was taken they stand behind what is written back
-    pub lent-written : (l : List ℕ) → length picks ≡ 72 → (h .taken ≡ 0 → ⊥) → FrontStored true (h .core) sums planes (around picks) l → Records (hearCall state piece out bytes told) n l o b t
+    pub lent-written : (l : List ℕ) → length picks ≡ 72 → (h .taken ≡ 0 → ⊥) → FrontStored true (h .core) sums planes (around state picks) l → Records (hearCall state piece out bytes told) n l o b t
     lent-written l sized some s =
-        hear-written state piece out bytes told enough a o b t n is number tells l some (front-stored (a .receiver) state (around picks) s sized (part-back state picks picksAt 72 long))
+        hear-written state piece out bytes told enough a o b t n is number tells l some (front-stored (a .receiver) state (around state picks) s sized (part-back state picks picksAt 72 (long state yes)))
 
 -- ---- a finish
 

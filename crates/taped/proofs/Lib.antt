@@ -1,3 +1,4 @@
+pub mod Around
 pub mod Ends
 pub mod Cases
 pub mod Settled

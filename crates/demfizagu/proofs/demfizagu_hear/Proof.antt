@@ -10,7 +10,8 @@ use lib.ListN.{length}
 use Rattle.layout.specs.Layout.{receiverLength, receiverTag}
 use Rattle.layout.specs.Tagged.{holds}
 use Rattle.layout.proofs.Held.{held}
-use Rattle.demfizagu.proofs.Cases.{hear-short, hear-none, around-long, lent-kept, lent-written}
+use Rattle.demfizagu.proofs.Cases.{hear-short, hear-none, lent-kept, lent-written}
+use Rattle.taped.proofs.Around.{around-long}
 use borrow.Author.Needs.{needs}
 use Rattle.demfizagu.proofs.demfizagu_hear.Statement.{statement}
 use Rattle.demfizagu.proofs.demfizagu_hear.Tie as tie
@@ -99,7 +100,7 @@ store-front-requires c κs =
     let d = to-hear-lent (c .before .before .before .before .before .before) in
     let e = to-load-front d .before .before in
     let a = to-start (e .before) .args in
-    around-long (now (a .state)) (now (a .piece)) (now (a .out)) (now (a .told)) (yes e) (picks d)
+    around-long (now (a .state)) (yes e) (picks d)
 
 same-length-6 : tie.Need-same-length-6
 same-length-6 c = search needs

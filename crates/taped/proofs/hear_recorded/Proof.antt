@@ -10,7 +10,8 @@ use lib.ListN.{length}
 use Rattle.layout.specs.Layout.{receiverLength, receiverTag}
 use Rattle.layout.specs.Tagged.{holds}
 use Rattle.layout.proofs.Held.{held}
-use Rattle.taped.proofs.Cases.{hear-short, hear-none, around-long, lent-kept, lent-written}
+use Rattle.taped.proofs.Cases.{hear-short, hear-none, lent-kept, lent-written}
+use Rattle.taped.proofs.Around.{around-long}
 use borrow.Author.Needs.{needs}
 use Rattle.taped.proofs.hear_recorded.Statement.{statement}
 use Rattle.taped.proofs.hear_recorded.Tie as tie
@@ -91,7 +92,7 @@ store-front-requires c κs =
     let f = d .before .before .before .before .before .before .before .before .before in
     let e = d .before .before .before .before .before .before .before .before .before .before .before in
     let a = e .before .before .before .before .before .before .before .before .args in
-    around-long (now (a .state)) (now (a .piece)) (now (a .out)) (now (a .bytes)) (now (a .told)) (yes e) (picks d)
+    around-long (now (a .state)) (yes e) (picks d)
 
 same-length-7 : tie.Need-same-length-7
 same-length-7 c = search needs

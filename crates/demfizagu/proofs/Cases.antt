@@ -8,8 +8,7 @@ use native.Mathlib.Omega.{arith}
 use borrow.Author.Tests.{lt-ltb, le-ltb, eq-eqb, ne-eqb}
 use lib.Dec.{eqb, ltb}
 use lib.IntN.{ℤ}
-use lib.ListN.{length, take, drop, length-drop, length-append, take-append-drop}
-use lib.Seq.{length-take-le}
+use lib.ListN.{length, drop, take-append-drop}
 use Rattle.points.specs.declared.Accord.{Accord}
 use Rattle.machine.proofs.Sound.{sound-core}
 use Rattle.sender.specs.declared.Sender.{Sender}

@@ -1,14 +1,13 @@
 -- The outcomes of the recorded calls, one law each over plain values, as demfizagu/proofs/Cases has them of the plain ones.
 use mathlib.Core.Path.{_≡_, refl, sym, ap, subst, _∙_}
 use mathlib.Core.Bool.{Bool, true, false}
-use mathlib.Core.List.{List, _∷_, _++_}
+use mathlib.Core.List.{List, _++_}
 use Prim.Native.Nat.{ℕ, _≤_, _<_}
 use native.Mathlib.Omega.{arith}
 use borrow.Author.Tests.{lt-ltb, le-ltb, eq-eqb, ne-eqb}
 use lib.Dec.{eqb, ltb}
 use lib.IntN.{ℤ}
-use lib.ListN.{length, take, drop, length-drop, length-append, take-append-drop}
-use lib.Seq.{length-take-le}
+use lib.ListN.{length, drop, take-append-drop}
 use Rattle.machine.specs.declared.Receiver.{Receiver}
 use Rattle.machine.specs.Machine.{shut, sound}
 use Rattle.reasons.specs.declared.Why.the-variants.{Closed}
@@ -24,7 +23,6 @@ use Rattle.recorder.specs.Promise as recorder
 use Rattle.recorder.proofs.Ends.{tape-closed}
 use Rattle.layout.specs.Layout.{receiverLength, receiverTag, picksAt}
 use Rattle.layout.specs.Tagged.{holds}
-use Rattle.layout.proofs.Held.{held}
 use Rattle.layout.proofs.Lent.{part-back}
 use Rattle.front.specs.declared.Copied.{Copied}
 use Rattle.front.specs.Words.{copiedIn, FrontStored}

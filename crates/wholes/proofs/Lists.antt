@@ -13,7 +13,7 @@ use Rattle.wholes.specs.Many.{before, firstOf, more, oneMore, manyOf, Li
 use Rattle.wholes.specs.declared.Many.{Many}
 use Rattle.wholes.specs.declared.Many.the-variants as many
 use Rattle.text.proofs.Digits.{to-end}
-use Rattle.text.proofs.Tokens.{not-empty, last-token, more-tokens, first-token}
+use Rattle.text.proofs.Tokens.{not-empty, last-token, more-tokens, first-token, token-end}
 
 -- k numbers are in the list, there is room for some more, and the tokens from `from` on are still to be read
 pub record Listed {A : Type 0} (p : List ℕ → Option A) (s : List ℕ) (list₀ : List A) (from k : ℕ) (list : List A) : Type 0 where
@@ -35,8 +35,16 @@ more-more k many.Bad = refl
 pub none-listed : {A : Type 0} (p : List ℕ → Option A) (s : List ℕ) (list : List A) → Listed p s list 0 0 list
 none-listed p s list = record { room = length list; left = omega arith; long = refl; rest = refl; values = refl; answer = more-zero _ }
 
+-- the loop has come so far and has room for a number more, and the token that stands at `from` has n bytes
+pub record Reading {A : Type 0} (p : List ℕ → Option A) (s : List ℕ) (list₀ : List A) (from k : ℕ) (list : List A) (n : ℕ) : Type 0 where
+  pub listed : Listed p s list₀ from k list
+  pub begun : from ≤ length s
+  pub space : k < length list
+  pub cut : Cuts 32 (take (length s - from) (drop from s)) n
+
 -- where the numbers fs that the tokens write are the first k of the list
-written : {A : Type 0} (fs list₀ : List A) {list : List A} (k : ℕ) → k ≤ length list → drop k list ≡ drop k list₀ → fs ≡ take k list → list ≡ fs ++ drop (length fs) list₀
+written : {A : Type 0} (fs list₀ : List A) {list : List A} (k : ℕ) → k ≤ length list → drop k list ≡ drop k list₀ → fs ≡ take k list
+    → list ≡ fs ++ drop (length fs) list₀
 written fs list₀ {list} k h e f = rw (f, length-take-le k list h, ← e, take-append-drop k list)
 
 -- tokens that are there have no room
@@ -45,16 +53,17 @@ no-room p [] h = absurd (h refl)
 no-room p (t ∷ ts) h = (refl, refl)
 
 -- a first token t that writes x
-one-value : {A : Type 0} (p : List ℕ → Option A) {room m : ℕ} {t : List ℕ} {ts tts : List (List ℕ)} {x : A} → room ≡ suc m → tts ≡ t ∷ ts → p t ≡ some x → firstOf p room tts ≡ x ∷ firstOf p m ts
-one-value p a b c = rw (a, b, c)
+module _ {A : Type 0} (p : List ℕ → Option A) {room m : ℕ} {t : List ℕ} {ts tts : List (List ℕ)} {x : A} (a : room ≡ suc m) (b : tts ≡ t ∷ ts) (c : p t ≡ some x) where
+  one-value : firstOf p room tts ≡ x ∷ firstOf p m ts
+  one-value = rw (a, b, c)
 
-one-counted : {A : Type 0} (p : List ℕ → Option A) {room m : ℕ} {t : List ℕ} {ts tts : List (List ℕ)} {x : A} → room ≡ suc m → tts ≡ t ∷ ts → p t ≡ some x → manyOf p room tts ≡ more 1 (manyOf p m ts)
-one-counted p a b c = rw (a, b, c)
+  one-counted : manyOf p room tts ≡ more 1 (manyOf p m ts)
+  one-counted = rw (a, b, c)
 
-module _ {A : Type 0} {p : List ℕ → Option A} {s : List ℕ} {list₀ list : List A} {from k : ℕ} (l : Listed p s list₀ from k list) where
-  pub list-full : length list₀ ≤ k → Lists p s list₀ many.Bad list
-  list-full h =
-      let gone : l .room ≡ 0 = omega (arith, l .left) in
+module _ {A : Type 0} {p : List ℕ → Option A} {s : List ℕ} {list₀ list : List A} {from k : ℕ} where
+  pub list-full : Listed p s list₀ from k list → length list ≤ k → Lists p s list₀ many.Bad list
+  list-full l h =
+      let gone : l .room ≡ 0 = omega (arith, l .left, l .long) in
       let stops = no-room p (tokens (drop from s)) (not-empty (drop from s)) in
       let values : firstOf p (length list₀) (tokens s) ≡ take k list = l .values ∙ rw (gone, stops .0) (append-nil (take k list)) in
       record {
@@ -62,13 +71,18 @@ module _ {A : Type 0} {p : List ℕ → Option A} {s : List ℕ} {list₀ list :
         filled = written (firstOf p (length list₀) (tokens s)) list₀ k (omega (arith, l .left, l .long)) (l .rest) values;
       }
 
-  -- n is the length of the token that stands at `from`
-  module _ (n : ℕ) (in-range : k < length list₀) (cut : Cuts 32 (take (length s - from) (drop from s)) n) where
+  module _ {n : ℕ} (r : Reading p s list₀ from k list n) where
+    abbrev l : Listed p s list₀ from k list
+    l = r .listed
+
+    pub token-within : from + n ≤ length s
+    token-within = token-end s from (r .begun) (r .cut)
+
     is : n ≡ lengthBefore 32 (drop from s)
-    is = cut .is ∙ rw (to-end from s)
+    is = r .cut .is ∙ rw (to-end from s)
 
     next-room : l .room ≡ suc (l .room - 1)
-    next-room = omega (arith, l .left)
+    next-room = omega (arith, l .left, l .long, r .space)
 
     pub list-bad : none ≡ p (take (from + n - from) (drop from s)) → Lists p s list₀ many.Bad list
     list-bad h =
@@ -86,35 +100,41 @@ module _ {A : Type 0} {p : List ℕ → Option A} {s : List ℕ} {list₀ list :
       got = sym (rw (add-sub-cancel-left from n) at reads) ∙ ap (λ (a : A). some a) (sym same)
 
       one-stored : take (k + 1) (set list k x) ≡ take k list ++ (x ∷ [])
-      one-stored = rw add-one (take-suc-set list k x (omega (arith, l .long)))
+      one-stored = rw add-one (take-suc-set list k x (r .space))
 
       rest-stays : drop (k + 1) (set list k x) ≡ drop (k + 1) list₀
       rest-stays = rw (drop-set-lt (k + 1) list k x (omega arith), ← drop-drop 1 k list, l .rest, drop-drop 1 k list₀)
 
-      pub list-done : from ≤ length s → from + n ≡ length s → Lists p s list₀ (many.Got (k + 1)) (set list k x)
-      list-done f h =
-          let all : n ≡ length (drop from s) = rw length-drop (omega arith) in
+      pub list-done : from + n ≡ length s → Lists p s list₀ (many.Got (k + 1)) (set list k x)
+      list-done h =
+          let all : n ≡ length (drop from s) = rw length-drop (omega (arith, r .begun)) in
           let token : tokens (drop from s) ≡ take n (drop from s) ∷ [] = rw (take-all n (drop from s) (omega arith)) (last-token (drop from s) (omega (arith, is))) in
           let values : firstOf p (length list₀) (tokens s) ≡ take (k + 1) (set list k x) = l .values ∙ rw (next-room, token, got) (sym one-stored) in
           record {
             answer = sym (l .answer ∙ rw (next-room, token, got));
-            filled = written (firstOf p (length list₀) (tokens s)) list₀ (k + 1) (omega (arith, l .long, length-set list k x)) rest-stays values;
+            filled = written (firstOf p (length list₀) (tokens s)) list₀ (k + 1) (omega (arith, r .space, length-set list k x)) rest-stays values;
           }
 
-      pub list-more : from + n < length s → Listed p s list₀ (from + n + 1) (k + 1) (set list k x)
+      pub list-more : (from + n ≡ length s → ⊥)
+          → (from + n + 1 ≤ length s) × (k + 1 ≤ length (set list k x)) × Listed p s list₀ (from + n + 1) (k + 1) (set list k x)
       list-more h =
+          let short : from + n < length s = omega (arith, token-within, h) in
           let some : n < length (drop from s) = rw length-drop (omega arith) in
           let after : from + suc n ≡ from + n + 1 = omega arith in
           let token : tokens (drop from s) ≡ take n (drop from s) ∷ tokens (drop (from + n + 1) s) =
           rw (more-tokens (drop from s) (omega (arith, is)), ← is, drop-drop (suc n) from s, after) in
-          record {
-            room = l .room - 1;
-            left = omega (arith, l .left);
-            long = length-set list k x ∙ l .long;
-            rest = rest-stays;
-            values = l .values ∙ rw (one-value p next-room token got, one-stored) (sym (append-snoc (take k list) x (firstOf p (l .room - 1) (tokens (drop (from + n + 1) s)))));
-            answer = l .answer ∙ rw (one-counted p next-room token got) (more-more k (manyOf p (l .room - 1) (tokens (drop (from + n + 1) s))));
-          }
+          let left-over = tokens (drop (from + n + 1) s) in (
+            omega arith,
+            omega (arith, r .space, length-set list k x),
+            record {
+              room = l .room - 1;
+              left = omega (arith, l .left, l .long, r .space);
+              long = length-set list k x ∙ l .long;
+              rest = rest-stays;
+              values = l .values ∙ rw (one-value p next-room token got, one-stored) (sym (append-snoc (take k list) x (firstOf p (l .room - 1) left-over)));
+              answer = l .answer ∙ rw (one-counted p next-room token got) (more-more k (manyOf p (l .room - 1) left-over));
+            },
+          )
 
 -- no more than there is room for
 pub many-most : {A : Type 0} (p : List ℕ → Option A) (room : ℕ) (ts : List (List ℕ)) {n : ℕ} → many.Got n ≡ manyOf p room ts → n ≤ room

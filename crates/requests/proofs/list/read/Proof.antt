@@ -43,7 +43,13 @@ returns : tie.Need-returns
 returns c = list-bad (c .before .before .before .before .before2 .ensures) _ (sym (c .enum-told .given .1) ∙ c .before .before .cap-of .ensures)
 
 returns-2 : tie.Need-returns-2
-returns-2 c = list-alone (c .before .before .before .before .before .before .before2 .ensures) _ (c .if1 .taken) (sym (c .before .before .cap .given .1) ∙ c .before .before .before .before .cap-of .ensures)
+returns-2 c =
+    let d = c .before .before .before .before in
+    list-alone (d .before .before .before2 .ensures) _ (c .if1 .taken) (sym (c .before .before .cap .given .1) ∙ d .cap-of .ensures)
+
+-- the way back from the words to the text behind the cap
+abbrev to-rest : tie.After-number-list → tie.Else1
+to-rest n = n .before .before .before
 
 add-number-list : tie.Need-add-number-list
 add-number-list c = search needs
@@ -71,21 +77,30 @@ same-length c = search needs
 
 returns-3 : tie.Need-returns-3
 returns-3 c =
-    list-more (c .before .before .before .before .before .before .before .before .before .before .before .before .before .before2 .ensures) (c .before .before .before .before .before .before .before .if1 .left) (sym (c .before .before .before .before .before .before .before .before .before .cap .given .1) ∙ c .before .before .before .before .before .before .before .before .before .before .before .cap-of .ensures) (lists-as (c .enum-told2 .given .1) (c .before .before .before .before .number-list .ensures)) refl
+    let n = c .before .before .before .before in
+    let e = to-rest n in
+    list-more (e .before .before .before .before .before .before .before2 .ensures) (e .if1 .left) (sym (e .before .before .cap .given .1) ∙ e .before .before .before .before .cap-of .ensures)
+    (lists-as (c .enum-told2 .given .1) (n .number-list .ensures)) refl
 
 same-length-2 : tie.Need-same-length-2
 same-length-2 c = search needs
 
 returns-4 : tie.Need-returns-4
 returns-4 c =
-    list-more (c .before .before .before .before .before .before .before .before .before .before .before .before .before .before .before .before2 .ensures) (c .before .before .before .before .before .before .before .before .before .if1 .left) (sym (c .before .before .before .before .before .before .before .before .before .before .before .cap .given .1) ∙ c .before .before .before .before .before .before .before .before .before .before .before .before .before .cap-of .ensures) (lists-as (c .before .before .count .given .1) (c .before .before .before .before .before .before .number-list .ensures)) (too-many _ _ (c .if2 .taken))
+    let n = c .before .before .before .before .before .before in
+    let e = to-rest n in
+    list-more (e .before .before .before .before .before .before .before2 .ensures) (e .if1 .left) (sym (e .before .before .cap .given .1) ∙ e .before .before .before .before .cap-of .ensures)
+    (lists-as (c .before .before .count .given .1) (n .number-list .ensures)) (too-many _ _ (c .if2 .taken))
 
 same-length-3 : tie.Need-same-length-3
 same-length-3 c = search needs
 
 returns-5 : tie.Need-returns-5
 returns-5 c =
-    list-more (c .before .before .before .before .before .before .before .before .before .before .before .before .before .before .before .before2 .ensures) (c .before .before .before .before .before .before .before .before .before .if1 .left) (sym (c .before .before .before .before .before .before .before .before .before .before .before .cap .given .1) ∙ c .before .before .before .before .before .before .before .before .before .before .before .before .before .cap-of .ensures) (lists-as (c .before .before .count .given .1) (c .before .before .before .before .before .before .number-list .ensures)) (so-many _ _ (c .if2 .left))
+    let n = c .before .before .before .before .before .before in
+    let e = to-rest n in
+    list-more (e .before .before .before .before .before .before .before2 .ensures) (e .if1 .left) (sym (e .before .before .cap .given .1) ∙ e .before .before .before .before .cap-of .ensures)
+    (lists-as (c .before .before .count .given .1) (n .number-list .ensures)) (so-many _ _ (c .if2 .left))
 
 pub read-spec : {M : Type 1} → statement M
 read-spec =

@@ -1,8 +1,12 @@
 -- `sample::read`: two numbers.
-use mathlib.Core.Path.{refl, sym, _∙_}
+use mathlib.Core.Path.{_≡_, refl, sym, _∙_}
+use lib.ListN.{take}
+use Rattle.text.specs.Token.{tokens}
+use Rattle.text.specs.declared.number.Number.{Number}
 use Rattle.requests.specs.declared.Request.the-variants as request
+use Rattle.requests.specs.Verb.{both, sampleOf}
 use Rattle.text.specs.Number.{hexOf}
-use Rattle.requests.proofs.Readers.{hex-reader, two-alone, two-read}
+use Rattle.requests.proofs.Readers.{after, hex-reader, two-alone, two-read}
 use borrow.Author.Needs.{needs}
 use Rattle.requests.proofs.sample.read.Statement.{statement}
 use Rattle.requests.proofs.sample.read.Tie as tie
@@ -25,10 +29,13 @@ enum-known-x c = search needs
 enum-told : tie.Need-enum-told
 enum-told c = search needs
 
+-- what the first token and the text behind it write
+both-read : (d : tie.After-hex) {o o' : Number} → let s = d .before .before .before .before .before .args .rest .now in let n = d .before .before .before .before2 .result in
+    o ≡ hexOf (take n s) → o' ≡ hexOf (after n s) → both request.Sample o o' ≡ sampleOf (tokens s)
+both-read d = two-read hex-reader request.Sample hexOf (d .before .before .before .before2 .ensures) (d .before .before .if1 .left)
+
 returns-2 : tie.Need-returns-2
-returns-2 c =
-    two-read hex-reader request.Sample hexOf (c .before .before .before .before .before .before2 .ensures) (c .before .before .before .before .if1 .left)
-    (sym (c .enum-told .given .1) ∙ c .before .before .hex .ensures) refl
+returns-2 c = both-read (c .before .before) (sym (c .enum-told .given .1) ∙ c .before .before .hex .ensures) refl
 
 add-hex : tie.Need-add-hex
 add-hex c = search needs
@@ -51,24 +58,19 @@ enum-known-y c = search needs
 enum-told-2 : tie.Need-enum-told-2
 enum-told-2 c = search needs
 
--- the way back, from a place in the code to one that comes before it
-abbrev to-hex : tie.After-hex2 → tie.After-hex
-to-hex c = c .before .before .before .before .before
+-- the way back from the second number to the first
+abbrev to-first : tie.After-hex2 → tie.After-hex
+to-first d = d .before .before .before .before .before
 
 returns-3 : tie.Need-returns-3
 returns-3 c =
-    let at-hex = to-hex (c .before .before) in
-    two-read hex-reader request.Sample hexOf (at-hex .before .before .before .before2 .ensures)
-    (at-hex .before .before .if1 .left) (sym (c .before .before .before .before .before .x .given .1) ∙ at-hex .hex .ensures)
-    (sym (c .enum-told2 .given .1) ∙ c .before .before .hex2 .ensures)
+    let d = c .before .before in
+    both-read (to-first d) (sym (d .before .before .before .x .given .1) ∙ to-first d .hex .ensures) (sym (c .enum-told2 .given .1) ∙ d .hex2 .ensures)
 
 returns-4 : tie.Need-returns-4
 returns-4 c =
-    let at-hex = to-hex (c .before .before .before) in
-    two-read hex-reader request.Sample hexOf (at-hex .before .before .before .before2 .ensures)
-    (at-hex .before .before .if1 .left)
-    (sym (c .before .before .before .before .before .before .x .given .1) ∙ at-hex .hex .ensures)
-    (sym (c .before .y .given .1) ∙ c .before .before .before .hex2 .ensures)
+    let d = c .before .before .before in
+    both-read (to-first d) (sym (d .before .before .before .x .given .1) ∙ to-first d .hex .ensures) (sym (c .before .y .given .1) ∙ d .hex2 .ensures)
 
 pub read-spec : {M : Type 1} → statement M
 read-spec =

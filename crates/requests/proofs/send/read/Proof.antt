@@ -1,8 +1,11 @@
 -- `send::read`: two numbers.
-use mathlib.Core.Path.{refl, sym, _∙_}
+use mathlib.Core.Path.{_≡_, refl, sym, _∙_}
+use lib.ListN.{take}
+use Rattle.text.specs.Token.{tokens}
+use Rattle.text.specs.declared.number.Number.{Number}
 use Rattle.requests.specs.declared.Request.the-variants as request
-use Rattle.requests.specs.Verb.{anyNumber}
-use Rattle.requests.proofs.Readers.{cap-reader, two-alone, two-read}
+use Rattle.requests.specs.Verb.{anyNumber, capNumber, both, sendOf}
+use Rattle.requests.proofs.Readers.{after, cap-reader, two-alone, two-read}
 use borrow.Author.Needs.{needs}
 use Rattle.requests.proofs.send.read.Statement.{statement}
 use Rattle.requests.proofs.send.read.Tie as tie
@@ -25,10 +28,13 @@ enum-known-word c = search needs
 enum-told : tie.Need-enum-told
 enum-told c = search needs
 
+-- what the first token and the text behind it write
+both-read : (d : tie.After-number-of) {o o' : Number} → let s = d .before .before .before .before .before .args .rest .now in let n = d .before .before .before .before2 .result in
+    o ≡ anyNumber (take n s) → o' ≡ capNumber (after n s) → both request.Send o o' ≡ sendOf (tokens s)
+both-read d = two-read cap-reader request.Send anyNumber (d .before .before .before .before2 .ensures) (d .before .before .if1 .left)
+
 returns-2 : tie.Need-returns-2
-returns-2 c =
-    two-read cap-reader request.Send anyNumber (c .before .before .before .before .before .before2 .ensures) (c .before .before .before .before .if1 .left)
-    (sym (c .enum-told .given .1) ∙ c .before .before .number-of .ensures) refl
+returns-2 c = both-read (c .before .before) (sym (c .enum-told .given .1) ∙ c .before .before .number-of .ensures) refl
 
 add-cap-of : tie.Need-add-cap-of
 add-cap-of c = search needs
@@ -51,25 +57,19 @@ enum-known-cap c = search needs
 enum-told-2 : tie.Need-enum-told-2
 enum-told-2 c = search needs
 
--- the way back, from a place in the code to one that comes before it
-abbrev to-number-of : tie.After-cap-of → tie.After-number-of
-to-number-of c = c .before .before .before .before .before
+-- the way back from the second number to the first
+abbrev to-first : tie.After-cap-of → tie.After-number-of
+to-first d = d .before .before .before .before .before
 
 returns-3 : tie.Need-returns-3
 returns-3 c =
-    let at-number-of = to-number-of (c .before .before) in
-    two-read cap-reader request.Send anyNumber (at-number-of .before .before .before .before2 .ensures)
-    (at-number-of .before .before .if1 .left)
-    (sym (c .before .before .before .before .before .word .given .1) ∙ at-number-of .number-of .ensures)
-    (sym (c .enum-told2 .given .1) ∙ c .before .before .cap-of .ensures)
+    let d = c .before .before in
+    both-read (to-first d) (sym (d .before .before .before .word .given .1) ∙ to-first d .number-of .ensures) (sym (c .enum-told2 .given .1) ∙ d .cap-of .ensures)
 
 returns-4 : tie.Need-returns-4
 returns-4 c =
-    let at-number-of = to-number-of (c .before .before .before) in
-    two-read cap-reader request.Send anyNumber (at-number-of .before .before .before .before2 .ensures)
-    (at-number-of .before .before .if1 .left)
-    (sym (c .before .before .before .before .before .before .word .given .1) ∙ at-number-of .number-of .ensures)
-    (sym (c .before .cap .given .1) ∙ c .before .before .before .cap-of .ensures)
+    let d = c .before .before .before in
+    both-read (to-first d) (sym (d .before .before .before .word .given .1) ∙ to-first d .number-of .ensures) (sym (c .before .cap .given .1) ∙ d .cap-of .ensures)
 
 pub read-spec : {M : Type 1} → statement M
 read-spec =

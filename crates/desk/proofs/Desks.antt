@@ -50,7 +50,8 @@ does {g} {most} {page} {at} {r} {page'} is d s h p =
     }
 
 -- the request is k
-pub acts : (d : Desk) (cs : List ℤ) (ws : List ℕ) {asked k : Request} {page : List ℕ} {at : ℕ} {r : Done} {page' : List ℕ} → asked ≡ k → Acts d k cs ws page at r page' → Acts d asked cs ws page at r page'
+pub acts : (d : Desk) (cs : List ℤ) (ws : List ℕ) {asked k : Request} {page : List ℕ} {at : ℕ} {r : Done} {page' : List ℕ}
+    → asked ≡ k → Acts d k cs ws page at r page' → Acts d asked cs ws page at r page'
 acts d cs ws {page = page} {at = at} {r = r} {page' = page'} e g = subst (λ (a : Request). Acts d a cs ws page at r page') (sym e) g
 
 -- less room is room enough

@@ -10,7 +10,8 @@ use Rattle.desk.specs.declared.Desk.{Desk}
 use Rattle.desk.specs.declared.Done.{Done}
 use Rattle.desk.specs.Desk.{Acts}
 
-pub act-settled : (d : Desk) (asked : Request) (cs : List ℤ) (ws page : List ℕ) (at : ℕ) (q r : Done) (o p : List ℕ) → Acts d asked cs ws page at q o → Acts d asked cs ws page at r p → (q ≡ r) × (o ≡ p)
+pub act-settled : (d : Desk) (asked : Request) (cs : List ℤ) (ws page : List ℕ) (at : ℕ) (q r : Done) (o p : List ℕ)
+    → Acts d asked cs ws page at q o → Acts d asked cs ws page at r p → (q ≡ r) × (o ≡ p)
 act-settled d asked cs ws page at q r o p a b =
     let e : q .desk ≡ r .desk = a .desk ∙ sym (b .desk) in
     let f = one-result (a .puts) (b .puts) in

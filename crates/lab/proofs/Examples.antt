@@ -58,6 +58,11 @@ unfolding decimal whole sentLine listLine reasonText saidText saidWholes heardLi
 examples = refl
 
 -- a comment, an empty line, both openings of a sender, a word, a list whose last word is none, and a last line that no newline follows and that lacks its CAP
-pub session : lastLine 65536 (streaming 65536 (record { desk = closedDesk; line = []; text = [] }) (bytes "# a comment\n\nsender 9\nsender 0\nsend 5 4\nlist 9 0 2 8\npending\nsample 3F800000 7f800000\nsend 5")) .text ≡ bytes "1\n0\n0 -1 -1 1 1\n2 4 : -1 -1 -1 1 -1 1 -1 1\n0\n5 place 1\n?\n"
-unfolding answering acting requestOf verbOf numberOf hexOf digitOf decimal whole sentLine listLine saidWholes sampleLine heardBits shut sound opening sending sendingAll sendingList symbolOf after four firstPoint secondPoint lastLabel pointOf aPoint coordinates unpacked nextState secondLabel
+abbrev typed : List ℕ
+typed = bytes "# a comment\n\nsender 9\nsender 0\nsend 5 4\nlist 9 0 2 8\npending\nsample 3F800000 7f800000\nsend 5"
+
+pub session : lastLine 65536 (streaming 65536 (record { desk = closedDesk; line = []; text = [] }) typed) .text
+    ≡ bytes "1\n0\n0 -1 -1 1 1\n2 4 : -1 -1 -1 1 -1 1 -1 1\n0\n5 place 1\n?\n"
+unfolding answering acting requestOf verbOf numberOf hexOf digitOf decimal whole sentLine listLine saidWholes sampleLine heardBits shut sound
+    opening sending sendingAll sendingList symbolOf after four firstPoint secondPoint lastLabel pointOf aPoint coordinates unpacked nextState secondLabel
 session = refl

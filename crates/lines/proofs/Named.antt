@@ -22,8 +22,10 @@ use Rattle.wholes.specs.declared.Many.{Many}
 use Rattle.wholes.specs.declared.Many.the-variants as many
 use Rattle.requests.specs.declared.Request.{Request}
 use Rattle.requests.specs.declared.Request.the-variants as request
-use Rattle.requests.specs.Verb.{just, both, one, two, anyNumber, capNumber, senderOf, finishOf, sendOf, sampleOf, startOf, windowOf, openOf, receiverOf, heardOf, pieceOf, sentOf, listOf, filledBy}
-use Rattle.protocol.specs.Request.{senderVerb, receiverVerb, finishVerb, sampleVerb, sendVerb, pieceVerb, verbOf, pendingAlone, lineOf, requestOf, pieceOnly, lineFills, wordFills, coordinatesOf, wordsOf, Reads}
+use Rattle.requests.specs.Verb.{just, both, one, two, anyNumber, capNumber, filledBy}
+use Rattle.requests.specs.Verb.{senderOf, finishOf, sendOf, sampleOf, startOf, windowOf, openOf, receiverOf, heardOf, pieceOf, sentOf, listOf}
+use Rattle.protocol.specs.Request.{senderVerb, receiverVerb, finishVerb, sampleVerb, sendVerb, pieceVerb, verbOf, pendingAlone}
+use Rattle.protocol.specs.Request.{lineOf, requestOf, pieceOnly, lineFills, wordFills, coordinatesOf, wordsOf, Reads}
 use Rattle.desk.specs.declared.Desk.{Desk}
 use Rattle.lines.specs.declared.Lab.{Lab}
 use Rattle.lines.specs.declared.Part.{Part}
@@ -101,7 +103,8 @@ module _ (d : Desk) where
 
   -- a piece
   piece-named : (o : Number) (ts : List (List ℕ)) (list : List ℤ) (ws ws' : List ℕ)
-      → acting d (heardOf o (manyOf wholeIn (length list) ts)) (filledBy wholeIn o ts list) ws ≡ acting d (heardOf o (manyOf wholeIn (length list) ts)) (firstOf wholeIn (length list) ts) ws'
+      → acting d (heardOf o (manyOf wholeIn (length list) ts)) (filledBy wholeIn o ts list) ws
+      ≡ acting d (heardOf o (manyOf wholeIn (length list) ts)) (firstOf wholeIn (length list) ts) ws'
   unfolding acting
   piece-named number.Bad ts list ws ws' = refl
   piece-named (number.Got c) ts list ws ws' = by (manyOf wholeIn (length list) ts) refl where
@@ -116,7 +119,8 @@ module _ (d : Desk) where
 
   -- a list
   list-named : (o : Number) (ts : List (List ℕ)) (words : List ℕ) (cs cs' : List ℤ)
-      → acting d (sentOf o (manyOf numberIn (length words) ts)) cs (filledBy numberIn o ts words) ≡ acting d (sentOf o (manyOf numberIn (length words) ts)) cs' (firstOf numberIn (length words) ts)
+      → acting d (sentOf o (manyOf numberIn (length words) ts)) cs (filledBy numberIn o ts words)
+      ≡ acting d (sentOf o (manyOf numberIn (length words) ts)) cs' (firstOf numberIn (length words) ts)
   unfolding acting
   list-named number.Bad ts words cs cs' = refl
   list-named (number.Got c) ts words cs cs' = by (manyOf numberIn (length words) ts) refl where
@@ -159,30 +163,38 @@ module _ (d : Desk) where
     many-words = length words
 
     -- a verb after `list`
-    other-named : (v t : List ℕ) (ts : List (List ℕ)) (ws ws' : List ℕ) → acting d (pieceVerb room v (t ∷ ts)) (pieceOnly v (t ∷ ts) list) ws ≡ acting d (pieceVerb room v (t ∷ ts)) (firstOf wholeIn room ts) ws'
+    other-named : (v t : List ℕ) (ts : List (List ℕ)) (ws ws' : List ℕ)
+        → acting d (pieceVerb room v (t ∷ ts)) (pieceOnly v (t ∷ ts) list) ws ≡ acting d (pieceVerb room v (t ∷ ts)) (firstOf wholeIn room ts) ws'
     other-named v t ts ws ws' = by (sameBytes v (bytes "piece")) where
-      by : (b : Bool) → acting d (cond b (pieceOf room (t ∷ ts)) (sendVerb v (t ∷ ts))) (cond b (filledBy wholeIn (capNumber t) ts list) list) ws ≡ acting d (cond b (pieceOf room (t ∷ ts)) (sendVerb v (t ∷ ts))) (firstOf wholeIn room ts) ws'
+      by : (b : Bool) → let asked = cond b (pieceOf room (t ∷ ts)) (sendVerb v (t ∷ ts)) in
+          acting d asked (cond b (filledBy wholeIn (capNumber t) ts list) list) ws ≡ acting d asked (firstOf wholeIn room ts) ws'
       by true = piece-named (capNumber t) ts list ws ws'
       by false = send-verb v (t ∷ ts) _ _ _ _
 
-    line-named : (ts : List (List ℕ)) → acting d (lineOf room many-words ts) (lineFills ts list) (wordFills ts words) ≡ acting d (lineOf room many-words ts) (firstOf wholeIn room (drop 2 ts)) (firstOf numberIn many-words (drop 2 ts))
+    line-named : (ts : List (List ℕ)) → let asked = lineOf room many-words ts in
+        acting d asked (lineFills ts list) (wordFills ts words) ≡ acting d asked (firstOf wholeIn room (drop 2 ts)) (firstOf numberIn many-words (drop 2 ts))
     unfolding acting verbOf
     line-named [] = refl
     line-named (v ∷ []) = pending-alone v _ _ _ _
     line-named (v ∷ t ∷ ts) = by (sameBytes v (bytes "list")) where
-      by : (b : Bool) → acting d (cond b (listOf many-words (t ∷ ts)) (pieceVerb room v (t ∷ ts))) (cond b list (pieceOnly v (t ∷ ts) list)) (cond b (filledBy numberIn (capNumber t) ts words) words)
-          ≡ acting d (cond b (listOf many-words (t ∷ ts)) (pieceVerb room v (t ∷ ts))) (firstOf wholeIn room ts) (firstOf numberIn many-words ts)
+      by : (b : Bool) → let asked = cond b (listOf many-words (t ∷ ts)) (pieceVerb room v (t ∷ ts)) in
+          acting d asked (cond b list (pieceOnly v (t ∷ ts) list)) (cond b (filledBy numberIn (capNumber t) ts words) words)
+          ≡ acting d asked (firstOf wholeIn room ts) (firstOf numberIn many-words ts)
       by true = list-named (capNumber t) ts words _ _
       by false = other-named v t ts _ _
 
-    pub read-named : (s : List ℕ) → room ≡ 4096 → many-words ≡ 4096 → acting d (requestOf room many-words s) (coordinatesOf s list) (wordsOf s words) ≡ acting d (requestOf 4096 4096 s) (named wholeIn s) (named numberIn s)
+    pub read-named : (s : List ℕ) → room ≡ 4096 → many-words ≡ 4096
+        → acting d (requestOf room many-words s) (coordinatesOf s list) (wordsOf s words) ≡ acting d (requestOf 4096 4096 s) (named wholeIn s) (named numberIn s)
     unfolding acting requestOf coordinatesOf wordsOf
     read-named [] h k = refl
     read-named (b ∷ s) h k = by (eqb b 35) where
-      by : (t : Bool) → acting d (cond t request.Nothing (lineOf room many-words (tokens (b ∷ s)))) (cond t list (lineFills (tokens (b ∷ s)) list)) (cond t words (wordFills (tokens (b ∷ s)) words))
-          ≡ acting d (cond t request.Nothing (lineOf 4096 4096 (tokens (b ∷ s)))) (firstOf wholeIn 4096 (drop 2 (tokens (b ∷ s)))) (firstOf numberIn 4096 (drop 2 (tokens (b ∷ s))))
+      ts : List (List ℕ)
+      ts = tokens (b ∷ s)
+
+      by : (t : Bool) → acting d (cond t request.Nothing (lineOf room many-words ts)) (cond t list (lineFills ts list)) (cond t words (wordFills ts words))
+          ≡ acting d (cond t request.Nothing (lineOf 4096 4096 ts)) (firstOf wholeIn 4096 (drop 2 ts)) (firstOf numberIn 4096 (drop 2 ts))
       by true = refl
-      by false = line-named (tokens (b ∷ s)) ∙ (λ i. acting d (lineOf (h i) (k i) (tokens (b ∷ s))) (firstOf wholeIn (h i) (drop 2 (tokens (b ∷ s)))) (firstOf numberIn (k i) (drop 2 (tokens (b ∷ s)))))
+      by false = line-named ts ∙ (λ i. acting d (lineOf (h i) (k i) ts) (firstOf wholeIn (h i) (drop 2 ts)) (firstOf numberIn (k i) (drop 2 ts)))
 
 -- ---- a gathered line
 
@@ -191,7 +203,8 @@ module _ {line : List ℕ} {part : Part} {s : List ℕ} (g : Gathered line part 
   unfolding answering
   long-answered e = sym (rw (lt-ltb (length line) (length s) (g .too-long e)))
 
-  pub line-answered : {list list' : List ℤ} {words words' : List ℕ} {asked : Request} → part .long ≡ false → length list ≡ 4096 → length words ≡ 4096 → Reads (take (part .held) line) list words asked list' words'
+  pub line-answered : {list list' : List ℤ} {words words' : List ℕ} {asked : Request} → part .long ≡ false → length list ≡ 4096 → length words ≡ 4096
+      → Reads (take (part .held) line) list words asked list' words'
       → acting d asked list' words' ≡ answering (length line) d s
   unfolding answering
   line-answered {list} {list'} {words} {words'} f h k r =

@@ -8,6 +8,8 @@
 --   Holds c line lab   the program's state is that of c: its desk, and the line in its buffer
 --   Stands c before line lab page   besides, the answers so far are those before, and then what the page holds: none is lost, and none
 --                                   is there twice
+--   Moves go .., Turns last ..   whatever course the state stood at before a call, it stands at the course `go` makes of it afterwards; after
+--                                a turn at that of the turn, whose page is new
 --   heard now chunk next   the bytes of the chunk that a turn has heard: from where it began up to `next`
 --   turned most c ..   after a turn: the input's end, or those bytes
 --   Handed             what a turn has heard, and what it handed to `write`
@@ -60,6 +62,13 @@ heard now chunk next = take (next - now .from) (drop (now .from) chunk)
 
 abbrev pub turned : ℕ → Course → Turn → List ℕ → ℕ → Course
 turned most c now chunk next = cond (now .ends) (lastLine most c) (streaming most c (heard now chunk next))
+
+abbrev pub Moves : (Course → Course) → List ℕ → Lab → List ℕ → List ℕ → Lab → List ℕ → Type 0
+Moves go line lab page line' lab' page' = (c : Course) (b : List ℕ) → Stands c b line lab page → Stands (go c) b line' lab' page'
+
+abbrev pub Turns : Turn → List ℕ → List ℕ → Turn → List ℕ → List ℕ → Type 0
+Turns last chunk line r line' page' =
+    (c : Course) → Holds c line (last .lab) → Stands (turned (length line) c last chunk (r .from)) (c .text) line' (r .lab) page'
 
 pub record Handed : Type 0 where
   pub bytes : List ℕ

@@ -7,11 +7,10 @@ use lines::Lab;
 use text::token;
 ghost use mathlib.Core.Path.{_≡_};
 ghost use mathlib.Core.Bool.{false};
-ghost use mathlib.Core.List.{List};
-ghost use Prim.Native.Nat.{ℕ, _≤_, _<_};
+ghost use Prim.Native.Nat.{_≤_, _<_};
 ghost use lib.ListN.{length, take};
 ghost use Rattle.desk.specs.Room.{Lent};
-ghost use Rattle.stream.specs.Stream.{Course, streaming, lastLine, Holds, Stands, turned, Reads, took as Stream·took};
+ghost use Rattle.stream.specs.Stream.{streaming, lastLine, Moves, Turns, Reads, took as Stream·took};
 
 // What became of the lines so far, the place in the chunk up to which it is heard, how many bytes it holds, and whether the input has
 // ended.
@@ -58,7 +57,8 @@ fn hear_chunk(
     requires { ⌜ (lab .at ≤ 32768) × (lab .part .held ≤ length (now line)) ⌝ }
     ensures { λ r. ⌜ (r .lab .at ≤ 131072) × (r .lab .part .held ≤ length (now (line .entry))) ⌝ }
     ensures { λ r. ⌜ (r .count ≤ length (now (chunk .entry))) × (0 < length (now (chunk .entry)) → 0 < r .count) ⌝ }
-    ensures { λ r. ⌜ ((c : Course) (b : List ℕ) → Stands c b (now (line .entry)) lab (now (page .entry)) → Stands (streaming (length (now (line .entry))) c (take (r .count) (now (chunk .entry)))) b (now (line .exit)) (r .lab) (now (page .exit))) ⌝ }
+    ensures { λ r. ⌜ Moves (λ c. streaming (length (now (line .entry))) c (take (r .count) (now (chunk .entry))))
+        (now (line .entry)) lab (now (page .entry)) (now (line .exit)) (r .lab) (now (page .exit)) ⌝ }
 {
     let mut now = lab;
     let mut from = 0;
@@ -94,7 +94,7 @@ fn hear_end(
     requires { ⌜ Lent (now page) (now coordinates) (now words) ⌝ }
     requires { ⌜ (lab .at ≤ 32768) × (lab .part .held ≤ length (now line)) ⌝ }
     ensures { λ r. ⌜ (r .at ≤ 131072) × (r .part .held ≤ length (now (line .entry))) ⌝ }
-    ensures { λ r. ⌜ ((c : Course) (b : List ℕ) → Stands c b (now (line .entry)) lab (now (page .entry)) → Stands (lastLine (length (now (line .entry))) c) b (now (line .entry)) r (now (page .exit))) ⌝ }
+    ensures { λ r. ⌜ Moves (lastLine (length (now (line .entry)))) (now (line .entry)) lab (now (page .entry)) (now (line .entry)) r (now (page .exit)) ⌝ }
 {
     let part = lab.part;
     if part.held == 0 && !part.long {
@@ -116,7 +116,7 @@ fn answer(
     requires { ⌜ (last .from ≤ last .to) × (last .to ≤ length (now chunk)) × (last .lab .part .held ≤ length (now line)) ⌝ }
     ensures { λ r. ⌜ (r .from ≤ r .to) × (r .to ≡ last .to) × (r .ends ≡ last .ends) × (r .lab .part .held ≤ length (now (line .entry))) ⌝ }
     ensures { λ r. ⌜ (last .ends ≡ false → last .from < last .to → last .from < r .from) ⌝ }
-    ensures { λ r. ⌜ ((c : Course) → Holds c (now (line .entry)) (last .lab) → Stands (turned (length (now (line .entry))) c last (now (chunk .entry)) (r .from)) (c .text) (now (line .exit)) (r .lab) (now (page .exit))) ⌝ }
+    ensures { λ r. ⌜ Turns last (now (chunk .entry)) (now (line .entry)) r (now (line .exit)) (now (page .exit)) ⌝ }
 {
     let mut lab = last.lab;
     lab.at = 0;

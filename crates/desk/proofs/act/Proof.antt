@@ -163,8 +163,9 @@ same-length-10 c = search needs
 returns-8 : tie.Need-returns-8
 unfolding acting
 returns-8 c =
-    let start = c .before .before .before .before .before .before .before .before .before .before .before .before .before .args in
-    acts (start .desk) (start .coordinates .now) (start .words .now) (c .before .before .before .before .before .before .before .before .before .asked6 .given .1) (c .before .before .before .before .hear .ensures)
+    let known = c .before .before .before .before .before .before .before .before .before in
+    let start = known .before .before .before .before .args in
+    acts (start .desk) (start .coordinates .now) (start .words .now) (known .asked6 .given .1) (c .before .before .before .before .hear .ensures)
 
 same-length-11 : tie.Need-same-length-11
 same-length-11 c = search needs
@@ -175,8 +176,9 @@ same-length-12 c = search needs
 returns-9 : tie.Need-returns-9
 unfolding acting
 returns-9 c =
-    let start = c .before .before .before .before .before .before .before .before .before .before .before .before .args in
-    acts (start .desk) (start .coordinates .now) (start .words .now) (c .before .before .before .before .before .before .before .before .asked7 .given .1) (c .before .before .before .before .finish .ensures)
+    let known = c .before .before .before .before .before .before .before .before in
+    let start = known .before .before .before .before .args in
+    acts (start .desk) (start .coordinates .now) (start .words .now) (known .asked7 .given .1) (c .before .before .before .before .finish .ensures)
 
 same-length-13 : tie.Need-same-length-13
 same-length-13 c = search needs
@@ -208,8 +210,9 @@ same-length-17 c = search needs
 returns-12 : tie.Need-returns-12
 unfolding acting
 returns-12 c =
-    let start = c .before .before .before .before .before .before .before .before .before .before .before .before .args in
-    acts (start .desk) (start .coordinates .now) (start .words .now) (c .before .before .before .before .before .before .before .before .asked9 .given .1) (c .before .before .before .list .ensures)
+    let known = c .before .before .before .before .before .before .before .before in
+    let start = known .before .before .before .before .args in
+    acts (start .desk) (start .coordinates .now) (start .words .now) (known .asked9 .given .1) (c .before .before .before .list .ensures)
 
 pub act-spec : {M : Type 1} → statement M
 act-spec =

@@ -14,7 +14,8 @@ ghost use Rattle.desk.specs.Desk.{lent, listGives, Does, Acts};
 
 fn sent(desk: Desk, words: &[u32], out: &mut [i32], page: &mut [u8], at: usize) -> Done
     requires { ⌜ at + 44 + wholesRoom (length (now out)) ≤ length (now page) ⌝ }
-    ensures { λ r. ⌜ Does (listGives desk (sendingList (desk .sender) (now (words .entry)) (lent (length (now (out .entry)))))) (44 + wholesRoom (length (now (out .entry)))) (now (page .entry)) at r (now (page .exit)) ⌝ }
+    ensures { λ r. ⌜ Does (listGives desk (sendingList (desk .sender) (now (words .entry)) (lent (length (now (out .entry))))))
+        (44 + wholesRoom (length (now (out .entry)))) (now (page .entry)) at r (now (page .exit)) ⌝ }
 {
     let old = desk.sender;
     let sent = sender::send_list(old, words, out);

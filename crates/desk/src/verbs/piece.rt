@@ -15,7 +15,8 @@ ghost use Rattle.desk.specs.Desk.{ranGives, Does, Acts};
 
 fn heard(desk: Desk, piece: &[i32], out: &mut [u32], page: &mut [u8], at: usize) -> Done
     requires { ⌜ at + 92 + wordsRoom (length (now out)) ≤ length (now page) ⌝ }
-    ensures { λ r. ⌜ Does (ranGives desk (hearing (desk .receiver) (pieceOf (now (piece .entry))) (length (now (out .entry))))) (92 + wordsRoom (length (now (out .entry)))) (now (page .entry)) at r (now (page .exit)) ⌝ }
+    ensures { λ r. ⌜ Does (ranGives desk (hearing (desk .receiver) (pieceOf (now (piece .entry))) (length (now (out .entry)))))
+        (92 + wordsRoom (length (now (out .entry)))) (now (page .entry)) at r (now (page .exit)) ⌝ }
 {
     let old = desk.receiver;
     let heard = receiver::hear(old, piece, out);

@@ -50,7 +50,9 @@ returns-2 c =
     let none = read .before .before .before .before .before in
     let start = none .before .before .before .before .before .before in (
       search needs,
-      λ s g. replied (acted .act .ensures .desk) (acted .act .ensures .puts) (line-answered g (start .args .lab .desk) (read .before .before .before .before .if1 .left) (start .pre .0 .coordinates-long) (start .pre .0 .words-long) (read .read .ensures)) (none .fresh .ensures .1) refl,
+      λ s g. replied (acted .act .ensures .desk) (acted .act .ensures .puts)
+          (line-answered g (start .args .lab .desk) (read .before .before .before .before .if1 .left) (start .pre .0 .coordinates-long) (start .pre .0 .words-long) (read .read .ensures))
+          (none .fresh .ensures .1) refl,
     )
 
 pub reply-spec : {M : Type 1} → statement M

@@ -20,7 +20,9 @@ tried-requires : tie.Need-tried-requires
 tried-requires c κs = search needs
 
 returns-3 : tie.Need-returns-3
-returns-3 c = line-alone _ _ _ (c .before .before .before .before .before .if1 .left) (c .before .before .before .if2 .left) (c .before .before .before2 .ensures) (c .before .if3 .taken) (c .tried .ensures)
+returns-3 c =
+    let d = c .before .before in
+    line-alone _ _ _ (d .before .before .before .if1 .left) (d .before .if2 .left) (d .before2 .ensures) (c .before .if3 .taken) (c .tried .ensures)
 
 slice-aggregate-tried : tie.Need-slice-aggregate-tried
 slice-aggregate-tried c = search needs
@@ -50,7 +52,8 @@ returns-4 : tie.Need-returns-4
 returns-4 c =
     let r = c .before .before .before in
     let e = r .before .before .before .before .before in
-    line-more _ _ _ (e .before .before .before .before .if1 .left) (e .before .before .if2 .left) (e .before .before2 .ensures) (e .if3 .left) (r .tried2 .ensures .0) (r .tried2 .ensures .1 .0) (r .tried2 .ensures .1 .1)
+    line-more _ _ _ (e .before .before .before .before .if1 .left) (e .before .before .if2 .left) (e .before .before2 .ensures) (e .if3 .left)
+    (r .tried2 .ensures .0) (r .tried2 .ensures .1 .0) (r .tried2 .ensures .1 .1)
 
 pub read-spec : {M : Type 1} → statement M
 read-spec =

@@ -37,14 +37,17 @@ refill-requires c κs = search needs
 abbrev to-loop : tie.After-refill Inv-loop μ-loop → tie.At-loop Inv-loop μ-loop
 to-loop c = c .before .before .before
 
-abbrev to-refill : tie.Joined1 Inv-loop μ-loop → tie.After-refill Inv-loop μ-loop
-to-refill c = c .before .before .before .before .before .before .before .before .before .before .before .before .before .before .before .before
+abbrev answered : tie.After-answer Inv-loop μ-loop → tie.After-refill Inv-loop μ-loop
+answered c = c .before .before .before .before .before .before .before .before
 
 abbrev to-answer : tie.Joined1 Inv-loop μ-loop → tie.After-answer Inv-loop μ-loop
 to-answer c = c .before .before .before .before .before .before .before .before
 
+abbrev to-refill : tie.Joined1 Inv-loop μ-loop → tie.After-refill Inv-loop μ-loop
+to-refill c = answered (to-answer c)
+
 abbrev to-in-loop : tie.Else2 Inv-loop μ-loop → tie.In-loop Inv-loop μ-loop
-to-in-loop c = c .before .before .before .before .before .before .before .before .before .before .before .before .before .before .before .before .before .before .before .before
+to-in-loop c = to-refill (c .before .before) .before .before
 
 answer-requires : tie.Need-answer-requires Inv-loop μ-loop
 answer-requires c κs =
@@ -82,8 +85,8 @@ loop-less c = omega (arith, to-in-loop c .loop-test .taken)
 loop-again : tie.Need-loop-again Inv-loop μ-loop
 loop-again c =
     let l = to-in-loop c .before .loop .inv in
-    let r = c .before .before .before .before .before .before .before .before .before .before .before .before .before .before .before .before .before .before .refill in
-    let a = c .before .before .before .before .before .before .before .before .before .before .answer in (
+    let r = to-refill (c .before .before) .refill in
+    let a = to-answer (c .before .before) .answer in (
       (r .kept .1 .0 ∙ l .0 .0, a .kept .1 .1 .0 ∙ l .0 .1, a .kept .1 .1 .1 .0 ∙ l .0 .2),
       (a .kept .1 .1 .1 .1 .0 ∙ l .1 .0, a .kept .1 .1 .1 .1 .1 .0 ∙ l .1 .1),
       (a .ensures .0 .0, omega (arith, a .ensures .0 .1, r .ensures .0 .1, r .kept .1 .0), omega (arith, a .ensures .0 .3, a .kept .1 .1 .0)),

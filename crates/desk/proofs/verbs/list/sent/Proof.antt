@@ -56,7 +56,8 @@ returns c =
     let d = n .before .before .before .before in
     let s = d .before .before .before .before .before in
     let few = list-room (s .args .desk) _ _ (s .args .out .now) (d .send-list .ensures) in
-    does (c .with-sender .ensures) (list-desk (s .args .desk) _ _ (s .args .out .now) (d .send-list .ensures)) (list-text (s .args .desk) _ _ (s .args .out .now) (d .send-list .ensures) (n .number .ensures))
+    does (c .with-sender .ensures) (list-desk (s .args .desk) _ _ (s .args .out .now) (d .send-list .ensures))
+    (list-text (s .args .desk) _ _ (s .args .out .now) (d .send-list .ensures) (n .number .ensures))
     (omega (arith, few, length-take (4 * d .send-list .result .sent) (d .send-list .last .1 .1 .0), list-near _ _ _ (put .list .ensures))) (put .list .ensures)
 
 pub sent-spec : {M : Type 1} → statement M

@@ -27,10 +27,11 @@ use Rattle.requests.specs.Verb.{senderOf, finishOf, sendOf, sampleOf, startOf, 
 use Rattle.protocol.specs.Request.{senderVerb, receiverVerb, finishVerb, sampleVerb, sendVerb, pieceVerb, verbOf, pendingAlone}
 use Rattle.protocol.specs.Request.{lineOf, requestOf, pieceOnly, lineFills, wordFills, coordinatesOf, wordsOf, Reads}
 use Rattle.desk.specs.declared.Desk.{Desk}
+use Rattle.desk.specs.declared.Done.{Done}
 use Rattle.lines.specs.declared.Lab.{Lab}
 use Rattle.lines.specs.declared.Part.{Part}
 use Rattle.answers.specs.Answer.{unreadLine}
-use Rattle.desk.specs.Desk.{Result, says, acting}
+use Rattle.desk.specs.Desk.{Result, says, acting, Acts}
 use Rattle.lines.specs.Line.{Gathered, noPart, named, answering, Replies}
 use Rattle.phrases.proofs.Phrases.{puts-as}
 
@@ -215,3 +216,10 @@ module _ {line : List ℕ} {part : Part} {s : List ℕ} (g : Gathered line part 
 pub replied : {g g' : Result} {lab : Lab} {page : List ℕ} {r : Lab} {page' : List ℕ} → r .desk ≡ g .desk → Puts page (lab .at) (g .text) (r .at) page' → g ≡ g'
     → r .part ≡ noPart → r .on ≡ lab .on → Replies g' lab page r page'
 replied d p e f o = record { desk = d ∙ ap (λ (x : Result). x .desk) e; puts = puts-as (ap (λ (x : Result). x .text) e) p; part = f; on = o }
+
+-- a line that was read and done is answered
+pub line-replied : {lab : Lab} {line s : List ℕ} (g : Gathered line (lab .part) s) {list list' : List ℤ} {words words' page page' : List ℕ} {asked : Request} {done : Done} {none : Part}
+    → lab .part .long ≡ false → length list ≡ 4096 → length words ≡ 4096 → Reads (take (lab .part .held) line) list words asked list' words'
+    → Acts (lab .desk) asked list' words' page (lab .at) done page' → none ≡ noPart
+    → Replies (answering (length line) (lab .desk) s) lab page (record { desk = done .desk; part = none; at = done .at; on = lab .on }) page'
+line-replied {lab} g f h k r a e = replied (a .desk) (a .puts) (line-answered g (lab .desk) f h k r) e refl

@@ -2,7 +2,7 @@
 use mathlib.Core.Path.{refl, sym}
 use lib.Seq.{length-take-le}
 use Rattle.desk.proofs.Desks.{ready}
-use Rattle.lines.proofs.Named.{long-answered, line-answered, replied}
+use Rattle.lines.proofs.Named.{long-answered, line-replied, replied}
 use borrow.Author.Needs.{needs}
 use Rattle.lines.proofs.reply.Statement.{statement}
 use Rattle.lines.proofs.reply.Tie as tie
@@ -50,9 +50,8 @@ returns-2 c =
     let none = read .before .before .before .before .before in
     let start = none .before .before .before .before .before .before in (
       search needs,
-      λ s g. replied (acted .act .ensures .desk) (acted .act .ensures .puts)
-          (line-answered g (start .args .lab .desk) (read .before .before .before .before .if1 .left) (start .pre .0 .coordinates-long) (start .pre .0 .words-long) (read .read .ensures))
-          (none .fresh .ensures .1) refl,
+      λ s g. line-replied {lab = start .args .lab} g (read .before .before .before .before .if1 .left) (start .pre .0 .coordinates-long) (start .pre .0 .words-long)
+          (read .read .ensures) (acted .act .ensures) (none .fresh .ensures .1),
     )
 
 pub reply-spec : {M : Type 1} → statement M

@@ -46,8 +46,11 @@ to-answer c = c .before .before .before .before .before .before .before .before
 abbrev to-refill : tie.Joined1 Inv-loop μ-loop → tie.After-refill Inv-loop μ-loop
 to-refill c = answered (to-answer c)
 
+abbrev last-answer : tie.Else2 Inv-loop μ-loop → tie.After-answer Inv-loop μ-loop
+last-answer c = c .before .before .before .before .before .before .before .before .before .before
+
 abbrev to-in-loop : tie.Else2 Inv-loop μ-loop → tie.In-loop Inv-loop μ-loop
-to-in-loop c = to-refill (c .before .before) .before .before
+to-in-loop c = answered (last-answer c) .before .before
 
 answer-requires : tie.Need-answer-requires Inv-loop μ-loop
 answer-requires c κs =
@@ -85,8 +88,8 @@ loop-less c = omega (arith, to-in-loop c .loop-test .taken)
 loop-again : tie.Need-loop-again Inv-loop μ-loop
 loop-again c =
     let l = to-in-loop c .before .loop .inv in
-    let r = to-refill (c .before .before) .refill in
-    let a = to-answer (c .before .before) .answer in (
+    let r = answered (last-answer c) .refill in
+    let a = last-answer c .answer in (
       (r .kept .1 .0 ∙ l .0 .0, a .kept .1 .1 .0 ∙ l .0 .1, a .kept .1 .1 .1 .0 ∙ l .0 .2),
       (a .kept .1 .1 .1 .1 .0 ∙ l .1 .0, a .kept .1 .1 .1 .1 .1 .0 ∙ l .1 .1),
       (a .ensures .0 .0, omega (arith, a .ensures .0 .1, r .ensures .0 .1, r .kept .1 .0), omega (arith, a .ensures .0 .3, a .kept .1 .1 .0)),

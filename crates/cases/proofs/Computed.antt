@@ -85,7 +85,10 @@ at-work : (row (hearing (freshly 1 Free) (pieceOf (a-a ++ a-a)) 0) ≡ 6 ∷ 0 �
     × (row (finishing (hearing (freshly 64 Free) (pieceOf zeros) 0 .receiver) 0) ≡ 8 ∷ 0 ∷ 0 ∷ 0 ∷ [])
     × (hearing (freshly 64 (At 0)) (pieceOf a-a-five) 5 .words ≡ 0 ∷ [])
     × (hearing (freshly 64 (At 0)) (pieceOf a-a-five) 5 .taken ≡ 5)
-unfolding opening hearing finishing sound soundCore allUpTo opened freshSums running symbolAt faultOf taking agreedOf grown releasedOf oldest sameFrom carried movedWords movedOf tabled followed liveOf reachedOf sumAt stepAt firstStep winner arrive weighedOf costOf bestI3 typeSum counted gapOf near least lineDistance distance pointOf aPoint coordinates secondLabel before between carryI1 carryI2 wayFrom range speak after endOf lastSymbols symbolBy numbersOf keptIn word wordParts packed
+unfolding opening hearing finishing sound soundCore allUpTo opened freshSums running symbolAt faultOf taking agreedOf grown releasedOf oldest sameFrom
+    carried movedWords movedOf tabled followed liveOf reachedOf sumAt stepAt firstStep winner arrive weighedOf costOf bestI3 typeSum counted gapOf
+    near least lineDistance distance pointOf aPoint coordinates secondLabel before between carryI1 carryI2 wayFrom range speak after endOf lastSymbols
+    symbolBy numbersOf keptIn word wordParts packed
 at-work = (refl, refl, refl, refl, refl)
 
 pub window-row : row (hearing (freshly 1 Free) (pieceOf (a-a ++ a-a)) 0) ≡ 6 ∷ 0 ∷ 1 ∷ 0 ∷ []

@@ -242,7 +242,8 @@ module _ (state : List ℕ) (piece : List ℤ) (out told : List ℕ) (yes : hold
     -- where nothing was taken they come back as they were
     unchanged : h .taken ≡ 0 → around state picks ≡ state
     unchanged none =
-        let kept : picks ≡ (picksIn state) = ap (λ (rx : Receiver). rx .picks) (is .receiver ∙ hearing-keeps (receiverIn state) (pieceOf piece) (length out) (sym (is .taken) ∙ none)) ∙ picks-at state yes in
+        let same = is .receiver ∙ hearing-keeps (receiverIn state) (pieceOf piece) (length out) (sym (is .taken) ∙ none) in
+        let kept : picks ≡ (picksIn state) = ap (λ (rx : Receiver). rx .picks) same ∙ picks-at state yes in
         rw (kept, take-append-drop 72 (drop picksAt state)) (take-append-drop picksAt state)
 
     pub lent-kept : h .taken ≡ 0 → Answers (hearCall state piece out told) n (around state picks) o t

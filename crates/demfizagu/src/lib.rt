@@ -260,7 +260,8 @@ pub extern "C" fn demfizagu_hear_recorded(
     bytes: &mut [u8],
     told: &mut [u64],
 ) -> u32
-    ensures { λ r. ⌜ Records (taped.hearCall (now (state .entry)) (now (piece .entry)) (now (out .entry)) (now (bytes .entry)) (now (told .entry))) r (now (state .exit)) (now (out .exit)) (now (bytes .exit)) (now (told .exit)) ⌝ }
+    ensures { λ r. ⌜ Records (taped.hearCall (now (state .entry)) (now (piece .entry)) (now (out .entry)) (now (bytes .entry)) (now (told .entry)))
+        r (now (state .exit)) (now (out .exit)) (now (bytes .exit)) (now (told .exit)) ⌝ }
 {
     taped::hear_recorded(state, piece, out, bytes, told)
 }
@@ -272,7 +273,8 @@ pub extern "C" fn demfizagu_finish_recorded(
     bytes: &mut [u8],
     told: &mut [u64],
 ) -> u32
-    ensures { λ r. ⌜ Records (taped.finishCall (now (state .entry)) (now (out .entry)) (now (bytes .entry)) (now (told .entry))) r (now (state .exit)) (now (out .exit)) (now (bytes .exit)) (now (told .exit)) ⌝ }
+    ensures { λ r. ⌜ Records (taped.finishCall (now (state .entry)) (now (out .entry)) (now (bytes .entry)) (now (told .entry)))
+        r (now (state .exit)) (now (out .exit)) (now (bytes .exit)) (now (told .exit)) ⌝ }
 {
     taped::finish_recorded(state, out, bytes, told)
 }

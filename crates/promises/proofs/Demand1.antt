@@ -46,7 +46,8 @@ use Rattle.promises.specs.End.{End}
 use Rattle.told.specs.Owed.{finishOwed}
 use Rattle.receiver.specs.Promise.{Hears, Finishes}
 use Rattle.promises.specs.Table as table
-use Rattle.promises.proofs.Numbers.{sender-opening-case, sender-opening-is, sending-case, sending-is, opening-case, opening-is, said-case, said-is, piece-case, piece-one, finish-case, finish-is, apart}
+use Rattle.promises.proofs.Numbers.{sender-opening-case, sender-opening-is, sending-case, sending-is}
+use Rattle.promises.proofs.Numbers.{opening-case, opening-is, said-case, said-is, piece-case, piece-one, finish-case, finish-is, apart}
 
 -- ---- the sender
 

@@ -169,7 +169,8 @@ sent-by s word out o e =
     named g (exactly.taken a w l) = refl
 
 -- a list whose `told` has three places
-module _ (state words : List ℕ) (out : List ℤ) (told : List ℕ) (n : ℕ) (state′ : List ℕ) (o : List ℤ) (told′ : List ℕ) (a : library.SendsList (sendListCall state words out told) n state′ o told′) where
+module _ (state words : List ℕ) (out : List ℤ) (told : List ℕ) (n : ℕ) (state′ : List ℕ) (o : List ℤ) (told′ : List ℕ)
+    (a : library.SendsList (sendListCall state words out told) n state′ o told′) where
   record Listed : Type 0 where
     reads : senderIn state′ ≡ sendingList (senderIn state) words out .sender
     out-is : o ≡ sendingList (senderIn state) words out .output
@@ -218,7 +219,8 @@ module _ (k : Accord) where
       (λ e. z (a .number ∙ sym (sent-by (senderIn s) word out o (a .out-is) .number) ∙ e)))
   sent ws ps state (calls.LibrarySends.lists {ws = vs} {ps = qs} {state = s} h words out told long m s′ o told′ a) =
       let d = list-told s words out told m s′ o told′ a long in
-      rw (d .taken-is, d .written-is, d .out-is, d .reads) (run.lists (sent vs qs s h) words out (sendingList (senderIn s) words out .output) (listed (senderIn s) words out) (list-given (senderIn s) words out))
+      rw (d .taken-is, d .written-is, d .out-is, d .reads)
+      (run.lists (sent vs qs s h) words out (sendingList (senderIn s) words out .output) (listed (senderIn s) words out) (list-given (senderIn s) words out))
   sent ws ps state (calls.LibrarySends.short {state = s} h words out told few m s′ o told′ a) =
       subst (run.Talk k ws ps) (sym (list-untold s words out told m s′ o told′ a few)) (sent ws ps s h)
   sent ws ps state (calls.LibrarySends.copied {state = s} h other e) = subst (run.Talk k ws ps) (sym e) (sent ws ps s h)

@@ -44,8 +44,9 @@ same-length-4 c = search needs
 
 returns-2 : tie.Need-returns-2
 returns-2 c =
-    let s = to-start (c .before .before .before .before .before .before .before .before) in
-    let is = rw (c .before .before .before .before .before .before .before .before .before .before .load-sender .ensures) at (c .before .before .before .before .before .before .before .before .send .ensures) in
+    let d = c .before .before .before .before .before .before .before .before in
+    let s = to-start d in
+    let is = rw (d .before .before .load-sender .ensures) at (d .send .ensures) in
     sent-done (now (s .args .state)) (s .args .word) (now (s .args .out)) _ _ _ is (c .before .before .before .before .before .before .number .ensures) _
     (c .before .before .before .before .before .if1 .left) (c .before .before .store-sender .ensures)
 

@@ -21,7 +21,8 @@ mul-tell c =
     let l = d .before .before in
     let e = l .before .before in
     let s = e .before .before .before .before in
-    omega (arith, s .good, list-room (now (s .args .state)) (now (s .args .words)) (now (s .args .out)) (now (s .args .told)) (e .if1 .left) _ _ (rw (l .load-sender .ensures) at (d .send-list .ensures)))
+    let is = rw (l .load-sender .ensures) at (d .send-list .ensures) in
+    omega (arith, s .good, list-room (now (s .args .state)) (now (s .args .words)) (now (s .args .out)) (now (s .args .told)) (e .if1 .left) _ _ is)
 
 tell-requires : tie.Need-tell-requires
 tell-requires c κs = search needs
@@ -46,7 +47,8 @@ returns-2 c =
     let l = d .before .before in
     let e = l .before .before in
     let a = e .before .before .before .before .args in
-    list-none (now (a .state)) (now (a .words)) (now (a .out)) (now (a .told)) (e .if1 .left) _ _ (rw (l .load-sender .ensures) at (d .send-list .ensures)) _ _ (n .number .ensures) (t .tell .ensures) (c .if2 .taken)
+    let is = rw (l .load-sender .ensures) at (d .send-list .ensures) in
+    list-none (now (a .state)) (now (a .words)) (now (a .out)) (now (a .told)) (e .if1 .left) _ _ is _ _ (n .number .ensures) (t .tell .ensures) (c .if2 .taken)
 
 store-sender-requires : tie.Need-store-sender-requires
 store-sender-requires c κs =
@@ -75,7 +77,9 @@ returns-3 c =
     let l = d .before .before in
     let e = l .before .before in
     let a = e .before .before .before .before .args in
-    list-some (now (a .state)) (now (a .words)) (now (a .out)) (now (a .told)) (e .if1 .left) _ _ (rw (l .load-sender .ensures) at (d .send-list .ensures)) _ _ (n .number .ensures) (t .tell .ensures) _ (f .if2 .left) (c .before .before .store-sender .ensures)
+    let is = rw (l .load-sender .ensures) at (d .send-list .ensures) in
+    list-some (now (a .state)) (now (a .words)) (now (a .out)) (now (a .told)) (e .if1 .left) _ _ is _ _ (n .number .ensures) (t .tell .ensures) _
+    (f .if2 .left) (c .before .before .store-sender .ensures)
 
 pub demfizagu-send-list-spec : {M : Type 1} → statement M
 demfizagu-send-list-spec =

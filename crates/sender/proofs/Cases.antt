@@ -71,7 +71,8 @@ module _ (s : Sender) (n : ℕ) (out : List ℤ) where
   unfolding sending
   sends-short r e f h t = refused NoRoom 8 r refl (rw (e, f, lt-leb 4 (length out) h)) t
 
-  pub sends-done : (p q : Point) (t : Sender) (o : List ℤ) → sound s ≡ true → isWord (s .accord .u) n ≡ true → 4 ≤ length out → t ≡ after s n → p ≡ firstPoint (symbolFor s n) → q ≡ secondPoint (symbolFor s n) →
+  pub sends-done : (p q : Point) (t : Sender) (o : List ℤ) → sound s ≡ true → isWord (s .accord .u) n ≡ true → 4 ≤ length out →
+      t ≡ after s n → p ≡ firstPoint (symbolFor s n) → q ≡ secondPoint (symbolFor s n) →
       o ≡ set (set (set (set out 0 (p .x)) 1 (p .y)) 2 (q .x)) 3 (q .y) → Sends s n out (record { sender = t; why = Done }) o
   unfolding sending four
   sends-done p q t o e f h a b c d =

@@ -45,18 +45,18 @@ module _ (s : Sender) (n : ℕ) (out : List ℤ) (e : sending s n out .number �
   pub sent-sound : sound (sending s n out .sender) ≡ true
   sent-sound = let t = done s n out e in ap sound (t .sender) ∙ after-sound s n (ranges s (t .is-open))
 
+-- what a word gives, by the answers to the three questions asked of it in turn
+abbrev givenBy : Sender → ℕ → Bool → Bool → Bool → List ℤ → Given
+givenBy s n a b c out =
+    let given : ℕ → Sender → List ℤ → Given = λ k t o. record { number = k; sender = t; output = o } in
+    cond a (cond b (cond c (given 0 (after s n) (four (symbolFor s n) ++ drop 4 out)) (given 8 s out)) (given 4 s out)) (given 9 s out)
+
 -- the accord stays, whatever is sent
 pub sending-accord : (s : Sender) (n : ℕ) (out : List ℤ) → sending s n out .sender .accord ≡ s .accord
 unfolding sending after
 sending-accord s n out = go (sound s) (isWord (s .accord .u) n) (leb 4 (length out))
   where
-    gives : Bool → Bool → Bool → Given
-    gives a b c =
-        cond a
-        (cond b (cond c (record { number = 0; sender = after s n; output = four (symbolFor s n) ++ drop 4 out }) (record { number = 8; sender = s; output = out })) (record { number = 4; sender = s; output = out }))
-        (record { number = 9; sender = s; output = out })
-
-    go : (a b c : Bool) → gives a b c .sender .accord ≡ s .accord
+    go : (a b c : Bool) → givenBy s n a b c out .sender .accord ≡ s .accord
     go true true true = refl
     go true true false = refl
     go true false c = refl
@@ -74,13 +74,15 @@ closed-word : (s : Sender) (n : ℕ) (out : List ℤ) → sound s ≡ false → 
 unfolding sending
 closed-word s n out e = rw e
 
-pub one-word : (s : Sender) (n : ℕ) (out : List ℤ) → sendingList s (n ∷ []) out ≡ givenList (sending s n out .number) (sending s n out .sender) (cond (eqb (sending s n out .number) 0) 1 0) (sending s n out .output)
+pub one-word : (s : Sender) (n : ℕ) (out : List ℤ) → let g = sending s n out in
+    sendingList s (n ∷ []) out ≡ givenList (g .number) (g .sender) (cond (eqb (g .number) 0) 1 0) (g .output)
 unfolding sendingList sendingAll
 one-word s n out = go (sound s) (eqb (sending s n out .number) 0) refl refl
   where
-    go : (a b : Bool) → sound s ≡ a → eqb (sending s n out .number) 0 ≡ b →
-        cond a (cond b (givenList 0 (sending s n out .sender) (0 + 1) (take 4 (sending s n out .output) ++ drop 4 (sending s n out .output))) (givenList (sending s n out .number) (sending s n out .sender) 0 (sending s n out .output))) (givenList 9 s 0 out)
-        ≡ givenList (sending s n out .number) (sending s n out .sender) (cond b 1 0) (sending s n out .output)
+    go : (a b : Bool) → sound s ≡ a → let g = sending s n out in
+        eqb (g .number) 0 ≡ b →
+        cond a (cond b (givenList 0 (g .sender) (0 + 1) (take 4 (g .output) ++ drop 4 (g .output))) (givenList (g .number) (g .sender) 0 (g .output))) (givenList 9 s 0 out)
+        ≡ givenList (g .number) (g .sender) (cond b 1 0) (g .output)
     go true true e f = rw (eqb-true (sending s n out .number) 0 f, take-append-drop 4 (sending s n out .output))
     go true false e f = refl
     go false true e f = absurd (omega (arith, nine s n out .1 e, eqb-true (sending s n out .number) 0 f))
@@ -88,11 +90,13 @@ one-word s n out = go (sound s) (eqb (sending s n out .number) 0) refl refl
 
 -- ---- the two ways of a word in a list, and of a list
 
-pub onward-by : (P : GivenList → Type 0) (g : Given) (rest : GivenList) → (g .number ≡ 0 → P (givenList (rest .number) (rest .sender) (rest .sent + 1) (take 4 (g .output) ++ rest .output))) →
+pub onward-by : (P : GivenList → Type 0) (g : Given) (rest : GivenList) →
+    (g .number ≡ 0 → P (givenList (rest .number) (rest .sender) (rest .sent + 1) (take 4 (g .output) ++ rest .output))) →
     ((g .number ≡ 0 → ⊥) → P (givenList (g .number) (g .sender) 0 (g .output))) → P (onward g rest)
 onward-by P g rest f h = go (eqb (g .number) 0) refl
   where
-    go : (b : Bool) → eqb (g .number) 0 ≡ b → P (cond b (givenList (rest .number) (rest .sender) (rest .sent + 1) (take 4 (g .output) ++ rest .output)) (givenList (g .number) (g .sender) 0 (g .output)))
+    go : (b : Bool) → eqb (g .number) 0 ≡ b →
+        P (cond b (givenList (rest .number) (rest .sender) (rest .sent + 1) (take 4 (g .output) ++ rest .output)) (givenList (g .number) (g .sender) 0 (g .output)))
     go true e = f (eqb-true (g .number) 0 e)
     go false e = h (eqb-false (g .number) 0 e)
 
@@ -124,16 +128,16 @@ first-more g e l r ns = rw (eq-eqb (g .number) 0 e) (go (eqb (r .number) 0))
     times : 4 * (r .sent + 1) ≡ length (take 4 (g .output)) + 4 * r .sent
     times = rw many (omega arith)
 
-    go : (b : Bool) → givenList (cond b (gone (r .sent) (take (4 * r .sent) (r .output)) (sendingAll (r .sender) ns (drop (4 * r .sent) (r .output)))) r .number)
-        (cond b (gone (r .sent) (take (4 * r .sent) (r .output)) (sendingAll (r .sender) ns (drop (4 * r .sent) (r .output)))) r .sender)
-        (cond b (gone (r .sent) (take (4 * r .sent) (r .output)) (sendingAll (r .sender) ns (drop (4 * r .sent) (r .output)))) r .sent + 1)
-        (take 4 (g .output) ++ cond b (gone (r .sent) (take (4 * r .sent) (r .output)) (sendingAll (r .sender) ns (drop (4 * r .sent) (r .output)))) r .output)
-        ≡ cond b (gone (r .sent + 1) (take (4 * (r .sent + 1)) (take 4 (g .output) ++ r .output)) (sendingAll (r .sender) ns (drop (4 * (r .sent + 1)) (take 4 (g .output) ++ r .output))))
-        (givenList (r .number) (r .sender) (r .sent + 1) (take 4 (g .output) ++ r .output))
+    go : (b : Bool) → let j = cond b (gone (r .sent) (take (4 * r .sent) (r .output)) (sendingAll (r .sender) ns (drop (4 * r .sent) (r .output)))) r in
+        let o = take 4 (g .output) ++ r .output in
+        givenList (j .number) (j .sender) (j .sent + 1) (take 4 (g .output) ++ j .output)
+        ≡ cond b (gone (r .sent + 1) (take (4 * (r .sent + 1)) o) (sendingAll (r .sender) ns (drop (4 * (r .sent + 1)) o))) (givenList (r .number) (r .sender) (r .sent + 1) o)
     go true =
         let rest = sendingAll (r .sender) ns (drop (4 * r .sent) (r .output)) in
-        let d : drop (4 * (r .sent + 1)) (take 4 (g .output) ++ r .output) ≡ drop (4 * r .sent) (r .output) = rw times (drop-append-add (take 4 (g .output)) (r .output) (4 * r .sent)) in
-        let t : take (4 * (r .sent + 1)) (take 4 (g .output) ++ r .output) ≡ take 4 (g .output) ++ take (4 * r .sent) (r .output) = rw times (take-append-add (take 4 (g .output)) (r .output) (4 * r .sent)) in
+        let d : drop (4 * (r .sent + 1)) (take 4 (g .output) ++ r .output) ≡ drop (4 * r .sent) (r .output) =
+        rw times (drop-append-add (take 4 (g .output)) (r .output) (4 * r .sent)) in
+        let t : take (4 * (r .sent + 1)) (take 4 (g .output) ++ r .output) ≡ take 4 (g .output) ++ take (4 * r .sent) (r .output) =
+        rw times (take-append-add (take 4 (g .output)) (r .output) (4 * r .sent)) in
         let c : r .sent + rest .sent + 1 ≡ r .sent + 1 + rest .sent = omega arith in
         rw (d, t) (ap₂ (givenList (rest .number) (rest .sender)) c (sym (append-assoc (take 4 (g .output)) (take (4 * r .sent) (r .output)) (rest .output))))
     go false = refl
@@ -148,8 +152,9 @@ cut s [] ns out = ap (λ (k : ℕ). givenList (sendingAll s ns out .number) (sen
 cut s (n ∷ ms) ns out =
     go (eqb (sending s n out .number) 0) refl (cut (sending s n out .sender) ms ns (drop 4 (sending s n out .output)))
   where
-    go : (b : Bool) → eqb (sending s n out .number) 0 ≡ b → sendingAll (sending s n out .sender) (ms ++ ns) (drop 4 (sending s n out .output)) ≡ joined (sendingAll (sending s n out .sender) ms (drop 4 (sending s n out .output))) ns →
-        onward (sending s n out) (sendingAll (sending s n out .sender) (ms ++ ns) (drop 4 (sending s n out .output))) ≡ joined (onward (sending s n out) (sendingAll (sending s n out .sender) ms (drop 4 (sending s n out .output)))) ns
+    go : (b : Bool) → let g = sending s n out in let rest = drop 4 (g .output) in
+        eqb (g .number) 0 ≡ b → sendingAll (g .sender) (ms ++ ns) rest ≡ joined (sendingAll (g .sender) ms rest) ns →
+        onward g (sendingAll (g .sender) (ms ++ ns) rest) ≡ joined (onward g (sendingAll (g .sender) ms rest)) ns
     go true e ih =
         let z = eqb-true (sending s n out .number) 0 e in
         ap (onward (sending s n out)) ih ∙ first-more (sending s n out) z (sent-room s n out z) _ ns
@@ -231,7 +236,8 @@ end words out₀ s₀ out s sent why g past =
 
 -- a turn of the loop: the word at `sent` goes into the rest of the output
 module _ (words : List ℕ) (out₀ : List ℤ) (s₀ : Sender) (out : List ℤ) (s : Sender) (sent : ℕ) (why : Why) (g : Going words out₀ s₀ out s sent why) (more : sent < length words)
-    (r : Sent) (ys : List ℤ) (was : Sends s (getD words sent 0) (take (length out - 4 * sent) (drop (4 * sent) out)) r ys) (kept : length ys ≡ length (take (length out - 4 * sent) (drop (4 * sent) out))) where
+    (r : Sent) (ys : List ℤ) (was : Sends s (getD words sent 0) (take (length out - 4 * sent) (drop (4 * sent) out)) r ys)
+    (kept : length ys ≡ length (take (length out - 4 * sent) (drop (4 * sent) out))) where
   abbrev n : ℕ
   n = getD words sent 0
 
@@ -267,7 +273,8 @@ module _ (words : List ℕ) (out₀ : List ℤ) (s₀ : Sender) (out : List ℤ)
   unfolding sendingAll
   once =
       ap (λ (l : List ℕ). sendingAll s l rest) words-are
-      ∙ (λ i. onward (record { number = sym (is .number) i; sender = sym (is .sender) i; output = sym (is .output) i }) (sendingAll (sym (is .sender) i) (drop (sent + 1) words) (drop 4 (sym (is .output) i))))
+      ∙ (λ i. onward (record { number = sym (is .number) i; sender = sym (is .sender) i; output = sym (is .output) i })
+      (sendingAll (sym (is .sender) i) (drop (sent + 1) words) (drop 4 (sym (is .output) i))))
 
   pub stop : (numberOf (r .why) ≡ 0 → ⊥) → SendsList s₀ words out₀ (record { sender = r .sender; sent = sent; why = r .why }) back
   stop h =
@@ -403,13 +410,7 @@ alike-word : (s : Sender) (n : ℕ) (out out' : List ℤ) → length out ≡ len
 unfolding sending four
 alike-word s n out out' e = rw (← e) (by (sound s) (isWord (s .accord .u) n) (leb 4 (length out)))
   where
-    gives : Bool → Bool → Bool → List ℤ → Given
-    gives a b c o =
-        cond a
-        (cond b (cond c (record { number = 0; sender = after s n; output = four (symbolFor s n) ++ drop 4 o }) (record { number = 8; sender = s; output = o })) (record { number = 4; sender = s; output = o }))
-        (record { number = 9; sender = s; output = o })
-
-    by : (a b c : Bool) → AlikeWord (gives a b c out) (gives a b c out')
+    by : (a b c : Bool) → AlikeWord (givenBy s n a b c out) (givenBy s n a b c out')
     by true true true = record { number = refl; sender = refl; written = λ _. refl }
     by true true false = record { number = refl; sender = refl; written = λ z. absurd (omega arith) }
     by true false c = record { number = refl; sender = refl; written = λ z. absurd (omega arith) }
@@ -432,7 +433,9 @@ onward-alike g h q r w l m a = rw (← w .number) (go (eqb (g .number) 0) refl)
           number = a .number;
           sender = a .sender;
           sent = ap (λ (k : ℕ). k + 1) (a .sent);
-          written = wrote (g .output) (q .output) (q .sent) (l z) ∙ ap₂ (λ (x y : List ℤ). x ++ y) (w .written z) (a .written) ∙ sym (wrote (h .output) (r .output) (r .sent) (m (sym (w .number) ∙ z)));
+          written =
+              wrote (g .output) (q .output) (q .sent) (l z) ∙ ap₂ (λ (x y : List ℤ). x ++ y) (w .written z) (a .written)
+              ∙ sym (wrote (h .output) (r .output) (r .sent) (m (sym (w .number) ∙ z)));
         }
     go false e = record { number = refl; sender = w .sender; sent = refl; written = refl }
 
@@ -445,7 +448,8 @@ all-alike s (n ∷ ns) out out' e =
     let w = alike-word s n out out' e in
     let l : length (drop 4 (g .output)) ≡ length (drop 4 (h .output)) = rw (length-drop 4 (g .output), length-drop 4 (h .output), sending-length s n out, sending-length s n out', e) in
     onward-alike g h _ _ w (sent-room s n out) (sent-room s n out')
-    (subst (λ (t : Sender). Alike (sendingAll (g .sender) ns (drop 4 (g .output))) (sendingAll t ns (drop 4 (h .output)))) (w .sender) (all-alike (g .sender) ns (drop 4 (g .output)) (drop 4 (h .output)) l))
+    (subst (λ (t : Sender). Alike (sendingAll (g .sender) ns (drop 4 (g .output))) (sendingAll t ns (drop 4 (h .output)))) (w .sender)
+    (all-alike (g .sender) ns (drop 4 (g .output)) (drop 4 (h .output)) l))
 
 pub list-alike : (s : Sender) (ns : List ℕ) (out out' : List ℤ) → length out ≡ length out' → Alike (sendingList s ns out) (sendingList s ns out')
 unfolding sendingList
@@ -458,7 +462,8 @@ list-alike s ns out out' e = go (sound s)
 -- ---- the loop's numbers, and the doors
 
 -- a list of the sender s, whose numbers were given to the loop
-pub went-as : (s : Sender) (ns : List ℕ) (out : List ℤ) → sound s ≡ true → (r : SentList) (o : List ℤ) → SendsList (senderAt (s .accord .u) (s .turn) (s .state)) ns out r o → SendsList s ns out r o
+pub went-as : (s : Sender) (ns : List ℕ) (out : List ℤ) → sound s ≡ true → (r : SentList) (o : List ℤ)
+    → SendsList (senderAt (s .accord .u) (s .turn) (s .state)) ns out r o → SendsList s ns out r o
 went-as s ns out e r o p = subst (λ (t : Sender). SendsList t ns out r o) (sym (at-is s (s .accord .u) e refl)) p
 
 -- the loop began with s, and its sender t is given back as its numbers

@@ -66,7 +66,8 @@ record Follows (ac : Accord) (ws : List ℕ) (ps : List ℤ) (s : Sender) : Type
   state : s .state ≡ ending 0 cs
 
 -- a sender that accepts a word follows the run with that word's symbol
-step : (ac : Accord) (ws : List ℕ) (ps : List ℤ) (s : Sender) (n : ℕ) (out : List ℤ) → Follows ac ws ps s → Taken s n out → Follows ac (ws ++ (n ∷ [])) (ps ++ take 4 (sending s n out .output)) (sending s n out .sender)
+step : (ac : Accord) (ws : List ℕ) (ps : List ℤ) (s : Sender) (n : ℕ) (out : List ℤ) → Follows ac ws ps s → Taken s n out
+    → Follows ac (ws ++ (n ∷ [])) (ps ++ take 4 (sending s n out .output)) (sending s n out .sender)
 unfolding after
 step ac ws ps s n out f t =
     let c = symbolFor s n in
@@ -117,7 +118,8 @@ module _ (P : List ℕ → List ℤ → Sender → Type 0)
       let front : List ℤ = take 4 (x .output) in
       let g : GivenList = sendingAll (x .sender) ns (drop 4 (x .output)) in
       onward-by (After ws ps (n ∷ ns)) x g
-      (λ z. rw (wrote-as ps (x .output) (g .output) (g .sent) (sent-room s n out z), sent-as ws n ns (g .sent)) (along-all ns (ws ++ (n ∷ [])) (ps ++ front) (x .sender) (drop 4 (x .output)) (more ws ps s n out p (done s n out z))))
+      (λ z. rw (wrote-as ps (x .output) (g .output) (g .sent) (sent-room s n out z), sent-as ws n ns (g .sent))
+      (along-all ns (ws ++ (n ∷ [])) (ps ++ front) (x .sender) (drop 4 (x .output)) (more ws ps s n out p (done s n out z))))
       (λ h. none ws ps (n ∷ ns) (x .sender) (x .number) (x .output) (rw (refused-keeps s n out h .0) p))
 
   along-list : (ns ws : List ℕ) (ps : List ℤ) (s : Sender) (out : List ℤ) → P ws ps s → After ws ps ns (sendingList s ns out)

@@ -21,7 +21,8 @@ pub struct Symbol {
 
 pub fn make(table: &[i8; 512], u: u32, state: u32, turn: u32, word: u32) -> Symbol
     requires { ⌜ (now table ≡ coordinates) × (u ≤ 8) × (state < 16) × (turn < 4) ⌝ }
-    ensures { λ r. ⌜ r ≡ record { turn = firstLabel (symbolOf u state turn word); state = nextState state (symbolOf u state turn word .i1) (symbolOf u state turn word .i2); first = firstPoint (symbolOf u state turn word); second = secondPoint (symbolOf u state turn word) } ⌝ }
+    ensures { λ r. ⌜ (let y = symbolOf u state turn word in
+        r ≡ record { turn = firstLabel y; state = nextState state (y .i1) (y .i2); first = firstPoint y; second = secondPoint y }) ⌝ }
 {
     let p = wei::word::unpack(u, word);
     let q = wei::label::turn_on(turn, p.i2, p.i3);

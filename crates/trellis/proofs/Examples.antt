@@ -70,7 +70,9 @@ module _ (n : ℕ → ℕ) (rises : Rises n) where
 
 -- all rows at once, and what was counted whole
 all-computed : (map (computed counted) (healed ∷ table) ≡ map written (healed ∷ table)) × (computed whole misled ≡ written misled)
-unfolding table computed written lcps lcp live row choose better range gap counted whole farOf firstFar secondFar bestOf bestI3 typeSum gapOf near least symbolsFrom symbolOf unpacked nextState firstPoint secondPoint lastLabel secondLabel before carryI1 carryI2 pointOf aPoint coordinates sameSymbol speak word wordParts packed
+unfolding table computed written lcps lcp live row choose better range gap counted whole farOf firstFar secondFar bestOf bestI3 typeSum gapOf near
+    least symbolsFrom symbolOf unpacked nextState firstPoint secondPoint lastLabel secondLabel before carryI1 carryI2 pointOf aPoint coordinates
+    sameSymbol speak word wordParts packed
 all-computed = (refl, refl)
 
 pub rows-hold : Every (Holds counted) (healed ∷ table)

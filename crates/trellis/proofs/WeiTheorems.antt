@@ -61,7 +61,8 @@ module _ {P : Type 0} (u : ℕ) (d : P → ℕ → ℕ → ℕ) (n : ℕ → ℕ
   pub T4-only : GoodStart b → (xs : List (Two P)) (l : List Symbol) → Longest (weiCode u (pairs P d n) b) (reverse xs) l → l ≡ common (pairSearch u d n b) (reverse xs)
   T4-only g = general.T4-only (pairSearch u d n b) laws (onward g)
 
-  pub T4-grows : GoodStart b → (xs zs : List (Two P)) (l m : List Symbol) → Longest (weiCode u (pairs P d n) b) (reverse xs) l → Longest (weiCode u (pairs P d n) b) (reverse (xs ++ zs)) m → IsPrefix l m
+  pub T4-grows : GoodStart b → (xs zs : List (Two P)) (l m : List Symbol) → Longest (weiCode u (pairs P d n) b) (reverse xs) l
+      → Longest (weiCode u (pairs P d n) b) (reverse (xs ++ zs)) m → IsPrefix l m
   T4-grows g = general.T4-grows (pairSearch u d n b) laws (onward g)
 
   pub T4-newest : GoodStart b → (xs : List (Two P)) (y : Two P) → reach (pairSearch u d n b) (reverse (xs ++ (y ∷ []))) ≤ length xs

@@ -107,7 +107,8 @@ struckAt (suc k) (y ∷ ys) = y ∷ struckAt k ys
 abbrev pub struck : List (Two Point)
 struck = struckAt 2 (clean sent)
 
--- counted whole, the spark forces its point to A: three words are wrong
+-- counted whole, the spark forces its point to A: three words are wrong. Ties go by 02's order, as everywhere here; at width 0 a label
+-- has one point, so it is 01's order too
 abbrev pub misled : Row
 misled = record { width = 0; start = named 0; received = struck; spoken = 7 ∷ []; answer = 7 ∷ 6 ∷ 5 ∷ 7 ∷ 6 ∷ 0 ∷ [] }
 

@@ -28,7 +28,8 @@ returns : tie.Need-returns
 returns c =
     let t = c .before in
     let s = t .before .before in
-    sends-bad (s .args .s) (s .args .word) (now (s .args .out)) (c .refuse .result) (s .pre .1) (sym (t .before .is-word .ensures) ∙ not-true (t .before .is-word .result) (t .if1 .taken)) (c .refuse .ensures)
+    sends-bad (s .args .s) (s .args .word) (now (s .args .out)) (c .refuse .result) (s .pre .1)
+    (sym (t .before .is-word .ensures) ∙ not-true (t .before .is-word .result) (t .if1 .taken)) (c .refuse .ensures)
 
 refuse-requires-2 : tie.Need-refuse-requires-2
 refuse-requires-2 c κs = search needs
@@ -56,7 +57,8 @@ returns-3 c =
     let s = t .before .before .before in
     let e = m .make .ensures in
     sends-done (s .args .s) (s .args .word) (now (s .args .out)) (m .make .result .first) (m .make .result .second) _ _ (s .pre .1) (word-is (t .before)) (t .if2 .left)
-    (λ i. record { live = true; accord = s .args .s .accord; turn = e i .turn; state = e i .state }) (ap (λ (y : Symbol). y .first) e) (ap (λ (y : Symbol). y .second) e) (c .before .before .put .ensures)
+    (λ i. record { live = true; accord = s .args .s .accord; turn = e i .turn; state = e i .state })
+    (ap (λ (y : Symbol). y .first) e) (ap (λ (y : Symbol). y .second) e) (c .before .before .put .ensures)
 
 pub send-word-spec : {M : Type 1} → statement M
 send-word-spec =

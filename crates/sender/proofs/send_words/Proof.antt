@@ -85,7 +85,8 @@ same-length-2 c =
     let m = d .before .before .before .before in
     let l = m .before in
     let a = l .before .before .before .before .args in
-    back-long (now (a .words)) (now (a .out)) (l .before .sender-at .result) _ _ _ _ (l .loop .inv) (m .loop-test .taken) (d .send-word .result) _ (d .send-word .ensures) (d .send-word .kept .1 .1 .1 .0)
+    back-long (now (a .words)) (now (a .out)) (l .before .sender-at .result) _ _ _ _ (l .loop .inv) (m .loop-test .taken)
+    (d .send-word .result) _ (d .send-word .ensures) (d .send-word .kept .1 .1 .1 .0)
 
 returns-2 : tie.Need-returns-2 Inv-loop μ-loop
 returns-2 c =

@@ -1,5 +1,5 @@
 -- The outcomes of an opening and of a word sent, one law each over plain values, in the order of the tests.
-use mathlib.Core.Path.{_≡_, refl, sym, ap, ap₂, subst, _∙_}
+use mathlib.Core.Path.{_≡_, refl, sym, ap, subst, _∙_}
 use mathlib.Core.Bool.{true, false}
 use mathlib.Core.List.{List, [], _∷_, _++_}
 use Prim.Native.Nat.{ℕ, _+_, _≤_, _<_}
@@ -7,9 +7,11 @@ use native.Mathlib.Omega.{arith}
 use borrow.Author.Tests.{le-leb, lt-leb}
 use lib.IntN.{ℤ}
 use lib.ListN.{length, drop, set}
-use Rattle.points.specs.declared.Point.{Point}
 use Rattle.points.specs.Pair.{firstPoint, secondPoint}
+use Rattle.wei.specs.State.{nextState}
+use Rattle.wei.specs.Symbol.{firstLabel}
 use Rattle.wei.specs.Word.{isWord}
+use Rattle.symbols.specs.declared.Symbol.{Symbol as Made}
 use Rattle.points.specs.declared.Accord.{Accord}
 use Rattle.points.specs.Agreed.{isAccord}
 use Rattle.sender.specs.declared.Sender.{Sender}
@@ -71,11 +73,16 @@ module _ (s : Sender) (n : ℕ) (out : List ℤ) where
   unfolding sending
   sends-short r e f h t = refused NoRoom 8 r refl (rw (e, f, lt-leb 4 (length out) h)) t
 
-  pub sends-done : (p q : Point) (t : Sender) (o : List ℤ) → sound s ≡ true → isWord (s .accord .u) n ≡ true → 4 ≤ length out →
-      t ≡ after s n → p ≡ firstPoint (symbolFor s n) → q ≡ secondPoint (symbolFor s n) →
-      o ≡ set (set (set (set out 0 (p .x)) 1 (p .y)) 2 (q .x)) 3 (q .y) → Sends s n out (record { sender = t; why = Done }) o
-  unfolding sending four
-  sends-done p q t o e f h a b c d =
-      sends (record { sender = t; why = Done }) o (record { number = 0; sender = after s n; output = four (symbolFor s n) ++ drop 4 out })
-      (rw (e, f, le-leb 4 (length out) h)) refl a
-      (d ∙ stored out (p .x) (p .y) (q .x) (q .y) h ∙ ap₂ (λ (v w : Point). v .x ∷ v .y ∷ w .x ∷ w .y ∷ drop 4 out) b c)
+  -- y is what `symbols::make` promises
+  pub sends-done : (y : Made) (o : List ℤ) → sound s ≡ true → isWord (s .accord .u) n ≡ true → 4 ≤ length out →
+      (let c = symbolFor s n in
+      y ≡ record { turn = firstLabel c; state = nextState (s .state) (c .i1) (c .i2); first = firstPoint c; second = secondPoint c }) →
+      o ≡ set (set (set (set out 0 (y .first .x)) 1 (y .first .y)) 2 (y .second .x)) 3 (y .second .y) →
+      Sends s n out (record { sender = record { live = true; accord = s .accord; turn = y .turn; state = y .state }; why = Done }) o
+  unfolding sending four after
+  sends-done y o e f h m d =
+      let now : Sender = record { live = true; accord = s .accord; turn = y .turn; state = y .state } in
+      sends (record { sender = now; why = Done }) o (record { number = 0; sender = after s n; output = four (symbolFor s n) ++ drop 4 out })
+      (rw (e, f, le-leb 4 (length out) h)) refl (λ i. record { live = true; accord = s .accord; turn = m i .turn; state = m i .state })
+      (d ∙ stored out (y .first .x) (y .first .y) (y .second .x) (y .second .y) h
+      ∙ ap (λ (z : Made). z .first .x ∷ z .first .y ∷ z .second .x ∷ z .second .y ∷ drop 4 out) m)

@@ -11,20 +11,19 @@
 use mathlib.Core.Path.{_≡_, refl, sym, ap, ap₂, subst, _∙_}
 use mathlib.Core.Bool.{Bool, true, false, cond, _&&_}
 use mathlib.Core.List.{List, [], _∷_, _++_, append-assoc, append-nil}
-use Prim.Native.Nat.{ℕ, suc, _+_, _-_, _*_, _≤_, _<_}
-use native.Mathlib.Nat.{add-zero, zero-add, mul-suc}
+use Prim.Native.Nat.{ℕ, _+_, _-_, _*_, _≤_, _<_}
+use native.Mathlib.Nat.{add-zero, zero-add}
 use native.Mathlib.Numerals.{add-one}
 use native.Mathlib.Omega.{arith}
 use borrow.Author.Tests.{eq-eqb, ne-eqb, eqb-true, eqb-false}
 use lib.Dec.{eqb, leb}
 use lib.IntN.{ℤ}
 use lib.ListN.{getD, length, take, drop, length-append, length-drop, take-append-drop, drop-of-length-le}
-use lib.Seq.{length-take-le, take-all, take-at, drop-at, drop-drop, take-append-add, drop-append-add, drop-cons}
+use lib.Seq.{length-take-le, take-all, take-append-add, drop-append-add, drop-cons}
 use Rattle.points.specs.declared.Accord.{Accord}
 use Rattle.sender.specs.declared.Sender.{Sender}
 use Rattle.sender.specs.declared.Sent.{Sent}
 use Rattle.sender.specs.declared.SentList.{SentList}
-use Rattle.sender.specs.declared.Went.{Went}
 use Rattle.sender.specs.declared.Why.{Why}
 use Rattle.sender.specs.declared.Why.the-variants.{Done, Closed}
 use Rattle.wei.specs.Word.{isWord}
@@ -33,7 +32,7 @@ use Rattle.sender.specs.SendList.{GivenList, givenList, onward, sendingA
 use Rattle.sender.specs.Promise.{Sends, SendsList}
 use Rattle.sender.specs.Loop.{senderAt, listBy}
 use Rattle.sender.proofs.Sound.{ranges, after-sound}
-use Rattle.sender.proofs.Exactly.{Taken, done, nine, refused-keeps}
+use Rattle.sender.proofs.Exactly.{done, nine, refused-keeps}
 
 -- ---- one word
 

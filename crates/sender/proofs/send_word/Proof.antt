@@ -1,10 +1,8 @@
 -- `send_word`: the three outcomes of an open sender, each by its law.
-use mathlib.Core.Path.{_≡_, sym, ap, _∙_}
+use mathlib.Core.Path.{_≡_, sym, _∙_}
 use mathlib.Core.Bool.{true}
 use borrow.Author.Tests.{not-true, not-false}
 use denote.Ref.{now}
-use Rattle.symbols.specs.declared.Symbol.{Symbol}
-use Rattle.sender.specs.Send.{after}
 use Rattle.wei.specs.Word.{isWord}
 use Rattle.sender.proofs.Sound.{Ranges, ranges, wide}
 use Rattle.sender.proofs.Cases.{sends-bad, sends-short, sends-done}
@@ -50,15 +48,11 @@ same-length : tie.Need-same-length
 same-length c = search needs
 
 returns-3 : tie.Need-returns-3
-unfolding after
 returns-3 c =
     let m = c .before .before .before .before in
     let t = m .before in
     let s = t .before .before .before in
-    let e = m .make .ensures in
-    sends-done (s .args .s) (s .args .word) (now (s .args .out)) (m .make .result .first) (m .make .result .second) _ _ (s .pre .1) (word-is (t .before)) (t .if2 .left)
-    (λ i. record { live = true; accord = s .args .s .accord; turn = e i .turn; state = e i .state })
-    (ap (λ (y : Symbol). y .first) e) (ap (λ (y : Symbol). y .second) e) (c .before .before .put .ensures)
+    sends-done (s .args .s) (s .args .word) (now (s .args .out)) (m .make .result) _ (s .pre .1) (word-is (t .before)) (t .if2 .left) (m .make .ensures) (c .before .before .put .ensures)
 
 pub send-word-spec : {M : Type 1} → statement M
 send-word-spec =

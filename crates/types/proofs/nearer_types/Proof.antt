@@ -33,7 +33,12 @@ nearer-type-requires-8 : tie.Need-nearer-type-requires-8
 nearer-type-requires-8 c κs = search needs
 
 -- the eight choices, as rows
-rows : (n : ℕ → ℕ → ℕ → Nearer) (s0 s1 s2 s3 s4 s5 s6 s7 : Nearer) → s0 ≡ n 0 0 0 → s1 ≡ n 0 0 1 → s2 ≡ n 0 1 0 → s3 ≡ n 0 1 1 → s4 ≡ n 1 0 0 → s5 ≡ n 1 0 1 → s6 ≡ n 1 1 0 → s7 ≡ n 1 1 1 → record { costs = s0 .cost ∷ s1 .cost ∷ s2 .cost ∷ s3 .cost ∷ s4 .cost ∷ s5 .cost ∷ s6 .cost ∷ s7 .cost ∷ []; i3 = s0 .i3 ∷ s1 .i3 ∷ s2 .i3 ∷ s3 .i3 ∷ s4 .i3 ∷ s5 .i3 ∷ s6 .i3 ∷ s7 .i3 ∷ [] } ≡ choicesOf n
+rows : (n : ℕ → ℕ → ℕ → Nearer) (s0 s1 s2 s3 s4 s5 s6 s7 : Nearer)
+    → s0 ≡ n 0 0 0 → s1 ≡ n 0 0 1 → s2 ≡ n 0 1 0 → s3 ≡ n 0 1 1 → s4 ≡ n 1 0 0 → s5 ≡ n 1 0 1 → s6 ≡ n 1 1 0 → s7 ≡ n 1 1 1
+    → record {
+      costs = s0 .cost ∷ s1 .cost ∷ s2 .cost ∷ s3 .cost ∷ s4 .cost ∷ s5 .cost ∷ s6 .cost ∷ s7 .cost ∷ [];
+      i3 = s0 .i3 ∷ s1 .i3 ∷ s2 .i3 ∷ s3 .i3 ∷ s4 .i3 ∷ s5 .i3 ∷ s6 .i3 ∷ s7 .i3 ∷ [];
+    } ≡ choicesOf n
 rows n s0 s1 s2 s3 s4 s5 s6 s7 e0 e1 e2 e3 e4 e5 e6 e7 = rw (e0, e1, e2, e3, e4, e5, e6, e7)
 
 returns : tie.Need-returns

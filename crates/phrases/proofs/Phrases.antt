@@ -172,8 +172,11 @@ module _ (g : Reason) (n : ℕ) (is : n ≡ g .number) where
 
 -- ---- coordinates, in the same way
 
-pub one-whole-more : (zs : List ℤ) (i : ℕ) → i < length zs → afterSpaces (map whole (take i zs)) ++ (bytes " " ++ whole (getD zs i (pos 0))) ≡ afterSpaces (map whole (take (i + 1) zs))
-one-whole-more zs i h = sym (rw (add-one, take-suc zs i (pos 0) h, map-append whole (take i zs), spaces-snoc) (append-assoc (afterSpaces (map whole (take i zs))) (32 ∷ []) (whole (getD zs i (pos 0)))))
+pub one-whole-more : (zs : List ℤ) (i : ℕ) → i < length zs
+    → afterSpaces (map whole (take i zs)) ++ (bytes " " ++ whole (getD zs i (pos 0))) ≡ afterSpaces (map whole (take (i + 1) zs))
+one-whole-more zs i h =
+    sym (rw (add-one, take-suc zs i (pos 0) h, map-append whole (take i zs), spaces-snoc)
+    (append-assoc (afterSpaces (map whole (take i zs))) (32 ∷ []) (whole (getD zs i (pos 0)))))
 
 pub all-wholes : (zs : List ℤ) (i : ℕ) → length zs ≤ i → afterSpaces (map whole (take i zs)) ≡ afterSpaces (map whole zs)
 all-wholes zs i h = rw (take-all i zs h)

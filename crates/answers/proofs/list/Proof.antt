@@ -33,7 +33,11 @@ returns c =
     let y = m .before .before .before .before in
     let k = y .before .before .before .before in
     let near = coordinates-near _ (s .said-wholes .ensures) in
-    joined (omega arith) (joined (omega arith) (joined (omega arith) (joined (omega arith) (says-number (k .put-number .ensures)) (y .put-byte .ensures)) (says-number (m .put-number2 .ensures))) (s .said-wholes .ensures)) (c .before .before .end .ensures)
+    joined (omega arith)
+    (joined (omega arith)
+    (joined (omega arith) (joined (omega arith) (says-number (k .put-number .ensures)) (y .put-byte .ensures)) (says-number (m .put-number2 .ensures)))
+    (s .said-wholes .ensures))
+    (c .before .before .end .ensures)
 
 pub list-spec : {M : Type 1} → statement M
 list-spec =

@@ -20,9 +20,10 @@ same-length c = search needs
 
 returns : tie.Need-returns
 returns c =
-    let short = decimal-short (c .before .before .before .before .before .before .before .before .before .before .before .before .before .args .k) in
-    joined (omega arith) (joined (omega arith) (c .before .before .before .before .before .before .before .before .before .before .put-byte .ensures)
-    (c .before .before .before .before .before .before .place .ensures)) (c .before .before .end .ensures)
+    let d = c .before .before .before .before .before .before in
+    let b = d .before .before .before .before in
+    let short = decimal-short (b .before .before .before .args .k) in
+    joined (omega arith) (joined (omega arith) (b .put-byte .ensures) (d .place .ensures)) (c .before .before .end .ensures)
 
 pub refused-spec : {M : Type 1} → statement M
 refused-spec =

@@ -23,11 +23,11 @@ same-length c = search needs
 
 returns : tie.Need-returns
 returns c =
+    let m = c .before .before .before .before .before .before in
+    let y = m .before .before .before .before in
+    let k = y .before .before .before .before in
     joined (omega arith)
-    (joined (omega arith) (joined (omega arith)
-    (says-number (c .before .before .before .before .before .before .before .before .before .before .before .before .before .before .put-number .ensures))
-    (c .before .before .before .before .before .before .before .before .before .before .put-byte .ensures)) (says-number
-    (c .before .before .before .before .before .before .put-number2 .ensures)))
+    (joined (omega arith) (joined (omega arith) (says-number (k .put-number .ensures)) (y .put-byte .ensures)) (says-number (m .put-number2 .ensures)))
     (c .before .before .put-byte2 .ensures)
 
 pub counts-spec : {M : Type 1} → statement M

@@ -22,7 +22,9 @@ same-length : tie.Need-same-length
 same-length c = search needs
 
 returns-2 : tie.Need-returns-2
-returns-2 c = puts-as (some-coordinates _ (c .before .before .before .before .before .before .before .before .before .if1 .left)) (joined (omega arith) (c .before .before .before .before .before .before .put-text .ensures) (c .before .before .wholes .ensures))
+returns-2 c =
+    let m = c .before .before .before .before .before .before in
+    puts-as (some-coordinates _ (m .before .before .before .if1 .left)) (joined (omega arith) (m .put-text .ensures) (c .before .before .wholes .ensures))
 
 pub said-wholes-spec : {M : Type 1} → statement M
 said-wholes-spec =

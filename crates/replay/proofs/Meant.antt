@@ -47,7 +47,8 @@ use Rattle.replay_step.specs.declared.Judge.{Judge}
 use Rattle.replay_step.specs.Judging as code
 use Rattle.replay_step.specs.Judging.{State, stateOf, left, leftOf, took}
 use Rattle.replay.specs.declared.Replay.{Replay}
-use Rattle.replay.specs.Meaning.{Line, closed, told, Seen, nothingSeen, fault, went, answered, room, opened, opens, hears, ends, unlessDue, says, byRole, upon, taking, takings, atEnd, closingAt, closing, verdictOf}
+use Rattle.replay.specs.Meaning.{Line, closed, told, Seen, nothingSeen, fault, went, answered, room, opened, opens, hears, ends}
+use Rattle.replay.specs.Meaning.{unlessDue, says, byRole, upon, taking, takings, atEnd, closingAt, closing, verdictOf}
 use Rattle.replay.specs.Course.{Course, isWhole, agreed, feedings, ended, unlessLeft, replayOf, freshReplay, cappedVerdict}
 use Rattle.replay.proofs.Feeds.{tooks, feedings-follow, feedings-append}
 
@@ -116,12 +117,16 @@ module _ (s : State) (m : Seen) (p : Shows s m) where
   left-words ws due = take-at ws (drop (length ws) due) (length ws) refl
 
   -- the code's answer, and the one that is meant
-  either : (r : Ran) (n : ℕ) (l : Line) (ws : List ℕ) → givenOf (r .why) .number ≡ n → (n ≡ 0 → (r .receiver ≡ receiverOf l) × FineLine l × (r .words ≡ ws) × (length ws ≤ 65)) → Shows (code.answered s r) (answered m n l ws)
+  abbrev gone : Ran → State
+  gone r = code.went s (r .receiver) (r .words ++ drop (length (r .words)) (s .due)) (length (r .words))
+
+  either : (r : Ran) (n : ℕ) (l : Line) (ws : List ℕ) → givenOf (r .why) .number ≡ n
+      → (n ≡ 0 → (r .receiver ≡ receiverOf l) × FineLine l × (r .words ≡ ws) × (length ws ≤ 65)) → Shows (code.answered s r) (answered m n l ws)
   unfolding code.answered
-  either r n l ws e f = subst (λ (k : ℕ). Shows (cond (eqb k 0) (code.went s (r .receiver) (r .words ++ drop (length (r .words)) (s .due)) (length (r .words))) (code.refusedBy s (r .why))) (answered m n l ws)) (sym e) (go (eqb n 0) refl)
+  either r n l ws e f =
+      subst (λ (k : ℕ). Shows (cond (eqb k 0) (gone r) (code.refusedBy s (r .why))) (answered m n l ws)) (sym e) (go (eqb n 0) refl)
     where
-      go : (b : Bool) → eqb n 0 ≡ b
-          → Shows (cond b (code.went s (r .receiver) (r .words ++ drop (length (r .words)) (s .due)) (length (r .words))) (code.refusedBy s (r .why))) (cond b (went m l ws) (fault m (Refused (m .number) n)))
+      go : (b : Bool) → eqb n 0 ≡ b → Shows (cond b (gone r) (code.refusedBy s (r .why))) (cond b (went m l ws) (fault m (Refused (m .number) n)))
       go true k =
           let g = f (eqb-true n 0 k) in
           let z : length (r .words) ≤ 65 = rw (g .2) (g .3) in
@@ -158,20 +163,24 @@ module _ (s : State) (m : Seen) (p : Shows s m) where
 
   -- ---- a symbol and a finish
 
-  answers-symbol : (l : Line) (q : Piece) → s .receiver ≡ receiverOf l → FineLine l → (n : ℕ) (b : List ℕ) → q ≡ pieceOf (coordinatesOf b) → Shows (code.answered s (hearing (s .receiver) q (length (s .due)))) (hears m l b)
-  answers-symbol closed q e f n b z =
+  abbrev heardAs : Told → Piece → Seen
+  heardAs t q = let d = pieceOwed t q 65 in answered m (d .reason .number) (told (d .told)) (d .words)
+
+  answers-symbol : (l : Line) (q : Piece) → s .receiver ≡ receiverOf l → FineLine l → (b : List ℕ) → q ≡ pieceOf (coordinatesOf b)
+      → Shows (code.answered s (hearing (s .receiver) q (length (s .due)))) (hears m l b)
+  answers-symbol closed q e f b z =
       let g : hearing (s .receiver) q (length (s .due)) ≡ _ = ap (λ (rx : Receiver). hearing rx q (length (s .due))) e ∙ shut-hears q (length (s .due)) in
       subst (λ (r : Ran). Shows (code.answered s r) (answered m 9 closed [])) (sym g) (either _ 9 closed [] refl (λ k. absurd (nine k)))
     where
       nine : _≡_ {A = ℕ} 9 0 → ⊥
       nine k = omega arith
-  answers-symbol (told t) q e f n b z =
+  answers-symbol (told t) q e f b z =
       let w : s .receiver ≡ machineOf t = e in
       let d : OwedBy (hearing (machineOf t) q 65) (pieceOwed t q 65) = hearing-owes t f q 65 in
       let g : hearing (s .receiver) q (length (s .due)) ≡ hearing (machineOf t) q 65 = rw (e, p .long) in
       let few : length (hearing (machineOf t) q 65 .words) ≤ 65 = hearing-fits (machineOf t) q (replicate 65 0) in
-      subst (λ (x : Piece). Shows (code.answered s (hearing (s .receiver) q (length (s .due)))) (answered m (pieceOwed t x 65 .reason .number) (told (pieceOwed t x 65 .told)) (pieceOwed t x 65 .words))) z
-      (subst (λ (r : Ran). Shows (code.answered s r) (answered m (pieceOwed t q 65 .reason .number) (told (pieceOwed t q 65 .told)) (pieceOwed t q 65 .words))) (sym g)
+      subst (λ (x : Piece). Shows (code.answered s (hearing (s .receiver) q (length (s .due)))) (heardAs t x)) z
+      (subst (λ (r : Ran). Shows (code.answered s r) (heardAs t q)) (sym g)
       (either _ _ (told (pieceOwed t q 65 .told)) _ (ap (λ (r : Reason). r .number) (d .given)) (λ k. (d .receiver, d .fine, d .words, rw (sym (d .words)) few))))
 
   answers-finish : (l : Line) → s .receiver ≡ receiverOf l → FineLine l → Shows (code.answered s (finishing (s .receiver) (length (s .due)))) (ends m l)
@@ -192,6 +201,9 @@ module _ (s : State) (m : Seen) (p : Shows s m) where
   unless-due [] n o h = h
   unless-due (x ∷ l) n o h = shows-fault _ _ (rw (p .records))
 
+  unless-left : (n : State) (o : Seen) → Shows n o → Shows (code.unlessDue s (leftOf s) n) (unlessDue m (m .due) o)
+  unless-left n o h = subst (λ (l : List ℕ). Shows (code.unlessDue s l n) (unlessDue m (m .due) o)) (sym (p .due)) (unless-due (m .due) n o h)
+
   -- ---- a word
 
   says-word : (n g : ℕ) (l : List ℕ) → leftOf s ≡ l → Shows (code.worded s (capped n) g l) (says m n g l)
@@ -202,7 +214,7 @@ module _ (s : State) (m : Seen) (p : Shows s m) where
       shorter : left (s .shown + 1) (s .given) (s .due) ≡ hs
       shorter = sym (drop-drop 1 (s .shown) (take (s .given) (s .due))) ∙ ap (λ (l : List ℕ). drop 1 l) e
 
-      go : (b : Bool) → Shows (cond b (record { receiver = s .receiver; due = s .due; given = s .given; shown = s .shown + 1; records = capped (s .records + 1); verdict = Agree (capped (capped n + 1)) }) (code.faulted s (Differs (s .records) g h)))
+      go : (b : Bool) → Shows (cond b (code.agreedMore s (capped n)) (code.faulted s (Differs (s .records) g h)))
           (cond b (record { line = m .line; due = hs; number = m .number + 1; verdict = Agree (n + 1) }) (fault m (Differs (m .number) g h)))
       go true = record { receiver = p .receiver; fine = p .fine; due = shorter; long = p .long; records = counted; verdict = ap Agree (capped-more n 1) }
       go false = shows-fault _ _ (rw (p .records))
@@ -212,9 +224,9 @@ module _ (s : State) (m : Seen) (p : Shows s m) where
   shows-role : (r : Role) (n : ℕ) (b : List ℕ) → Shows (code.byRole r s (capped n) b) (byRole r m n b)
   unfolding code.heard code.finished
   shows-role Open n b = shows-open b
-  shows-role Symbol n b = subst (λ (l : List ℕ). Shows (code.unlessDue s l (code.answered s (hearing (s .receiver) (pieceOf (coordinatesOf b)) (length (s .due))))) (unlessDue m (m .due) (hears m (m .line) b))) (sym (p .due)) (unless-due (m .due) _ _ (answers-symbol (m .line) (pieceOf (coordinatesOf b)) (p .receiver) (p .fine) n b refl))
+  shows-role Symbol n b = unless-left _ _ (answers-symbol (m .line) (pieceOf (coordinatesOf b)) (p .receiver) (p .fine) b refl)
   shows-role Word n b = subst (λ (l : List ℕ). Shows (code.worded s (capped n) (wordOf b) l) (says m n (wordOf b) (m .due))) (sym (p .due)) (says-word n (wordOf b) (m .due) (p .due))
-  shows-role Finish n b = subst (λ (l : List ℕ). Shows (code.unlessDue s l (code.answered s (finishing (s .receiver) (length (s .due))))) (unlessDue m (m .due) (ends m (m .line)))) (sym (p .due)) (unless-due (m .due) _ _ (answers-finish (m .line) (p .receiver) (p .fine)))
+  shows-role Finish n b = unless-left _ _ (answers-finish (m .line) (p .receiver) (p .fine))
   shows-role Unknown n b = p
 
   shows-upon : (v : Verdict) (r : Entry) → m .verdict ≡ v → Shows (code.upon (cappedVerdict v) s r) (upon v m r)
@@ -252,8 +264,11 @@ not-whole Whole at p e = absurd (broken p e)
 not-whole Bad at p e = (refl, cc)
 
 -- the verdict by frame and state, as `verdict` and `end` give it
+abbrev pub endedBy : Frame → Verdict → ℕ → List ℕ → Verdict
+endedBy f v n l = cond (agreed v) (cond (isWhole (f .stage)) (unlessLeft v n l) (Malformed (f .at))) v
+
 abbrev pub endedAt : Frame → State → Verdict
-endedAt f s = cond (agreed (s .verdict)) (cond (isWhole (f .stage)) (unlessLeft (s .verdict) (s .records) (leftOf s)) (Malformed (f .at))) (s .verdict)
+endedAt f s = endedBy f (s .verdict) (s .records) (leftOf s)
 
 module _ (f : Frame) (s : State) (m : Seen) (p : Shows s m) where
   at-end : (n : ℕ) (l : List ℕ) → unlessLeft (Agree (capped n)) (s .records) l ≡ cappedVerdict (atEnd m (Agree n) l)
@@ -266,7 +281,7 @@ module _ (f : Frame) (s : State) (m : Seen) (p : Shows s m) where
   ends-agree n v (malformed q) k = let z = not-whole (f .stage) (f .at) (capped q) k in rw (z .0, z .1)
 
   ends-at : (v : Verdict) → m .verdict ≡ v → (e : Ending) → endingOf f ≡ cappedEnding e
-      → cond (agreed (cappedVerdict v)) (cond (isWhole (f .stage)) (unlessLeft (cappedVerdict v) (s .records) (m .due)) (Malformed (f .at))) (cappedVerdict v) ≡ cappedVerdict (closingAt v m e)
+      → endedBy f (cappedVerdict v) (s .records) (m .due) ≡ cappedVerdict (closingAt v m e)
   ends-at (Agree n) z e k = ends-agree n z e k
   ends-at (Differs n g h) z e k = refl
   ends-at (Extra n g) z e k = refl
@@ -276,9 +291,9 @@ module _ (f : Frame) (s : State) (m : Seen) (p : Shows s m) where
 
   pub ends-meant : (e : Ending) → endingOf f ≡ cappedEnding e → endedAt f s ≡ cappedVerdict (closing m e)
   ends-meant e k =
-      let a : endedAt f s ≡ cond (agreed (cappedVerdict (m .verdict))) (cond (isWhole (f .stage)) (unlessLeft (cappedVerdict (m .verdict)) (s .records) (m .due)) (Malformed (f .at))) (cappedVerdict (m .verdict)) =
-      ap (λ (v : Verdict). cond (agreed v) (cond (isWhole (f .stage)) (unlessLeft v (s .records) (leftOf s)) (Malformed (f .at))) v) (p .verdict)
-      ∙ ap (λ (l : List ℕ). cond (agreed (cappedVerdict (m .verdict))) (cond (isWhole (f .stage)) (unlessLeft (cappedVerdict (m .verdict)) (s .records) l) (Malformed (f .at))) (cappedVerdict (m .verdict))) (p .due) in
+      let a : endedAt f s ≡ endedBy f (cappedVerdict (m .verdict)) (s .records) (m .due) =
+      ap (λ (v : Verdict). endedBy f v (s .records) (leftOf s)) (p .verdict)
+      ∙ ap (λ (l : List ℕ). endedBy f (cappedVerdict (m .verdict)) (s .records) l) (p .due) in
       a ∙ ends-at (m .verdict) refl e k
 
 -- THE THEOREM: the bytes, one after another, end in the verdict that is meant

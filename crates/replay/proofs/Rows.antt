@@ -75,7 +75,11 @@ computed : (replayed (whole 0) ≡ Agree 1)
     × (replayed (open-record ++ symbol) ≡ Agree 0)
     × (replayed (open-record ++ symbol ++ (4 ∷ 3 ∷ 0 ∷ [])) ≡ Malformed 14)
     × (replayed (whole 0 ++ symbol) ≡ Malformed 19)
-unfolding feedings stepped settled code.took code.opened code.heard code.finished code.answered code.unlessDue code.left frames.pushed frames.begun frames.grown frames.capped kindOf coordinateOf numberOf opening hearing finishing sound soundCore allUpTo opened shut freshSums running symbolAt faultOf taking agreedOf grown releasedOf oldest sameFrom carried movedWords movedOf tabled followed liveOf reachedOf sumAt stepAt firstStep winner arrive weighedOf costOf bestI3 typeSum counted gapOf near least lineDistance distance pointOf aPoint coordinates secondLabel before between carryI1 carryI2 wayFrom range speak after endOf lastSymbols symbolBy numbersOf keptIn word wordParts packed
+unfolding feedings stepped settled code.took code.opened code.heard code.finished code.answered code.unlessDue code.left frames.pushed frames.begun
+    frames.grown frames.capped kindOf coordinateOf numberOf opening hearing finishing sound soundCore allUpTo opened shut freshSums running symbolAt
+    faultOf taking agreedOf grown releasedOf oldest sameFrom carried movedWords movedOf tabled followed liveOf reachedOf sumAt stepAt firstStep winner
+    arrive weighedOf costOf bestI3 typeSum counted gapOf near least lineDistance distance pointOf aPoint coordinates secondLabel before between
+    carryI1 carryI2 wayFrom range speak after endOf lastSymbols symbolBy numbersOf keptIn word wordParts packed
 computed = (refl, refl, refl, refl, refl, refl, refl, refl, refl)
 
 abbrev says : List ℕ → Verdict → Type 0
@@ -97,4 +101,12 @@ pub form-rows : says [] (Malformed 0)
     × says (open-record ++ the-word 0) (Malformed 4)
     × says (open-record ++ symbol ++ (4 ∷ 3 ∷ 0 ∷ [])) (Malformed 14)
     × says (whole 0 ++ symbol) (Malformed 19)
-form-rows = (meant _ _ (computed-form .0), meant _ _ (computed-form .1), meant _ _ (computed-form .2), meant _ _ (computed-form .3), meant _ _ (computed-form .4), meant _ _ (computed .7), meant _ _ (computed .8))
+form-rows = (
+  meant _ _ (computed-form .0),
+  meant _ _ (computed-form .1),
+  meant _ _ (computed-form .2),
+  meant _ _ (computed-form .3),
+  meant _ _ (computed-form .4),
+  meant _ _ (computed .7),
+  meant _ _ (computed .8),
+)

@@ -73,14 +73,15 @@ fn settle(
     picks: &mut [u64; 72],
     due: &mut [u32],
 ) -> Judge
-    ensures { λ r. ⌜ stateOf r (now (sums .exit)) (now (planes .exit)) (now (picks .exit)) (now (due .exit)) ≡ settled (isWhole (frame .stage)) (stateOf j (now (sums .entry)) (now (planes .entry)) (now (picks .entry)) (now (due .entry))) (entryOf frame) ⌝ }
+    ensures { λ r. ⌜ stateOf r (now (sums .exit)) (now (planes .exit)) (now (picks .exit)) (now (due .exit))
+        ≡ settled (isWhole (frame .stage)) (stateOf j (now (sums .entry)) (now (planes .entry)) (now (picks .entry)) (now (due .entry))) (entryOf frame) ⌝ }
 {
     let stage = frame.stage;
     if !is_whole(stage) {
         return j;
     }
     let body = frame.body;
-    replay_step::take(j, frame.kind, body, sums, planes, picks, due)
+    replay_take::take(j, frame.kind, body, sums, planes, picks, due)
 }
 
 // A lump of bytes, which may be empty.
@@ -93,7 +94,8 @@ pub fn feed_lent(
     picks: &mut [u64; 72],
     due: &mut [u32],
 ) -> Fed
-    ensures { λ r. ⌜ courseOf (r .frame) (r .judge) (now (sums .exit)) (now (planes .exit)) (now (picks .exit)) (now (due .exit)) ≡ feedings (courseOf frame judge (now (sums .entry)) (now (planes .entry)) (now (picks .entry)) (now (due .entry))) (now (bytes .entry)) ⌝ }
+    ensures { λ r. ⌜ courseOf (r .frame) (r .judge) (now (sums .exit)) (now (planes .exit)) (now (picks .exit)) (now (due .exit))
+        ≡ feedings (courseOf frame judge (now (sums .entry)) (now (planes .entry)) (now (picks .entry)) (now (due .entry))) (now (bytes .entry)) ⌝ }
 {
     let mut f = frame;
     let mut j = judge;

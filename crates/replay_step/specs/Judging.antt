@@ -1,10 +1,10 @@
 -- What the code does with one record, as functions of the judge and the lists lent. What it means is replay/specs/Meaning.
 --   State, stateOf j ..    a judge together with the receiver's lists and the words that are due
 --   left shown given due   the words that are still due; firstDue the next of them
---   opened s u w b         an open; heard s body: a symbol; finished s: a finish; tookWord j n g: a word, where n agreed before it
+--   answeredBy j why ..    the judge after the receiver's answer; tookWord j n g: after a word, where n agreed before it
+--   opened s u w b         an open; heard s body: a symbol; finished s: a finish
 --   took s r               a record: after a fault nothing is looked at
 use Prim.Native.Nat.{ℕ, _+_}
-use mathlib.Core.Path.{_≡_}
 use mathlib.Core.Bool.{Bool, cond}
 use mathlib.Core.List.{List, [], _∷_, _++_}
 use lib.Dec.{eqb}
@@ -57,18 +57,28 @@ unfoldable pub firstDue : List ℕ → Due
 firstDue [] = None
 firstDue (h ∷ hs) = Next h
 
-pub record Laid (rx : Receiver) (sums planes picks : List ℕ) : Type 0 where
-  pub sums-is : sums ≡ rx .sums
-  pub planes-is : planes ≡ rx .planes
-  pub picks-is : picks ≡ rx .picks
-
 -- ---- a judge with another verdict, and with one word more
 
 abbrev pub ruled : Judge → Verdict → Judge
 ruled j v = record { live = j .live; core = j .core; given = j .given; shown = j .shown; records = j .records; verdict = v }
 
 abbrev pub showed : Judge → ℕ → Judge
-showed j n = record { live = j .live; core = j .core; given = j .given; shown = j .shown + 1; records = capped (j .records + 1); verdict = Agree (capped (n + 1)) }
+showed j n =
+    record {
+      live = j .live;
+      core = j .core;
+      given = j .given;
+      shown = j .shown + 1;
+      records = capped (j .records + 1);
+      verdict = Agree (capped (n + 1));
+    }
+
+-- after what the receiver answered: it took the record, has these numbers now and gave some words, or it refused
+unfoldable pub answeredBy : Judge → Why → Bool → Core → ℕ → Judge
+answeredBy j why live core given =
+    cond (isDone why)
+    (record { live = live; core = core; given = given; shown = 0; records = capped (j .records + 1); verdict = j .verdict })
+    (ruled j (Refused (j .records) (givenOf why .number)))
 
 unfoldable pub tookWord : Judge → ℕ → ℕ → List ℕ → Judge
 tookWord j n g [] = ruled j (Extra (j .records) g)
@@ -103,18 +113,34 @@ unlessDue s (h ∷ hs) n = faulted s (Missing (s .records) h)
 abbrev pub leftOf : State → List ℕ
 leftOf s = left (s .shown) (s .given) (s .due)
 
+-- a symbol or a finish where no word is due
+abbrev pub hears : State → List ℕ → State
+hears s body = answered s (hearing (s .receiver) (pieceOf (coordinatesOf body)) (length (s .due)))
+
+abbrev pub finishes : State → State
+finishes s = answered s (finishing (s .receiver) (length (s .due)))
+
 unfoldable pub heard : State → List ℕ → State
-heard s body = unlessDue s (leftOf s) (answered s (hearing (s .receiver) (pieceOf (coordinatesOf body)) (length (s .due))))
+heard s body = unlessDue s (leftOf s) (hears s body)
 
 unfoldable pub finished : State → State
-finished s = unlessDue s (leftOf s) (answered s (finishing (s .receiver) (length (s .due))))
+finished s = unlessDue s (leftOf s) (finishes s)
+
+-- a word agreed, after n others
+abbrev pub agreedMore : State → ℕ → State
+agreedMore s n =
+    record {
+      receiver = s .receiver;
+      due = s .due;
+      given = s .given;
+      shown = s .shown + 1;
+      records = capped (s .records + 1);
+      verdict = Agree (capped (n + 1));
+    }
 
 abbrev pub worded : State → ℕ → ℕ → List ℕ → State
 worded s n g [] = faulted s (Extra (s .records) g)
-worded s n g (h ∷ hs) =
-    cond (eqb g h)
-    (record { receiver = s .receiver; due = s .due; given = s .given; shown = s .shown + 1; records = capped (s .records + 1); verdict = Agree (capped (n + 1)) })
-    (faulted s (Differs (s .records) g h))
+worded s n g (h ∷ hs) = cond (eqb g h) (agreedMore s n) (faulted s (Differs (s .records) g h))
 
 abbrev pub byRole : Role → State → ℕ → List ℕ → State
 byRole Open s n body = opened s (widthOf body) (windowOf body) (startOf body)

@@ -38,7 +38,9 @@ settle-requires c κs = search needs
 
 -- src/lib.rt:104:9
 add-i : tie.Need-add-i Inv-loop μ-loop
-add-i c = omega (arith, c .before .before .before .before .before .before .before .before .before .loop-test .taken, c .before .before .before .before .before .before .before .before .before .before .before .before .before .good)
+add-i c =
+    let p = c .before .before .before .before .before .before .before .before .before in
+    omega (arith, p .loop-test .taken, p .before .before .before .before .good)
 
 -- src/lib.rt:101:5
 loop-less : tie.Need-loop-less Inv-loop μ-loop
@@ -46,7 +48,13 @@ loop-less c = omega arith
 
 -- src/lib.rt:101:5
 loop-again : tie.Need-loop-again Inv-loop μ-loop
-loop-again c = (omega arith, c .before .due .given ∙ c .before .before .before .before .before .before .before .before .before .before .loop .inv .1, again _ _ _ _ _ _ _ _ _ _ _ _ _ _ _ (c .before .before .before .before .before .before .before .before .before .loop-test .taken) (c .before .before .before .before .before .before .before .before .before .before .loop .inv .2) (c .before .before .before .before .before .before .before .push .ensures) (c .before .before .settle .ensures))
+loop-again c =
+    let p = c .before .before .before .before .before .before .before in
+    let q = p .before .before in (
+      omega arith,
+      c .before .due .given ∙ q .before .loop .inv .1,
+      again _ _ _ _ _ _ _ _ _ _ _ _ _ _ _ (q .loop-test .taken) (q .before .loop .inv .2) (p .push .ensures) (c .before .before .settle .ensures),
+    )
 
 -- src/lib.rt:87:1
 same-length : tie.Need-same-length Inv-loop μ-loop

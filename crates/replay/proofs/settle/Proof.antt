@@ -8,7 +8,7 @@ use Rattle.replay.proofs.settle.Tie as tie
 use Rattle.replay.proofs.settle.Reads as reads
 use Rattle.replay.proofs.settle.Lts as lts
 use Rattle.replay.proofs.is_whole.Reads as is-whole-reads
-use Rattle.replay_step.proofs.take.Reads as take-reads
+use Rattle.replay_take.proofs.take.Reads as take-reads
 
 -- src/lib.rt:79:9
 is-whole-requires : tie.Need-is-whole-requires
@@ -28,7 +28,10 @@ same-length c = search needs
 
 -- src/lib.rt:68:1
 returns-2 : tie.Need-returns-2
-returns-2 c = settle-yes _ _ _ _ _ (sym (c .before .before .before .before .before .before .before .before .before .is-whole .ensures) ∙ not-false _ (c .before .before .before .before .before .before .before .before .if1 .left)) (c .before .before .take .ensures)
+returns-2 c =
+    let p = c .before .before in
+    let q = p .before .before .before .before .before .before in
+    settle-yes _ _ _ _ _ (sym (q .before .is-whole .ensures) ∙ not-false _ (q .if1 .left)) (p .take .ensures)
 
 pub settle-spec : {M : Type 1} → statement M
 settle-spec = tie.close (tie.spec is-whole-requires returns take-requires same-length returns-2)

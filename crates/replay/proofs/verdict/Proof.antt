@@ -41,11 +41,19 @@ enum-known-d c = search needs
 
 -- src/lib.rt:122:1
 returns-3 : tie.Need-returns-3
-returns-3 c = ended-agree _ _ _ (sym (c .before .before .before .before .before .before .is-agreed .ensures) ∙ not-false _ (c .before .before .before .before .before .if1 .left)) (sym (c .before .before .before .before .is-whole .ensures) ∙ not-false _ (c .before .before .before .if2 .left)) (sym (c .before .before .next-due .ensures) ∙ c .enum-told .given .1)
+returns-3 c =
+    let p = c .before .before .before in
+    let q = p .before .before in
+    ended-agree _ _ _ (sym (q .before .is-agreed .ensures) ∙ not-false _ (q .if1 .left)) (sym (p .before .is-whole .ensures) ∙ not-false _ (p .if2 .left))
+    (sym (c .before .before .next-due .ensures) ∙ c .enum-told .given .1)
 
 -- src/lib.rt:122:1
 returns-4 : tie.Need-returns-4
-returns-4 c = ended-due _ _ _ (sym (c .before .before .before .before .before .before .before .is-agreed .ensures) ∙ not-false _ (c .before .before .before .before .before .before .if1 .left)) (sym (c .before .before .before .before .before .is-whole .ensures) ∙ not-false _ (c .before .before .before .before .if2 .left)) _ (sym (c .before .before .before .next-due .ensures) ∙ c .before .d .given .1)
+returns-4 c =
+    let p = c .before .before .before .before in
+    let q = p .before .before in
+    ended-due _ _ _ (sym (q .before .is-agreed .ensures) ∙ not-false _ (q .if1 .left)) (sym (p .before .is-whole .ensures) ∙ not-false _ (p .if2 .left)) _
+    (sym (c .before .before .before .next-due .ensures) ∙ c .before .d .given .1)
 
 pub verdict-spec : {M : Type 1} → statement M
 verdict-spec =

@@ -37,11 +37,15 @@ rule-requires-2 c κs = search needs
 
 -- src/lib.rt:126:9
 returns-2 : tie.Need-returns-2
-returns-2 c = word-other _ _ _ _ _ _ (sym (c .before .before .before .before .before .next-due .ensures) ∙ c .before .before .before .d .given .1) (c .before .if1 .taken) (c .rule2 .ensures)
+returns-2 c =
+    let p = c .before .before .before in
+    word-other _ _ _ _ _ _ (sym (p .before .before .next-due .ensures) ∙ p .d .given .1) (c .before .if1 .taken) (c .rule2 .ensures)
 
 -- src/lib.rt:133:16
 add-t11 : tie.Need-add-t11
-add-t11 c = omega (arith, due-below _ _ _ _ (sym (c .before .before .before .before .before .before .next-due .ensures) ∙ c .before .before .before .before .d .given .1), c .before .before .before .before .before .before .before .before .fits)
+add-t11 c =
+    let p = c .before .before .before .before in
+    omega (arith, due-below _ _ _ _ (sym (p .before .before .next-due .ensures) ∙ p .d .given .1), p .before .before .before .before .fits)
 
 -- src/lib.rt:134:18
 counted-requires : tie.Need-counted-requires
@@ -53,7 +57,11 @@ counted-requires-2 c κs = search needs
 
 -- src/lib.rt:118:1
 returns-3 : tie.Need-returns-3
-returns-3 c = word-same _ _ _ _ _ _ (sym (c .before .before .before .before .before .before .before .before .next-due .ensures) ∙ c .before .before .before .before .before .before .d .given .1) (c .before .before .before .before .if1 .left) (simp (c .counted2 .ensures, c .before .counted .ensures))
+returns-3 c =
+    let p = c .before .before .before .before in
+    let q = p .before .before in
+    word-same _ _ _ _ _ _ (sym (q .before .before .next-due .ensures) ∙ q .d .given .1) (p .if1 .left)
+    (simp (c .counted2 .ensures, c .before .counted .ensures))
 
 pub take-word-spec : {M : Type 1} → statement M
 take-word-spec =

@@ -1,13 +1,14 @@
-use Rattle.replay_step.proofs.Records.{took-agree, took-still}
+-- `take`: a record by the verdict so far.
+use Rattle.replay_take.proofs.Records.{took-agree, took-still}
 use mathlib.Core.Path.{_≡_, refl, sym, ap, _∙_}
 use native.Mathlib.Omega.{arith}
 use borrow.Author.Tests.{not-true, not-false, eq-eqb, ne-eqb, lt-ltb, le-ltb, le-leb, lt-leb}
 use borrow.Author.Needs.{needs}
-use Rattle.replay_step.proofs.take.Statement.{statement}
-use Rattle.replay_step.proofs.take.Tie as tie
-use Rattle.replay_step.proofs.take.Reads as reads
-use Rattle.replay_step.proofs.take.Lts as lts
-use Rattle.replay_step.proofs.take_kind.Reads as take-kind-reads
+use Rattle.replay_take.proofs.take.Statement.{statement}
+use Rattle.replay_take.proofs.take.Tie as tie
+use Rattle.replay_take.proofs.take.Reads as reads
+use Rattle.replay_take.proofs.take.Lts as lts
+use Rattle.replay_take.proofs.take_kind.Reads as take-kind-reads
 
 -- src/lib.rt:261:24
 enum-known-verdict : tie.Need-enum-known-verdict
@@ -43,7 +44,9 @@ same-length c = search needs
 
 -- src/lib.rt:248:1
 returns : tie.Need-returns
-returns c = c .before .before .take-kind .ensures ∙ took-agree _ _ _ (c .before .before .before .before .before .before .before .before .verdict .given .1)
+returns c =
+    let p = c .before .before in
+    p .take-kind .ensures ∙ took-agree _ _ _ (p .before .before .before .before .before .before .verdict .given .1)
 
 -- src/lib.rt:248:1
 returns-2 : tie.Need-returns-2

@@ -62,7 +62,9 @@ read-back-from zero p at (r ∷ rs) h l = absurd (none-left (length (r .body ++ 
 read-back-from (suc n) p at (r ∷ rs) h l =
     let b = r .body in
     let e : length (b ++ bytesOf rs) ≡ length b + length (bytesOf rs) = length-append b (bytesOf rs) in
-    let ih : readingFrom n (afterRole p (kindOf (r .kind) .role)) (at + 1 + length b) (bytesOf rs) ≡ record { records = rs; ending = clean } = read-back-from n _ (at + 1 + length b) rs (h .2) (omega arith) in
+    let q = afterRole p (kindOf (r .kind) .role) in
+    let ih : readingFrom n q (at + 1 + length b) (bytesOf rs) ≡ record { records = rs; ending = clean } =
+    read-back-from n q (at + 1 + length b) rs (h .2) (omega arith) in
     rw (h .0, sym (h .1), le-leb (length b) (length (b ++ bytesOf rs)) (omega arith), take-append-seam b (bytesOf rs), drop-append-seam b (bytesOf rs), ih)
 
 pub read-back : (rs : List Entry) → WellFormed Start rs → readingOf (bytesOf rs) ≡ record { records = rs; ending = clean }
@@ -89,7 +91,9 @@ unfolding readingFrom bytesOf
 exact-from zero p at [] l = nothing-exact p at
 exact-from zero p at (b ∷ bs) l = absurd (none-left (length bs) l)
 exact-from (suc n) p at [] l = nothing-exact p at
-exact-from (suc n) p at (k ∷ bs) l = go (mayStand p (kindOf k .role)) refl (leb m (length bs)) refl (exact-from n (afterRole p (kindOf k .role)) (at + 1 + m) (drop m bs) (omega (arith, length-drop m bs)))
+exact-from (suc n) p at (k ∷ bs) l =
+    go (mayStand p (kindOf k .role)) refl (leb m (length bs)) refl
+    (exact-from n (afterRole p (kindOf k .role)) (at + 1 + m) (drop m bs) (omega (arith, length-drop m bs)))
   where
     m : ℕ
     m = kindOf k .size

@@ -1,12 +1,11 @@
 -- Counts at the end of 64 bits.
 --   capped-small, capped-last   a count that has room, and one that has none
---   capped-fits                 a capped count fits 64 bits
 --   capped-more                 a capped count and some more is the count and some more, capped
 use mathlib.Core.Path.{_≡_, refl, sym, ap, _∙_}
 use mathlib.Core.Bool.{Bool, true, false, cond}
-use Prim.Native.Nat.{ℕ, _+_, _≤_, _<_}
+use Prim.Native.Nat.{ℕ, _+_, _≤_}
 use native.Mathlib.Omega.{arith}
-use borrow.Author.Tests.{lt-ltb, le-ltb, ltb-true, ltb-false}
+use borrow.Author.Tests.{le-ltb, ltb-false}
 use lib.Dec.{ltb}
 use Rattle.records.specs.Frames.{capped}
 
@@ -21,14 +20,6 @@ capped-small n h = go (ltb n 18446744073709551615) refl
 pub capped-last : (n : ℕ) → n ≤ 18446744073709551615 → 18446744073709551615 ≤ n → n ≡ capped (n + 1)
 unfolding capped
 capped-last n h l = let e : n ≡ 18446744073709551615 = omega arith in rw (le-ltb (n + 1) 18446744073709551615 (omega arith)) e
-
-pub capped-fits : (n : ℕ) → capped n ≤ 18446744073709551615
-unfolding capped
-capped-fits n = go (ltb n 18446744073709551615) refl
-  where
-    go : (b : Bool) → ltb n 18446744073709551615 ≡ b → cond b n 18446744073709551615 ≤ 18446744073709551615
-    go true e = let k : n < 18446744073709551615 = ltb-true n 18446744073709551615 e in omega arith
-    go false e = omega arith
 
 pub capped-more : (n m : ℕ) → capped (capped n + m) ≡ capped (n + m)
 unfolding capped

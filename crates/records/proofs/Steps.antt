@@ -168,11 +168,21 @@ none-left j h = omega arith
 filled : (j : ℕ) (bs : List ℕ) (f : Frame) (k at : ℕ) (xs : List ℕ) → Inside f k at xs → length xs + suc j ≡ kindOf k .size → suc j ≤ length bs → Filled f k at xs (suc j) bs
 filled j [] f k at xs i e h = absurd (none-left j h)
 filled zero (b ∷ bs) f k at xs i e h =
-    record { next = grew f b; ready = becomes-whole f k at xs i b (omega arith); same = followed f (grew f b) b bs (grew f b .stage) (grows f k at xs i b) refl ∙ ap (λ (l : List Entry). before l (following (grew f b) bs)) (said-whole f k at xs i b (omega arith)) }
+    record {
+      next = grew f b;
+      ready = becomes-whole f k at xs i b (omega arith);
+      same = followed f (grew f b) b bs (grew f b .stage) (grows f k at xs i b) refl
+          ∙ ap (λ (l : List Entry). before l (following (grew f b) bs)) (said-whole f k at xs i b (omega arith));
+    }
 filled (suc j) (b ∷ bs) f k at xs i e h =
     let n = stays-inside f k at xs i b (omega arith) in
     let r = filled j bs (grew f b) k at (xs ++ b ∷ []) n (omega (arith, length-append xs (b ∷ []))) (omega arith) in
-    record { next = r .next; ready = r .ready; same = followed f (grew f b) b bs Part (grows f k at xs i b) (n .stage) ∙ r .same ∙ ap (λ (l : List ℕ). before (entry k l ∷ []) (following (r .next) (drop (suc j) bs))) (append-assoc xs (b ∷ []) (take (suc j) bs)) }
+    record {
+      next = r .next;
+      ready = r .ready;
+      same = followed f (grew f b) b bs Part (grows f k at xs i b) (n .stage) ∙ r .same
+          ∙ ap (λ (l : List ℕ). before (entry k l ∷ []) (following (r .next) (drop (suc j) bs))) (append-assoc xs (b ∷ []) (take (suc j) bs));
+    }
 
 cut : (bs : List ℕ) (f : Frame) (k at : ℕ) (xs : List ℕ) → Inside f k at xs → length xs + length bs < kindOf k .size → Agrees (following f bs) (stopsAt (malformed at))
 unfolding following
@@ -235,13 +245,15 @@ module _ (n k : ℕ) (bs : List ℕ) (ih : (m : ℕ) → Reads n (drop m bs)) (f
       record { entries = rw s; ending = rw (s, r .fed) }
 
   -- the record is whole, with this frame after it
-  onward : (g : Frame) → Ready g (afterRole (f .phase) role) (at + 1 + size) → following f (k ∷ bs) ≡ before (entry k (take size bs) ∷ []) (following g (drop size bs)) → Agrees (following f (k ∷ bs)) (followedBy (entry k (take size bs)) rest)
+  onward : (g : Frame) → Ready g (afterRole (f .phase) role) (at + 1 + size) → following f (k ∷ bs) ≡ before (entry k (take size bs) ∷ []) (following g (drop size bs))
+      → Agrees (following f (k ∷ bs)) (followedBy (entry k (take size bs)) rest)
   unfolding Reads
   onward g h e =
       let a = ih size g (afterRole p role) (at + 1 + size) (subst (λ (q : Phase). Ready g (afterRole q role) (at + 1 + size)) (r .phase) h) in
       record { entries = rw e (ap (λ (l : List Entry). entry k (take size bs) ∷ l) (a .entries)); ending = rw e (a .ending) }
 
-  taking : mayStand p role ≡ true → (m : ℕ) → size ≡ m → (t : Bool) → leb size (length bs) ≡ t → Agrees (following f (k ∷ bs)) (cond t (followedBy (entry k (take size bs)) rest) (stopsAt (malformed at)))
+  taking : mayStand p role ≡ true → (m : ℕ) → size ≡ m → (t : Bool) → leb size (length bs) ≡ t
+      → Agrees (following f (k ∷ bs)) (cond t (followedBy (entry k (take size bs)) rest) (stopsAt (malformed at)))
   unfolding following
   taking h zero e false w = absurd (false-true (sym w ∙ le-leb size (length bs) (omega arith)))
   taking h zero e true w =
@@ -251,7 +263,18 @@ module _ (n k : ℕ) (bs : List ℕ) (ih : (m : ℕ) → Reads n (drop m bs)) (f
   taking h (suc j) e t w =
       let s : took .stage ≡ Part = rw (lt-ltb 0 size (omega arith)) in
       let z : at + 1 ≡ at + 1 + length {A = ℕ} [] = omega arith in
-      let i : Inside took k at [] = record { stage = s; begun = took-phase h; kind = refl; have = refl; body = refl; eight = r .eight; from = r .fed; fed = took-fed ∙ ap capped z; more = inside-more e } in
+      let i : Inside took k at [] =
+      record {
+        stage = s;
+        begun = took-phase h;
+        kind = refl;
+        have = refl;
+        body = refl;
+        eight = r .eight;
+        from = r .fed;
+        fed = took-fed ∙ ap capped z;
+        more = inside-more e;
+      } in
       go t w s i
     where
       inside-more : size ≡ suc j → 0 < kindOf k .size
@@ -269,7 +292,8 @@ module _ (n k : ℕ) (bs : List ℕ) (ih : (m : ℕ) → Reads n (drop m bs)) (f
   unfolding readingFrom
   reads-one = go (mayStand p role) refl
     where
-      go : (t : Bool) → mayStand p role ≡ t → Agrees (following f (k ∷ bs)) (cond t (cond (leb size (length bs)) (followedBy (entry k (take size bs)) rest) (stopsAt (malformed at))) (stopsAt (malformed at)))
+      go : (t : Bool) → mayStand p role ≡ t
+          → Agrees (following f (k ∷ bs)) (cond t (cond (leb size (length bs)) (followedBy (entry k (take size bs)) rest) (stopsAt (malformed at))) (stopsAt (malformed at)))
       go true h = taking h size refl (leb size (length bs)) refl
       go false h = refused h
 

@@ -1,6 +1,6 @@
 -- Laws of a verdict's line: a word is eight digits, how long each part is at most, and that the line fits.
 --   hex-few, hex-put    `io`'s digits of a word are the eight of `hex`
---   head-near, word-near   the place after a part
+--   head-near, word-near, expected-near   the place after a part
 --   line-short          no line is longer than 64 bytes
 --   line-is             what is put at the front of a page stands there
 --   line-settled        any two lines that the promise allows say the same
@@ -35,7 +35,8 @@ hex-few {n} {k} h f = by (leb k 8) refl
         let most : 16 ^ (k - 1) ≤ n = f .2 more in
         absurd (omega (arith, pow-le-pow-right {n = 16} (omega arith) {i = 8} {j = k - 1} (omega arith)))
 
-pub hex-put : {page : List ℕ} {at n k r : ℕ} (d : List ℕ) {page' : List ℕ} → n < 2 ^ 32 → Fewest 16 8 n k → take k d ≡ digits 16 k n → Puts page at (take k d) r page' → Puts page at (hex n) r page'
+pub hex-put : {page : List ℕ} {at n k r : ℕ} (d : List ℕ) {page' : List ℕ} → n < 2 ^ 32 → Fewest 16 8 n k → take k d ≡ digits 16 k n
+    → Puts page at (take k d) r page' → Puts page at (hex n) r page'
 unfolding hex
 hex-put {page} {at} {n} {k} {r} d {page'} h f e p = subst (λ (t : List ℕ). Puts page at t r page') (e ∙ ap (λ (m : ℕ). digits 16 m n) (hex-few h f)) p
 
@@ -49,6 +50,9 @@ module _ {page : List ℕ} {r : ℕ} {page' : List ℕ} where
 
   pub word-near : (n g : ℕ) → Puts page 0 (recorded n g) r page' → r ≤ 41
   word-near n g p = omega (arith, simp length-append at (p .next), decimal-short n, hex-length g)
+
+  pub expected-near : (n g : ℕ) (t : List ℕ) → Puts page 0 (recorded n g ++ t) r page' → r ≤ 41 + length t
+  expected-near n g t p = omega (arith, simp length-append at (p .next), decimal-short n, hex-length g)
 
   pub line-is : (t : List ℕ) → Puts page 0 t r page' → take r page' ≡ t
   line-is t p = ap (λ (l : List ℕ). take r l) (p .said) ∙ take-at t (drop r page) r (sym (p .next ∙ zero-more (length t)))

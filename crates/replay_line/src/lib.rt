@@ -7,7 +7,7 @@ ghost use lib.ListN.{length, take};
 ghost use Rattle.text.specs.Bytes.{bytes};
 ghost use Rattle.page.specs.Page.{Puts};
 ghost use Rattle.phrases.specs.Phrase.{decimal};
-ghost use Rattle.replay_line.specs.Says.{hex, lineOf};
+ghost use Rattle.replay_line.specs.Says.{hex, recorded, lineOf};
 
 pub struct Line {
     pub text: [u8; 64],
@@ -34,37 +34,29 @@ fn head(page: &mut [u8], first: &[u8], n: u64, then: &[u8]) -> usize
     page::put_text(page, p, then)
 }
 
-// `record N word G`
-fn recorded(page: &mut [u8], n: u64, g: u32) -> usize
-    requires { ⌜ 64 ≤ length (now page) ⌝ }
-    ensures { λ r. ⌜ Puts (now (page .entry)) 0 (bytes "record " ++ decimal n ++ bytes " word " ++ hex g) r (now (page .exit)) ⌝ }
+// `record N`, some words of text, and a word as eight digits.
+fn worded(page: &mut [u8], n: u64, then: &[u8], w: u32) -> usize
+    requires { ⌜ (64 ≤ length (now page)) × (length (now then) ≤ 14) ⌝ }
+    ensures { λ r. ⌜ Puts (now (page .entry)) 0 (bytes "record " ++ decimal n ++ now (then .entry) ++ hex w) r (now (page .exit)) ⌝ }
 {
-    let p = head(page, b"record ", n, b" word ");
-    put_hex(page, p, g)
+    let p = head(page, b"record ", n, then);
+    put_hex(page, p, w)
+}
+
+// `record N word G`, and a text.
+fn expected(page: &mut [u8], n: u64, g: u32, then: &[u8]) -> usize
+    requires { ⌜ (64 ≤ length (now page)) × (length (now then) ≤ 14) ⌝ }
+    ensures { λ r. ⌜ Puts (now (page .entry)) 0 (recorded n g ++ now (then .entry)) r (now (page .exit)) ⌝ }
+{
+    let p = worded(page, n, b" word ", g);
+    page::put_text(page, p, then)
 }
 
 fn differs(page: &mut [u8], n: u64, g: u32, h: u32) -> usize
     requires { ⌜ 64 ≤ length (now page) ⌝ }
     ensures { λ r. ⌜ Puts (now (page .entry)) 0 (lineOf (Verdict.Differs n g h)) r (now (page .exit)) ⌝ }
 {
-    let p = recorded(page, n, g);
-    let p = page::put_text(page, p, b" expected ");
-    put_hex(page, p, h)
-}
-
-fn extra(page: &mut [u8], n: u64, g: u32) -> usize
-    requires { ⌜ 64 ≤ length (now page) ⌝ }
-    ensures { λ r. ⌜ Puts (now (page .entry)) 0 (lineOf (Verdict.Extra n g)) r (now (page .exit)) ⌝ }
-{
-    let p = recorded(page, n, g);
-    page::put_text(page, p, b" expected none")
-}
-
-fn missing(page: &mut [u8], n: u64, h: u32) -> usize
-    requires { ⌜ 64 ≤ length (now page) ⌝ }
-    ensures { λ r. ⌜ Puts (now (page .entry)) 0 (lineOf (Verdict.Missing n h)) r (now (page .exit)) ⌝ }
-{
-    let p = head(page, b"record ", n, b" missing word ");
+    let p = expected(page, n, g, b" expected ");
     put_hex(page, p, h)
 }
 
@@ -83,8 +75,8 @@ fn put_line(v: Verdict, page: &mut [u8]) -> usize
     match v {
         Verdict::Agree(n) => head(page, b"agree ", n, b""),
         Verdict::Differs(n, g, h) => differs(page, n, g, h),
-        Verdict::Extra(n, g) => extra(page, n, g),
-        Verdict::Missing(n, h) => missing(page, n, h),
+        Verdict::Extra(n, g) => expected(page, n, g, b" expected none"),
+        Verdict::Missing(n, h) => worded(page, n, b" missing word ", h),
         Verdict::Refused(n, why) => refused(page, n, why),
         Verdict::Malformed(p) => head(page, b"offset ", p, b" malformed"),
     }

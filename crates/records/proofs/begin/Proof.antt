@@ -45,7 +45,15 @@ counted-requires-2 c κs = search needs
 -- src/lib.rt:170:1
 returns-2 : tie.Need-returns-2
 unfolding begun
-returns-2 c = simp (sym (c .before .before .before .before .before .kind-of .ensures), sym (c .before .before .before .before .may-stand .ensures) ∙ not-false _ (c .before .before .before .if1 .left), c .counted2 .ensures, c .before .after .ensures, c .before .before .stage-at .ensures)
+returns-2 c =
+    let p = c .before .before .before in
+    simp (
+      sym (p .before .before .kind-of .ensures),
+      sym (p .before .may-stand .ensures) ∙ not-false _ (p .if1 .left),
+      c .counted2 .ensures,
+      c .before .after .ensures,
+      c .before .before .stage-at .ensures,
+    )
 
 pub begin-spec : {M : Type 1} → statement M
 begin-spec =

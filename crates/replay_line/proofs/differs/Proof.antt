@@ -1,52 +1,41 @@
-use Rattle.text.specs.Bytes.{bytes}
-use Rattle.replay_line.specs.Says.{lineOf}
-use Rattle.phrases.proofs.Phrases.{says-number, decimal-short}
-use Rattle.page.proofs.Pages.{joined}
-use Rattle.replay_line.proofs.Lines.{hex-few, hex-put, hex-length, head-near, word-near, line-is}
-use mathlib.Core.Path.{_≡_, refl, sym, ap, _∙_}
+-- `differs`: the recorded word, and the one that was expected.
 use native.Mathlib.Omega.{arith}
-use borrow.Author.Tests.{not-true, not-false, eq-eqb, ne-eqb, lt-ltb, le-ltb, le-leb, lt-leb}
+use Rattle.text.specs.Bytes.{bytes}
+use Rattle.page.proofs.Pages.{joined}
+use Rattle.replay_line.specs.Says.{lineOf}
+use Rattle.replay_line.proofs.Lines.{expected-near}
 use borrow.Author.Needs.{needs}
 use Rattle.replay_line.proofs.differs.Statement.{statement}
 use Rattle.replay_line.proofs.differs.Tie as tie
 use Rattle.replay_line.proofs.differs.Reads as reads
 use Rattle.replay_line.proofs.differs.Lts as lts
-use Rattle.page.proofs.put_text.Reads as put-text-reads
+use Rattle.replay_line.proofs.expected.Reads as expected-reads
 use Rattle.replay_line.proofs.put_hex.Reads as put-hex-reads
-use Rattle.replay_line.proofs.recorded.Reads as recorded-reads
 
--- src/lib.rt:50:9
-recorded-requires : tie.Need-recorded-requires
-recorded-requires c κs = search needs
+slice-aggregate-expected : tie.Need-slice-aggregate-expected
+slice-aggregate-expected c = search needs
 
--- src/lib.rt:51:37
-slice-aggregate-put-text : tie.Need-slice-aggregate-put-text
-slice-aggregate-put-text c = search needs
+expected-requires : tie.Need-expected-requires
+expected-requires c κs = search needs
 
--- src/lib.rt:51:9
-put-text-requires : tie.Need-put-text-requires
-put-text-requires c κs = omega (arith, word-near _ _ (c .before .before .before .before .recorded .ensures), c .before .before .before .page .given)
-
--- src/lib.rt:52:5
 put-hex-requires : tie.Need-put-hex-requires
-put-hex-requires c κs = omega (arith, word-near _ _ (c .before .before .before .before .before .before .before .before .recorded .ensures), c .before .before .before .put-text .ensures .next, c .before .before .before .before .before .before .before .page .given, c .before .before .page2 .given)
+put-hex-requires c κs = omega (arith, expected-near _ _ (bytes " expected ") (c .before .before .before .expected .ensures), c .before .before .page .given)
 
--- src/lib.rt:46:1
 same-length : tie.Need-same-length
 same-length c = search needs
 
--- src/lib.rt:46:1
 returns : tie.Need-returns
 unfolding lineOf
-returns c = joined (omega (arith, word-near _ _ (c .before .before .before .before .before .before .before .before .before .before .before .recorded .ensures), c .before .before .before .before .before .before .put-text .ensures .next)) (joined (omega (arith, word-near _ _ (c .before .before .before .before .before .before .before .before .before .before .before .recorded .ensures))) (c .before .before .before .before .before .before .before .before .before .before .before .recorded .ensures) (c .before .before .before .before .before .before .put-text .ensures)) (c .before .before .put-hex .ensures)
+returns c =
+    let h = c .before .before .before .before .before .before .expected .ensures in
+    joined (omega (arith, expected-near _ _ (bytes " expected ") h)) h (c .before .before .put-hex .ensures)
 
 pub differs-spec : {M : Type 1} → statement M
 differs-spec =
     tie.close
     (tie.spec
-    recorded-requires
-    slice-aggregate-put-text
-    put-text-requires
+    slice-aggregate-expected
+    expected-requires
     put-hex-requires
     same-length
     returns)

@@ -31,7 +31,9 @@ same-length c = search needs
 
 -- src/lib.rt:28:1
 returns : tie.Need-returns
-returns c = joined (omega arith) (joined (omega arith) (c .before .before .before .before .before .before .before .before .before .before .put-text .ensures) (says-number (c .before .before .before .before .before .before .put-number .ensures))) (c .before .before .put-text2 .ensures)
+returns c =
+    let p = c .before .before .before .before .before .before in
+    joined (omega arith) (joined (omega arith) (p .before .before .before .before .put-text .ensures) (says-number (p .put-number .ensures))) (c .before .before .put-text2 .ensures)
 
 pub head-spec : {M : Type 1} → statement M
 head-spec =

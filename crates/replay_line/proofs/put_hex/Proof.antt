@@ -36,7 +36,9 @@ same-length c = search needs
 
 -- src/lib.rt:18:1
 returns : tie.Need-returns
-returns c = hex-put _ (omega arith) (c .before .before .before .before .before .hex .ensures .1 .0) (c .before .before .before .before .before .hex .ensures .1 .1) (c .before .before .put-text .ensures)
+returns c =
+    let p = c .before .before .before .before .before in
+    hex-put _ (omega arith) (p .hex .ensures .1 .0) (p .hex .ensures .1 .1) (c .before .before .put-text .ensures)
 
 pub put-hex-spec : {M : Type 1} → statement M
 put-hex-spec =

@@ -37,7 +37,9 @@ same-length c = search needs
 -- src/lib.rt:71:1
 returns : tie.Need-returns
 unfolding lineOf
-returns c = joined (omega (arith, head-near (bytes "record ") _ (bytes " refused ") (c .before .before .before .before .before .before .head .ensures))) (c .before .before .before .before .before .before .head .ensures) (says-number (c .before .before .put-number .ensures))
+returns c =
+    let h = c .before .before .before .before .before .before .head .ensures in
+    joined (omega (arith, head-near (bytes "record ") _ (bytes " refused ") h)) h (says-number (c .before .before .put-number .ensures))
 
 pub refused-spec : {M : Type 1} → statement M
 refused-spec =

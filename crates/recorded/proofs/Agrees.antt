@@ -30,16 +30,19 @@ use Rattle.records.specs.declared.Phase.the-variants.{Start}
 use Rattle.records.specs.Values.{Entry, openEntry, bytesOf}
 use Rattle.records.specs.Reading.{WellFormed, clean, readingOf}
 use Rattle.records.proofs.Back.{read-back}
+use Rattle.tape.specs.Front.{symbolRecords, finishRecords, spaceOf}
 use Rattle.tape.proofs.Fronts.{bytes-append}
 use Rattle.recorder.specs.declared.Taped.{Taped}
-use Rattle.recorder.specs.Recorded.{symbolRecords, finishRecords, spaceOf, judgeRecorded, Walked, stopsBefore, goesOn, walkRecorded, PieceRecorded, pieceRecorded, FinishRecorded, finishRecorded, openingRecorded}
+use Rattle.recorder.specs.Recorded.{judgeRecorded, Walked, stopsBefore, goesOn, walkRecorded}
+use Rattle.recorder.specs.Recorded.{PieceRecorded, pieceRecorded, FinishRecorded, finishRecorded, openingRecorded}
 use Rattle.recorder.specs.Promise.{Pays, EndPays}
-use Rattle.recorder.proofs.Spaces.{open-space}
+use Rattle.recorder.proofs.Opens.{open-space}
 use Rattle.replay_step.specs.declared.Verdict.{Verdict}
 use Rattle.replay_step.specs.declared.Verdict.the-variants.{Agree}
 use Rattle.replay.specs.Meaning.{Line, closed, told, Seen, nothingSeen, takings, closing, verdictOf}
 use Rattle.recorded.specs.Recording.{Recording, opens, hears, refuses, Ended, ends}
-use Rattle.recorded.proofs.Forms.{Formed, phaseAfter, well, formed-append, phase-append, Ready, Runs, none-runs, runs-append, symbol-runs, open-runs, finish-formed}
+use Rattle.recorded.proofs.Forms.{Formed, phaseAfter, well, formed-append, phase-append, Ready}
+use Rattle.recorded.proofs.Forms.{Runs, none-runs, runs-append, symbol-runs, open-runs, finish-formed}
 use Rattle.recorded.proofs.Seeing.{seen, takings-append, symbol-seen, open-seen, finish-seen}
 
 -- ---- one piece
@@ -53,7 +56,8 @@ record Walks (t : Told) (ys : List (Two Received)) (p : Phase) (m n : ℕ) (e : 
 taken-judged : (t : Told) (ys : List (Two Received)) (y : Two Received) (room bytes : ℕ) → judgeRecorded t ys y room bytes .number ≡ 0 → judgeSymbol t ys y room .number ≡ 0
 unfolding judgeRecorded
 taken-judged t ys y room bytes = go (ltb bytes (spaceOf (symbolRecords y (fresh (speakerOf t) ys y)))) (eqb (judgeSymbol t ys y room .number) 0) refl where
-  go : (b a : Bool) → eqb (judgeSymbol t ys y room .number) 0 ≡ a → cond {A = Reason} (a && b) (reason 8) (judgeSymbol t ys y room) .number ≡ 0 → judgeSymbol t ys y room .number ≡ 0
+  go : (b a : Bool) → eqb (judgeSymbol t ys y room .number) 0 ≡ a → cond {A = Reason} (a && b) (reason 8) (judgeSymbol t ys y room) .number ≡ 0 →
+      judgeSymbol t ys y room .number ≡ 0
   go b true e z = eqb-true (judgeSymbol t ys y room .number) 0 e
   go b false e z = z
 
@@ -120,7 +124,8 @@ module _ (k : Accord) (w s : ℕ) (ws bs : List ℕ) (rx : Receiver) (F : Follow
 
   -- a walk of symbols
   walked : (e : Walked) → Walks (F .told-is) (F .told-is .heard) (phaseAfter Start (F .records)) (F .number) (length ws) e → Fine (withHeard (F .told-is) (e .heard)) →
-      (vs cs : List ℕ) (rx′ : Receiver) → vs ≡ e .words → cs ≡ bytesOf (e .records) → rx′ ≡ machineOf (withHeard (F .told-is) (e .heard)) → Follows k w s (ws ++ vs) (bs ++ cs) rx′
+      (vs cs : List ℕ) (rx′ : Receiver) → vs ≡ e .words → cs ≡ bytesOf (e .records) → rx′ ≡ machineOf (withHeard (F .told-is) (e .heard)) →
+      Follows k w s (ws ++ vs) (bs ++ cs) rx′
   walked e x f vs cs rx′ a b c =
       record {
         told-is = withHeard (F .told-is) (e .heard);
@@ -141,7 +146,8 @@ taken-words : (words out o : List ℕ) (n : ℕ) → n ≡ length words → o �
 taken-words words out o n e is = rw (e, is) (take-append-seam words (drop (length words) out))
 
 heard-follows : (k : Accord) (w s : ℕ) (ws bs : List ℕ) (rx : Receiver) (F : Follows k w s ws bs rx) (p : Piece) (out bytes o b : List ℕ) (r : Taped) →
-    Pays (pieceRecorded (F .told-is) p (length out) (length bytes)) out bytes r o b → Follows k w s (ws ++ take (r .written) o) (bs ++ take (r .recorded) b) (r .receiver)
+    Pays (pieceRecorded (F .told-is) p (length out) (length bytes)) out bytes r o b →
+    Follows k w s (ws ++ take (r .written) o) (bs ++ take (r .recorded) b) (r .receiver)
 unfolding pieceRecorded bytesOf
 heard-follows k w s ws bs rx F p out bytes o b r = go (p .fits)
   where
@@ -151,13 +157,25 @@ heard-follows k w s ws bs rx F p out bytes o b r = go (p .fits)
     e : Walked
     e = walkRecorded t (t .heard) (p .symbols) (length out) (length bytes)
 
-    go : (c : Bool) → Pays (cond c (record { reason = e .why; taken = e .taken; words = e .words; records = e .records; told = withHeard t (e .heard) }) (record { reason = reason 10; taken = 0; words = []; records = []; told = t })) out bytes r o b →
-        Follows k w s (ws ++ take (r .written) o) (bs ++ take (r .recorded) b) (r .receiver)
+    piece : Bool → PieceRecorded
+    piece c =
+        cond c (record { reason = e .why; taken = e .taken; words = e .words; records = e .records; told = withHeard t (e .heard) })
+        (record { reason = reason 10; taken = 0; words = []; records = []; told = t })
+
+    -- the words and the bytes of what is paid
+    said : (d : PieceRecorded) → Pays d out bytes r o b → (take (r .written) o ≡ d .words) × (take (r .recorded) b ≡ bytesOf (d .records))
+    said d q = (taken-words (d .words) out o (r .written) (q .written) (q .output), taken-words (bytesOf (d .records)) bytes b (r .recorded) (q .recorded) (q .bytes-are))
+
+    went : Walks t (t .heard) (phaseAfter Start (F .records)) (F .number) (length ws) e
+    went = walks t (p .symbols) (t .heard) (F .fine) (phaseAfter Start (F .records)) (F .form .ready) (length out) (length bytes) (F .number) (length ws)
+
+    go : (c : Bool) → Pays (piece c) out bytes r o b → Follows k w s (ws ++ take (r .written) o) (bs ++ take (r .recorded) b) (r .receiver)
     go true q =
-        walked k w s ws bs rx F e (walks t (p .symbols) (t .heard) (F .fine) (phaseAfter Start (F .records)) (F .form .ready) (length out) (length bytes) (F .number) (length ws)) (q .fine)
-        (take (r .written) o) (take (r .recorded) b) (r .receiver) (taken-words (e .words) out o (r .written) (q .written) (q .output)) (taken-words (bytesOf (e .records)) bytes b (r .recorded) (q .recorded) (q .bytes-are)) (q .receiver)
+        let v = said (piece true) q in
+        walked k w s ws bs rx F e went (q .fine) (take (r .written) o) (take (r .recorded) b) (r .receiver) (v .0) (v .1) (q .receiver)
     go false q =
-        idle k w s ws bs rx F (take (r .written) o) (take (r .recorded) b) (r .receiver) (taken-words [] out o (r .written) (q .written) (q .output)) (taken-words (bytesOf []) bytes b (r .recorded) (q .recorded) (q .bytes-are)) (q .receiver ∙ sym (F .is))
+        let v = said (piece false) q in
+        idle k w s ws bs rx F (take (r .written) o) (take (r .recorded) b) (r .receiver) (v .0) (v .1) (q .receiver ∙ sym (F .is))
 
 -- a finish: refused, it leaves all as it was; done, the capture ends with it
 module _ (k : Accord) (w s : ℕ) (ws bs : List ℕ) (rx : Receiver) (F : Follows k w s ws bs rx) (out bytes o b : List ℕ) (r : Taped) where
@@ -179,20 +197,25 @@ module _ (k : Accord) (w s : ℕ) (ws bs : List ℕ) (rx : Receiver) (F : Follow
   short : Bool
   short = ltb (length out) (length last) || ltb (length bytes) (spaceOf (finishRecords last))
 
+  -- the words and the bytes of what is paid
+  said : (d : FinishRecorded) → EndPays d rx out bytes r o b → (take (r .written) o ≡ d .words) × (take (r .recorded) b ≡ bytesOf (d .records))
+  said d q = (taken-words (d .words) out o (r .written) (q .written) (q .output), taken-words (bytesOf (d .records)) bytes b (r .recorded) (q .recorded) (q .bytes-are))
+
   refused-follows : EndPays (finishRecorded t (length out) (length bytes)) rx out bytes r o b → (givenOf (r .why) .number ≡ 0 → ⊥) →
       Follows k w s (ws ++ take (r .written) o) (bs ++ take (r .recorded) b) (r .receiver)
   unfolding finishRecorded short bytesOf
   refused-follows q z = go short q where
     go : (c : Bool) → EndPays (finished c) rx out bytes r o b → Follows k w s (ws ++ take (r .written) o) (bs ++ take (r .recorded) b) (r .receiver)
-    go true q = idle k w s ws bs rx F (take (r .written) o) (take (r .recorded) b) (r .receiver) (taken-words [] out o (r .written) (q .written) (q .output)) (taken-words (bytesOf []) bytes b (r .recorded) (q .recorded) (q .bytes-are)) (q .receiver)
+    go true q = idle k w s ws bs rx F (take (r .written) o) (take (r .recorded) b) (r .receiver) (said refusal q .0) (said refusal q .1) (q .receiver)
     go false q = absurd (z (ap (λ (x : Reason). x .number) (q .given)))
 
-  ended-is : EndPays (finishRecorded t (length out) (length bytes)) rx out bytes r o b → givenOf (r .why) .number ≡ 0 → (take (r .written) o ≡ last) × (take (r .recorded) b ≡ bytesOf (finishRecords last))
+  ended-is : EndPays (finishRecorded t (length out) (length bytes)) rx out bytes r o b → givenOf (r .why) .number ≡ 0 →
+      (take (r .written) o ≡ last) × (take (r .recorded) b ≡ bytesOf (finishRecords last))
   unfolding finishRecorded short
   ended-is q z = go short q where
     go : (c : Bool) → EndPays (finished c) rx out bytes r o b → (take (r .written) o ≡ last) × (take (r .recorded) b ≡ bytesOf (finishRecords last))
     go true q = absurd (let e : _≡_ {A = ℕ} 8 0 = sym (ap (λ (x : Reason). x .number) (q .given)) ∙ z in omega arith)
-    go false q = (taken-words last out o (r .written) (q .written) (q .output), taken-words (bytesOf (finishRecords last)) bytes b (r .recorded) (q .recorded) (q .bytes-are))
+    go false q = said success q
 
 -- ---- the verdict
 
@@ -201,7 +224,9 @@ unfolding verdictOf
 verdict-is rs l m n f e = rw (read-back rs f) (ap (λ (q : Seen). closing q clean) e)
 
 follows-agree : (k : Accord) (w s : ℕ) (ws bs : List ℕ) (rx : Receiver) → Follows k w s ws bs rx → verdictOf bs ≡ Agree (length ws)
-follows-agree k w s ws bs rx F = ap verdictOf (F .bytes) ∙ verdict-is (F .records) (told (F .told-is)) (F .number) (length ws) (well Start (F .records) (F .form .formed) (F .form .ready .begun)) (F .sees)
+follows-agree k w s ws bs rx F =
+    let f = well Start (F .records) (F .form .formed) (F .form .ready .begun) in
+    ap verdictOf (F .bytes) ∙ verdict-is (F .records) (told (F .told-is)) (F .number) (length ws) f (F .sees)
 
 follows : (k : Accord) (w s : ℕ) (ws bs : List ℕ) (rx : Receiver) → Recording k w s ws bs rx → Follows k w s ws bs rx
 unfolding openingRecorded
@@ -238,10 +263,13 @@ ended-agrees k w s ws bs (ends {ws = vs} {bs = cs} {rx = ry} q out bytes o b r i
     let t = F .told-is in
     let last = rest (speakerOf t) (t .heard) in
     let x = ended-is k w s vs cs ry F out bytes o b r (is .owed t (F .fine) (F .is)) z in
+    let all = F .records ++ finishRecords last in
     let g = finish-formed (phaseAfter Start (F .records)) (F .form .ready) last in
-    let f : Formed Start (F .records ++ finishRecords last) = formed-append Start (F .records) (finishRecords last) (F .form .formed) (g .0) in
-    let e : takings nothingSeen (F .records ++ finishRecords last) ≡ seen closed [] (F .number + 1 + length last) (length vs + length last) =
-    takings-append nothingSeen (F .records) (finishRecords last) ∙ ap (λ (y : Seen). takings y (finishRecords last)) (F .sees) ∙ finish-seen t (F .fine) (F .number) (length vs) in
+    let f : Formed Start all = formed-append Start (F .records) (finishRecords last) (F .form .formed) (g .0) in
+    let over : WellFormed Start all = well Start all f (rw (phase-append Start (F .records) (finishRecords last)) (g .1)) in
+    let e : takings nothingSeen all ≡ seen closed [] (F .number + 1 + length last) (length vs + length last) =
+    takings-append nothingSeen (F .records) (finishRecords last) ∙ ap (λ (y : Seen). takings y (finishRecords last)) (F .sees)
+    ∙ finish-seen t (F .fine) (F .number) (length vs) in
     ap verdictOf (ap₂ (λ (l m : List ℕ). l ++ m) (F .bytes) (x .1) ∙ sym (bytes-append (F .records) (finishRecords last)))
-    ∙ verdict-is (F .records ++ finishRecords last) closed (F .number + 1 + length last) (length vs + length last) (well Start (F .records ++ finishRecords last) f (rw (phase-append Start (F .records) (finishRecords last)) (g .1))) e
+    ∙ verdict-is all closed (F .number + 1 + length last) (length vs + length last) over e
     ∙ ap Agree (rw (x .0) (sym (length-append vs last)))

@@ -15,8 +15,7 @@ use Rattle.records.specs.declared.Role.the-variants.{Symbol, Word, Finish}
 use Rattle.records.specs.Kinds.{kindOf, mayStand, afterRole, begins}
 use Rattle.records.specs.Values.{Entry, openEntry}
 use Rattle.records.specs.Reading.{WellFormed}
-use Rattle.tape.specs.Front.{wordEntries}
-use Rattle.recorder.specs.Recorded.{symbolRecords, finishRecords}
+use Rattle.tape.specs.Front.{wordEntries, symbolRecords, finishRecords}
 
 abbrev pub Formed : Phase → List Entry → Type 0
 Formed p [] = Unit {0}

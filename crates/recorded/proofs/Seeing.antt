@@ -29,10 +29,9 @@ use Rattle.told.specs.Owed.{Owed, pieceOwed, FinishOwed, finishOwed}
 use Rattle.told.proofs.Telling.{telling-judge}
 use Rattle.told.proofs.Speaks.{fresh-below, rest-below}
 use Rattle.records.specs.Kinds.{kindOf}
-use Rattle.records.specs.Values.{Entry, openEntry, symbolEntry, wordEntry, finishEntry, coordinatesOf}
+use Rattle.records.specs.Values.{Entry, openEntry, wordEntry, finishEntry, coordinatesOf}
 use Rattle.records.proofs.Back.{word-back, coordinate-back}
-use Rattle.tape.specs.Front.{wordEntries}
-use Rattle.recorder.specs.Recorded.{symbolRecords, finishRecords}
+use Rattle.tape.specs.Front.{symbolRecord, wordEntries, symbolRecords, finishRecords}
 use Rattle.replay_step.specs.declared.Verdict.the-variants.{Agree}
 use Rattle.replay.specs.Meaning.{Line, closed, told, Seen, nothingSeen, answered, taking, takings}
 
@@ -64,7 +63,9 @@ module _ (t : Told) (ys : List (Two Received)) (y : Two Received) where
   -- a symbol that was taken is taken with room for 65 words
   roomy : (room : ℕ) → judgeSymbol t ys y room .number ≡ 0 → length (fresh (speakerOf t) ys y) ≤ 65 → judgeSymbol t ys y 65 ≡ reason 0
   unfolding judgeSymbol
-  roomy room z few = rw (le-ltb 65 (length (fresh (speakerOf t) ys y)) few) (go (ltb (faultOf y) 4) (leb 4294967295 (length ys)) (ltb (t .window) (pendingAfter t (y ∷ ys))) (ltb room (length (fresh (speakerOf t) ys y))) z)
+  roomy room z few =
+      rw (le-ltb 65 (length (fresh (speakerOf t) ys y)) few)
+      (go (ltb (faultOf y) 4) (leb 4294967295 (length ys)) (ltb (t .window) (pendingAfter t (y ∷ ys))) (ltb room (length (fresh (speakerOf t) ys y))) z)
     where
       go : (a b c d : Bool) → cond {A = Reason} a (record { number = 5; place = faultOf y }) (cond b (reason 7) (cond c (reason 6) (cond d (reason 8) (reason 0)))) .number ≡ 0 →
           cond a (record { number = 5; place = faultOf y }) (cond b (reason 7) (cond c (reason 6) (reason 0))) ≡ reason 0
@@ -104,7 +105,7 @@ module _ (t : Told) (ys : List (Two Received)) (f : Fine (withHeard t ys)) (y : 
   again : judgeSymbol (withHeard t ys) ys y 65 ≡ reason 0
   again = telling-judge t ys ys y 65 ∙ roomy t ys y room z (omega (arith, few))
 
-  read : coordinatesOf (symbolEntry (y .first .x) (y .first .y) (y .second .x) (y .second .y) .body) ≡ y .first .x ∷ y .first .y ∷ y .second .x ∷ y .second .y ∷ []
+  read : coordinatesOf (symbolRecord y .body) ≡ y .first .x ∷ y .first .y ∷ y .second .x ∷ y .second .y ∷ []
   read =
       let r = g .each .0 in
       rw (
@@ -114,7 +115,7 @@ module _ (t : Told) (ys : List (Two Received)) (f : Fine (withHeard t ys)) (y : 
         coordinate-back (y .second .y) (omega (arith, r .second-in .y-in)),
       )
 
-  taken : (m n : ℕ) → taking (seen (told (withHeard t ys)) [] m n) (symbolEntry (y .first .x) (y .first .y) (y .second .x) (y .second .y)) ≡ seen (told (withHeard t (y ∷ ys))) ws (m + 1) n
+  taken : (m n : ℕ) → taking (seen (told (withHeard t ys)) [] m n) (symbolRecord y) ≡ seen (told (withHeard t (y ∷ ys))) ws (m + 1) n
   unfolding taking kindOf
   taken m n =
       ap (λ (xs : List ℤ). heardAs m n (pieceOwed (withHeard t ys) (pieceOf xs) 65)) read

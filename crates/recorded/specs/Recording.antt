@@ -21,10 +21,13 @@ pub data Recording (k : Accord) (w s : ℕ) : List ℕ → List ℕ → Receiver
   opens : (r : Opened) → Opens k w (startAt s) r → givenOf (r .why) .number ≡ 0 →
       (bytes b : List ℕ) (n : ℕ) → OpenTaped k w s bytes n b → n ≡ 0 → Recording k w s [] (take 4 b) (r .receiver)
   hears : {ws bs : List ℕ} {rx : Receiver} → Recording k w s ws bs rx →
-      (p : Piece) (out bytes o b : List ℕ) (r : Taped) → Tapes rx p out bytes r o b → Recording k w s (ws ++ take (r .written) o) (bs ++ take (r .recorded) b) (r .receiver)
+      (p : Piece) (out bytes o b : List ℕ) (r : Taped) → Tapes rx p out bytes r o b →
+      Recording k w s (ws ++ take (r .written) o) (bs ++ take (r .recorded) b) (r .receiver)
   refuses : {ws bs : List ℕ} {rx : Receiver} → Recording k w s ws bs rx →
-      (out bytes o b : List ℕ) (r : Taped) → FinishTaped rx out bytes r o b → (givenOf (r .why) .number ≡ 0 → ⊥) → Recording k w s (ws ++ take (r .written) o) (bs ++ take (r .recorded) b) (r .receiver)
+      (out bytes o b : List ℕ) (r : Taped) → FinishTaped rx out bytes r o b → (givenOf (r .why) .number ≡ 0 → ⊥) →
+      Recording k w s (ws ++ take (r .written) o) (bs ++ take (r .recorded) b) (r .receiver)
 
 pub data Ended (k : Accord) (w s : ℕ) : List ℕ → List ℕ → Type 0 where
   ends : {ws bs : List ℕ} {rx : Receiver} → Recording k w s ws bs rx →
-      (out bytes o b : List ℕ) (r : Taped) → FinishTaped rx out bytes r o b → givenOf (r .why) .number ≡ 0 → Ended k w s (ws ++ take (r .written) o) (bs ++ take (r .recorded) b)
+      (out bytes o b : List ℕ) (r : Taped) → FinishTaped rx out bytes r o b → givenOf (r .why) .number ≡ 0 →
+      Ended k w s (ws ++ take (r .written) o) (bs ++ take (r .recorded) b)

@@ -1,10 +1,4 @@
-pub mod Spaces
-pub mod Prefix
-pub mod Symbols
-pub mod Left
-pub mod One
 pub mod Opens
-pub mod Going
 pub mod Owes
 pub mod Ends
 pub mod Settled

@@ -1,6 +1,7 @@
 -- The outcomes of `record_open`, one law each.
 --   open-short, open-refused, open-done   8; the opening's own number; and the record
 --   open-small                            what is recorded fits its bytes
+--   open-space                            how many these are
 use mathlib.Core.Path.{_≡_, refl, sym, ap, _∙_}
 use mathlib.Core.Bool.{Bool, true, false, cond, _&&_}
 use mathlib.Core.List.{List, [], _∷_}
@@ -17,10 +18,13 @@ use Rattle.openings.specs.declared.Start.the-variants.{Free, At}
 use Rattle.openings.specs.Given.{startFits, startAt}
 use Rattle.openings.specs.Opening.{openingOwed, Opens}
 use Rattle.records.specs.Values.{openEntry, bytesOf}
-use Rattle.tape.specs.Front.{Fronted}
-use Rattle.recorder.specs.Recorded.{openRecords, spaceOf, openingRecorded}
+use Rattle.tape.specs.Front.{spaceOf, Fronted}
+use Rattle.recorder.specs.Recorded.{openRecords, openingRecorded}
 use Rattle.recorder.specs.Promise.{OpenTaped}
-use Rattle.recorder.proofs.Spaces.{open-space}
+
+pub open-space : (k : Accord) (window start : ℕ) → spaceOf (openRecords k window start) ≡ 4
+unfolding bytesOf
+open-space k window start = refl
 
 module _ (k : Accord) (w s : ℕ) (bytes : List ℕ) where
   eight : length bytes < 4 → openingRecorded k w s (length bytes) ≡ 8
@@ -53,7 +57,8 @@ module _ (k : Accord) (w s : ℕ) (bytes : List ℕ) where
           pick true k e = omega (arith, eqb-true s 16 k)
           pick false k e = omega (arith, leb-true s 15 e)
 
-        go : (a b c d : Bool) → isAccord k ≡ a → leb w 64 ≡ c → startFits (startAt s) ≡ d → _≡_ {A = ℕ} (cond a (cond (b && c) (cond d 0 3) 2) 1) 0 → (k .u < 256) × (w < 256) × (s < 256)
+        go : (a b c d : Bool) → isAccord k ≡ a → leb w 64 ≡ c → startFits (startAt s) ≡ d → _≡_ {A = ℕ} (cond a (cond (b && c) (cond d 0 3) 2) 1) 0 →
+            (k .u < 256) × (w < 256) × (s < 256)
         go true true true true p q r e = (omega (arith, leb-true (k .u) 8 p), omega (arith, leb-true w 64 q), start-small r)
         go true true true false p q r e = absurd (omega arith)
         go true true false d p q r e = absurd (omega arith)

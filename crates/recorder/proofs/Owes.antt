@@ -29,8 +29,11 @@ use Rattle.receiver.proofs.Doors.{EndedBy, finishing-owes}
 use Rattle.records.specs.Values.{Entry, bytesOf}
 use Rattle.tape.proofs.Fronts.{bytes-append}
 use Rattle.recorder.specs.declared.Taped.{Taped}
-use Rattle.recorder.specs.Recorded.{symbolRecords, finishRecords, spaceOf, judgeRecorded, Walked, stopsBefore, goesOn, walkRecorded, PieceRecorded, pieceRecorded, FinishRecorded, finishRecorded}
-use Rattle.recorder.specs.Taping.{tapedAt, Ran, stopped, taping, tapedHearing, tapedFinishing}
+use Rattle.tape.specs.Front.{symbolRecords, finishRecords, spaceOf}
+use Rattle.taping.specs.Taping.{tapedAt, Ran, taping}
+use Rattle.recorder.specs.Recorded.{judgeRecorded, Walked, stopsBefore, goesOn, walkRecorded}
+use Rattle.recorder.specs.Recorded.{PieceRecorded, pieceRecorded, FinishRecorded, finishRecorded}
+use Rattle.recorder.specs.Doors.{stopped, tapedHearing, tapedFinishing}
 use Rattle.recorder.specs.Promise.{Is, Tapes, FinishTaped}
 
 -- ---- one symbol
@@ -57,22 +60,25 @@ module _ (t : Told) (ys : List (Two Received)) (f : Fine (withHeard t ys)) (y : 
   k : Judged t ys y room o
   k = symbol-judged t ys f y room
 
+  -- whether so many words have no room
+  abbrev tight : List ℕ → Bool
+  tight vs = ltb bytes (spaceOf (symbolRecords y vs))
+
   -- the two tests are one
-  tests : (isDone (o .why) && ltb bytes (spaceOf (symbolRecords y (o .words)))) ≡ (eqb (j .number) 0 && ltb bytes (spaceOf (symbolRecords y ws)))
+  tests : (isDone (o .why) && tight (o .words)) ≡ (eqb (j .number) 0 && tight ws)
   unfolding k
   tests = go (eqb (j .number) 0) refl where
     d : isDone (o .why) ≡ eqb (j .number) 0
     d = ap (λ (r : Reason). eqb (r .number) 0) (k .given)
 
-    go : (b : Bool) → eqb (j .number) 0 ≡ b → (isDone (o .why) && ltb bytes (spaceOf (symbolRecords y (o .words)))) ≡ (eqb (j .number) 0 && ltb bytes (spaceOf (symbolRecords y ws)))
+    go : (b : Bool) → eqb (j .number) 0 ≡ b → (isDone (o .why) && tight (o .words)) ≡ (eqb (j .number) 0 && tight ws)
     go true e = rw (d, k .words (eqb-true (j .number) 0 e))
     go false e = rw (d, e)
 
   recorded-judged : JudgedAs t ys y (judgeRecorded t ys y room bytes) (tapedAt rx y room bytes)
   unfolding tapedAt judgeRecorded k
   recorded-judged =
-      subst (λ (b : Bool). JudgedAs t ys y (cond (eqb (j .number) 0 && ltb bytes (spaceOf (symbolRecords y ws))) (reason 8) j) (cond b (refused rx NoRoom) o)) (sym tests)
-      (go (eqb (j .number) 0 && ltb bytes (spaceOf (symbolRecords y ws))))
+      subst (λ (b : Bool). JudgedAs t ys y (cond (eqb (j .number) 0 && tight ws) (reason 8) j) (cond b (refused rx NoRoom) o)) (sym tests) (go (eqb (j .number) 0 && tight ws))
     where
       go : (b : Bool) → JudgedAs t ys y (cond b (reason 8) j) (cond b (refused rx NoRoom) o)
       go true = record { given = refl; words = λ z. absurd (omega arith); receiver = λ z. absurd (omega arith); fine = λ z. absurd (omega arith) }
@@ -143,18 +149,23 @@ module _ (t : Told) where
       further : Walked
       further = walkRecorded t (y ∷ ys) zs (left - length vs) (left-bytes - spaceOf (symbolRecords y vs))
 
+      -- the run after this symbol
+      on : Ran
+      on = taping zs (o .receiver) (n + 1) (ws ++ o .words) (rs ++ symbolRecords y (o .words)) room bytes
+
       both : Bool → Bool → Type 0
       both a b =
           RunsAs t (cond a (goesOn vs (symbolRecords y vs) further) (stopsBefore ys j)) n ws rs
-          (cond b (taping zs (o .receiver) (n + 1) (ws ++ o .words) (rs ++ symbolRecords y (o .words)) room bytes) (record { receiver = machineAfter t ys; taken = n; words = ws; records = rs; why = o .why }))
+          (cond b on (record { receiver = machineAfter t ys; taken = n; words = ws; records = rs; why = o .why }))
 
       more : j .number ≡ 0 → Runs zs → both true true
       more z ih =
           let w = jd .words z in
           let k = ih (y ∷ ys) (jd .fine z) (n + 1) (ws ++ o .words) (rs ++ symbolRecords y (o .words)) room bytes in
           let l : room - length (ws ++ o .words) ≡ left - length vs = omega (arith, length-append ws (o .words), ap length w) in
-          let m : bytes - spaceOf (rs ++ symbolRecords y (o .words)) ≡ left-bytes - spaceOf (symbolRecords y vs) = omega (arith, space-append rs (symbolRecords y (o .words)), ap (λ (v : List ℕ). spaceOf (symbolRecords y v)) w) in
-          goes-on ys y n ws (o .words) rs further (taping zs (o .receiver) (n + 1) (ws ++ o .words) (rs ++ symbolRecords y (o .words)) room bytes) w
+          let m : bytes - spaceOf (rs ++ symbolRecords y (o .words)) ≡ left-bytes - spaceOf (symbolRecords y vs) =
+          omega (arith, space-append rs (symbolRecords y (o .words)), ap (λ (v : List ℕ). spaceOf (symbolRecords y v)) w) in
+          goes-on ys y n ws (o .words) rs further on w
           (rw (jd .receiver z, sym l, sym m) k)
 
       go : (b : Bool) → eqb (j .number) 0 ≡ b → Runs zs → both b (isDone (o .why))
@@ -185,8 +196,17 @@ hearing-owes t f p room bytes = rw (sound-told t f) (go (p .fits))
         (runs t (p .symbols) (t .heard) f 0 [] [] room bytes))
 
     go : (b : Bool) → OwedBy (cond b (taping (p .symbols) (machineOf t) 0 [] [] room bytes) (stopped (machineOf t) Uneven))
-        (cond b (record { reason = w .why; taken = w .taken; words = w .words; records = w .records; told = withHeard t (w .heard) }) (record { reason = reason 10; taken = 0; words = []; records = []; told = t }))
-    go true = record { given = e .given; taken = omega (arith, e .taken); words = e .words; records = e .records; fine = e .fine; receiver = e .receiver ∙ sym (machine-same t (w .heard) (w .heard)) }
+        (cond b (record { reason = w .why; taken = w .taken; words = w .words; records = w .records; told = withHeard t (w .heard) })
+        (record { reason = reason 10; taken = 0; words = []; records = []; told = t }))
+    go true =
+        record {
+          given = e .given;
+          taken = omega (arith, e .taken);
+          words = e .words;
+          records = e .records;
+          fine = e .fine;
+          receiver = e .receiver ∙ sym (machine-same t (w .heard) (w .heard));
+        }
     go false = record { given = refl; taken = refl; words = refl; records = refl; fine = f; receiver = refl }
 
 pub tapes : (rx : Receiver) (p : Piece) (out bytes : List ℕ) (r : Taped) (o b : List ℕ) → Is (tapedHearing rx p (length out) (length bytes)) out bytes r o b → Tapes rx p out bytes r o b
@@ -236,12 +256,16 @@ finishing-tapes t f room bytes = go (ltb room (length ws)) (finishing-owes t f r
     success : FinishRecorded
     success = record { reason = reason 0; words = ws; records = finishRecords ws; closes = true }
 
-    short : (b : Bool) → EndedBy h rx (record { reason = reason 0; words = ws; closes = true }) → EndsAs (cond b (stopped rx NoRoom) (record { receiver = h .receiver; taken = 0; words = h .words; records = finishRecords (h .words); why = Done })) rx (cond b refusal success)
+    -- what the recorder makes of the receiver's answer, where its bytes are too short and where not
+    made : Bool → Ran
+    made b = cond b (stopped rx NoRoom) (record { receiver = h .receiver; taken = 0; words = h .words; records = finishRecords (h .words); why = Done })
+
+    short : (b : Bool) → EndedBy h rx (record { reason = reason 0; words = ws; closes = true }) → EndsAs (made b) rx (cond b refusal success)
     short true k = record { given = refl; taken = refl; words = refl; records = refl; receiver = refl }
     short false k = record { given = refl; taken = refl; words = k .words; records = ap finishRecords (k .words); receiver = k .receiver }
 
     go : (b : Bool) → EndedBy h rx (cond b (record { reason = reason 8; words = []; closes = false }) (record { reason = reason 0; words = ws; closes = true })) →
-        EndsAs (cond (isDone (h .why)) (cond (ltb bytes (spaceOf (finishRecords (h .words)))) (stopped rx NoRoom) (record { receiver = h .receiver; taken = 0; words = h .words; records = finishRecords (h .words); why = Done })) (stopped rx (h .why))) rx
+        EndsAs (cond (isDone (h .why)) (made (ltb bytes (spaceOf (finishRecords (h .words))))) (stopped rx (h .why))) rx
         (cond (b || ltb bytes (spaceOf (finishRecords ws))) refusal success)
     go true k =
         let d : isDone (h .why) ≡ false = ap (λ (r : Reason). eqb (r .number) 0) (k .given) in

@@ -1,3 +1,3 @@
 pub mod Recorded
-pub mod Taping
+pub mod Doors
 pub mod Promise

@@ -2,36 +2,29 @@
 -- (proofs/Settled); `owed` says, for whatever the receiver has been told, what that is: specs/Recorded.
 --   OpenTaped k w s bytes n b       the promise of `record_open`: the number n, and the bytes b after the call
 --   Is                              the answer is that of the machine
---   Refuses, StepIs                   inside: what one symbol gives is its outcome
---   tapedParts, TapesLent           an answer put together from its parts; the promise to a receiver in its parts, whose lists are lent
+--   tapedParts, asLent, TapesLent   an answer put together from its parts; a receiver whose lists are lent, and the promise to it
 --   Tapes rx p out bytes r o b      the promise of `hear`; o and b are the output and the bytes after the call
 --   FinishTaped rx out bytes r o b  the promise of `finish`
-use Prim.Native.Nat.{ℕ, _<_}
+use Prim.Native.Nat.{ℕ}
 use mathlib.Core.Path.{_≡_}
-use mathlib.Core.Bool.{Bool, true, false, cond}
-use mathlib.Core.List.{List, [], _∷_, _++_}
+use mathlib.Core.Bool.{Bool, cond}
+use mathlib.Core.List.{List, []}
 use lib.Dec.{eqb}
-use lib.IntN.{ℤ, pos}
-use lib.ListN.{getD, length, drop}
-use Rattle.trellis.specs.Measure.{Two}
-use Rattle.nearest.specs.declared.Received.{Received}
+use lib.ListN.{length}
 use Rattle.points.specs.declared.Accord.{Accord}
-use Rattle.machine.specs.declared.Core.{Core}
 use Rattle.machine.specs.declared.Receiver.{Receiver}
-use Rattle.machine.specs.Machine.{Outcome, refused, shut, machineOf}
-use Rattle.machine.specs.Taken.{whole}
+use Rattle.machine.specs.Machine.{shut, machineOf}
 use Rattle.told.specs.Told.{Told, Fine}
-use Rattle.told.specs.Piece.{Piece, symbolFrom}
-use Rattle.reasons.specs.declared.Why.{Why}
-use Rattle.reasons.specs.Reason.{givenOf, isDone}
+use Rattle.told.specs.Piece.{Piece}
+use Rattle.reasons.specs.Reason.{givenOf}
 use Rattle.pieces.specs.Running.{Written}
 use Rattle.receiver.specs.Promise.{partsOf, lentLive}
-use Rattle.tape.specs.Front.{Fronted}
+use Rattle.tape.specs.Front.{spaceOf, Fronted}
+use Rattle.taping.specs.declared.Kept.{Kept}
+use Rattle.taping.specs.Taping.{Ran}
 use Rattle.recorder.specs.declared.Taped.{Taped}
-use Rattle.recorder.specs.declared.Step.{Step}
-use Rattle.recorder.specs.declared.Kept.{Kept}
-use Rattle.recorder.specs.Recorded.{openRecords, spaceOf, PieceRecorded, pieceRecorded, FinishRecorded, finishRecorded, openingRecorded}
-use Rattle.recorder.specs.Taping.{Ran, tapedAt, recordsOf, taping, tapedHearing, tapedFinishing}
+use Rattle.recorder.specs.Recorded.{openRecords, PieceRecorded, pieceRecorded, FinishRecorded, finishRecorded, openingRecorded}
+use Rattle.recorder.specs.Doors.{tapedHearing, tapedFinishing}
 
 -- ---- an opening
 
@@ -51,33 +44,18 @@ pub record Is (ran : Ran) (out bytes : List ℕ) (r : Taped) (o b : List ℕ) : 
   pub output : Written (ran .words) out o
   pub bytes-are : Fronted (ran .records) bytes b
 
--- the symbol at the front of some coordinates
-abbrev pub symbolIn : List ℤ → Two Received
-symbolIn xs = symbolFrom (getD xs 0 (pos 0)) (getD xs 1 (pos 0)) (getD xs 2 (pos 0)) (getD xs 3 (pos 0))
-
--- inside: what is said to a symbol whose own record has no room
-abbrev pub Refuses : Receiver → Two Received → Why → Type 0
-Refuses rx y w = (isDone w ≡ false) × ((room bytes : ℕ) → bytes < 9 → tapedAt rx y room bytes ≡ refused rx w)
-
-pub record StepIs (y : Two Received) (q : Outcome) (r : Step) (sums planes picks out bytes o b : List ℕ) : Type 0 where
-  pub receiver : whole (r .core) sums planes picks ≡ q .receiver
-  pub why : r .why ≡ q .why
-  pub written : r .written ≡ length (q .words)
-  pub recorded : r .recorded ≡ spaceOf (recordsOf y q)
-  pub output : Written (q .words) out o
-  pub bytes-are : Fronted (recordsOf y q) bytes b
-
 abbrev pub tapedParts : Bool → Kept → List ℕ → List ℕ → List ℕ → Taped
 tapedParts live r sums planes picks =
     record { receiver = partsOf live (r .core) sums planes picks; taken = r .taken; written = r .written; recorded = r .recorded; why = r .why }
 
-abbrev pub RunsTaped : Core → List ℕ → List ℕ → List ℕ → List (Two Received) → List ℕ → List ℕ → Kept → List ℕ → List ℕ → List ℕ → List ℕ → List ℕ → Type 0
-RunsTaped core sums planes picks ys out bytes r sums′ planes′ picks′ o b =
-    Is (taping ys (whole core sums planes picks) 0 [] [] (length out) (length bytes)) out bytes (tapedParts true r sums′ planes′ picks′) o b
+-- picks that are lent are a live receiver's where there are 72 of them
+abbrev pub asLent : Receiver → Receiver
+asLent rx = partsOf (lentLive (rx .live) (rx .picks)) (rx .core) (rx .sums) (rx .planes) (rx .picks)
 
-abbrev pub TapesLent : Bool → Core → List ℕ → List ℕ → List ℕ → Piece → List ℕ → List ℕ → Kept → List ℕ → List ℕ → List ℕ → List ℕ → List ℕ → Type 0
-TapesLent live core sums planes picks p out bytes r sums′ planes′ picks′ o b =
-    Is (tapedHearing (partsOf (lentLive live picks) core sums planes picks) p (length out) (length bytes)) out bytes (tapedParts (lentLive live picks) r sums′ planes′ picks′) o b
+-- the receiver's lists hold sums, planes and picks after the call
+abbrev pub TapesLent : Receiver → Piece → List ℕ → List ℕ → Kept → List ℕ → List ℕ → List ℕ → List ℕ → List ℕ → Type 0
+TapesLent rx p out bytes r sums planes picks o b =
+    Is (tapedHearing (asLent rx) p (length out) (length bytes)) out bytes (tapedParts (asLent rx .live) r sums planes picks) o b
 
 -- the answer is what is owed for what the receiver has been told
 pub record Pays (d : PieceRecorded) (out bytes : List ℕ) (r : Taped) (o b : List ℕ) : Type 0 where

@@ -1,8 +1,7 @@
 -- What a recorder owes to a receiver that has been told something: what `hear` and `finish` owe (told/specs/Owed), and beside the words the
 -- records of what was taken and released, where they have room. 02, Wish 2: "Words stand right after the symbol or finish that gave them.
 -- Refused symbols are not recorded."
---   symbolRecords y ws      the records of a symbol that was taken and released the words ws; finishRecords those of a finish
---   spaceOf rs              how many bytes some records need: 9 for a symbol, 1 for a finish, 5 for each word (proofs/Spaces)
+--   openRecords             the record of an opening; those of a symbol and of a finish, and how many bytes they need, are tape/specs/Front
 --   judgeRecorded           what is said to a symbol: an 8 too where it would be taken and the bytes are too short for its records
 --   Walked, walkRecorded    hearing symbols after ys, with room for so many words and so many bytes, up to the first that is refused
 --   PieceRecorded, pieceRecorded     what a piece owes
@@ -22,20 +21,11 @@ use Rattle.openings.specs.Given.{startAt}
 use Rattle.openings.specs.Opening.{openingOwed}
 use Rattle.told.specs.Told.{Told, speakerOf, judgeSymbol, withHeard}
 use Rattle.told.specs.Piece.{Piece}
-use Rattle.records.specs.Values.{Entry, openEntry, symbolEntry, finishEntry, bytesOf}
-use Rattle.tape.specs.Front.{wordEntries}
-
-abbrev pub symbolRecords : Two Received → List ℕ → List Entry
-symbolRecords y ws = symbolEntry (y .first .x) (y .first .y) (y .second .x) (y .second .y) ∷ wordEntries ws
-
-abbrev pub finishRecords : List ℕ → List Entry
-finishRecords ws = finishEntry ∷ wordEntries ws
+use Rattle.records.specs.Values.{Entry, openEntry}
+use Rattle.tape.specs.Front.{symbolRecords, finishRecords, spaceOf}
 
 abbrev pub openRecords : Accord → ℕ → ℕ → List Entry
 openRecords k window start = openEntry (k .u) window start ∷ []
-
-abbrev pub spaceOf : List Entry → ℕ
-spaceOf rs = length (bytesOf rs)
 
 -- ---- a piece
 

@@ -2,8 +2,10 @@
 --   fronted        stores one after the other
 --   symbol-put     those of a symbol, where its halves are at hand
 --   small-bits, small-symbol   coordinates that 16 bits hold, as their bits go to a call
+--   nine-bytes, one-byte       what the records of a symbol and of a finish need
 --   bytes-append   the bytes of records, and of records after them
 --   word-bytes     a word has five
+--   symbol-space, finish-space   "5 for each word", after the symbol's own record or that of a finish
 --   words-more     one word more
 --   then-words     a record, and then words where the rest of the bytes was lent
 use mathlib.Core.Path.{_≡_, refl, sym, ap, _∙_}
@@ -18,8 +20,11 @@ use mir.Syntax.{w32}
 use mir.Val.{toZ, ofZ}
 use Rattle.points.proofs.Signed.{reads}
 use Rattle.layout.proofs.Lent.{stored, placed}
+use Rattle.trellis.specs.Measure.{Two}
+use Rattle.nearest.specs.declared.Received.{Received}
+use Rattle.told.specs.Piece.{symbolFrom}
 use Rattle.records.specs.Values.{Entry, halfOf, symbolEntry, wordEntry, finishEntry, bytesOf}
-use Rattle.tape.specs.Front.{Fronted, wordEntries, Small}
+use Rattle.tape.specs.Front.{symbolIn, symbolRecord, symbolSpace, spaceOf, wordEntries, symbolRecords, finishRecords, Fronted, Small}
 
 pub fronted : (rs : List Entry) (l : List ℕ) → length (bytesOf rs) ≤ length l → Fronted rs l (sets l 0 (bytesOf rs))
 fronted rs l h = stored (bytesOf rs) l h
@@ -36,15 +41,18 @@ module _ (xs : List ℤ) (s : Small xs) where
   pub small-bits : (i : ℕ) → natAbs (toZ w32 (ofZ w32 (getD xs i (pos 0)))) ≤ 32768
   small-bits i = rw (same i) (s i)
 
-  pub small-symbol : symbolEntry (toZ w32 (ofZ w32 (getD xs 0 (pos 0)))) (toZ w32 (ofZ w32 (getD xs 1 (pos 0)))) (toZ w32 (ofZ w32 (getD xs 2 (pos 0)))) (toZ w32 (ofZ w32 (getD xs 3 (pos 0))))
-      ≡ symbolEntry (getD xs 0 (pos 0)) (getD xs 1 (pos 0)) (getD xs 2 (pos 0)) (getD xs 3 (pos 0))
+  -- the coordinate in the place i, as a call is handed it
+  abbrev handed : ℕ → ℤ
+  handed i = toZ w32 (ofZ w32 (getD xs i (pos 0)))
+
+  pub small-symbol : symbolRecord (symbolFrom (handed 0) (handed 1) (handed 2) (handed 3)) ≡ symbolRecord (symbolIn xs)
   small-symbol = rw (same 0, same 1, same 2, same 3)
 
-pub nine-bytes : (a b c d : ℤ) → length (bytesOf (symbolEntry a b c d ∷ [])) ≡ 9
+pub nine-bytes : (y : Two Received) → symbolSpace y ≡ 9
 unfolding bytesOf
-nine-bytes a b c d = refl
+nine-bytes y = refl
 
-pub one-byte : length (bytesOf (finishEntry ∷ [])) ≡ 1
+pub one-byte : spaceOf (finishEntry ∷ []) ≡ 1
 unfolding bytesOf
 one-byte = refl
 
@@ -57,6 +65,14 @@ pub word-bytes : (ws : List ℕ) → length (bytesOf (wordEntries ws)) ≡ 5 * l
 unfolding bytesOf
 word-bytes [] = refl
 word-bytes (w ∷ ws) = let h = word-bytes ws in omega arith
+
+pub symbol-space : (y : Two Received) (ws : List ℕ) → spaceOf (symbolRecords y ws) ≡ symbolSpace y + 5 * length ws
+unfolding bytesOf
+symbol-space y ws = let h = word-bytes ws in omega arith
+
+pub finish-space : (ws : List ℕ) → spaceOf (finishRecords ws) ≡ 1 + 5 * length ws
+unfolding bytesOf
+finish-space ws = let h = word-bytes ws in omega arith
 
 map-append : (ws vs : List ℕ) → wordEntries (ws ++ vs) ≡ wordEntries ws ++ wordEntries vs
 map-append [] vs = refl

@@ -6,7 +6,7 @@ ghost use Prim.Native.Nat.{_+_, _*_, _≤_, _<_};
 ghost use lib.IntN.{natAbs};
 ghost use lib.ListN.{length};
 ghost use Rattle.records.specs.Values.{halfOf, openEntry, symbolEntry, wordEntry, finishEntry};
-ghost use Rattle.tape.specs.Front.{Fronted, wordEntries, Small, takenEntries};
+ghost use Rattle.tape.specs.Front.{symbolIn, symbolSpace, wordEntries, symbolRecords, finishRecords, Fronted, Small};
 
 // A coordinate as a number of 16 bits.
 fn bits(x: i32) -> u32
@@ -74,13 +74,21 @@ fn put_words(words: &[u32], bytes: &mut [u8])
     }
 }
 
+// How many bytes the record of a symbol has: who needs to know asks here.
+pub fn symbol_space(four: &[i32]) -> usize
+    ensures { λ r. ⌜ r ≡ symbolSpace (symbolIn (now (four .entry))) ⌝ }
+{
+    9
+}
+
 // A symbol that was taken, then the words that it released, in their order.
 pub fn put_taken(four: &[i32], words: &[u32], bytes: &mut [u8])
-    requires { ⌜ (length (now four) ≡ 4) × Small (now four) × (9 + 5 * length (now words) ≤ length (now bytes)) ⌝ }
-    ensures { λ _. ⌜ Fronted (takenEntries (now (four .entry)) (now (words .entry))) (now (bytes .entry)) (now (bytes .exit)) ⌝ }
+    requires { ⌜ (length (now four) ≡ 4) × Small (now four) × (symbolSpace (symbolIn (now four)) + 5 * length (now words) ≤ length (now bytes)) ⌝ }
+    ensures { λ _. ⌜ Fronted (symbolRecords (symbolIn (now (four .entry))) (now (words .entry))) (now (bytes .entry)) (now (bytes .exit)) ⌝ }
 {
+    let size = symbol_space(four);
     put_symbol(four[0], four[1], four[2], four[3], bytes);
-    put_words(words, &mut bytes[9..]);
+    put_words(words, &mut bytes[size..]);
 }
 
 fn put_end(bytes: &mut [u8])
@@ -93,7 +101,7 @@ fn put_end(bytes: &mut [u8])
 // A finish, then the words that it wrote.
 pub fn put_finish(words: &[u32], bytes: &mut [u8])
     requires { ⌜ 1 + 5 * length (now words) ≤ length (now bytes) ⌝ }
-    ensures { λ _. ⌜ Fronted (finishEntry ∷ wordEntries (now (words .entry))) (now (bytes .entry)) (now (bytes .exit)) ⌝ }
+    ensures { λ _. ⌜ Fronted (finishRecords (now (words .entry))) (now (bytes .entry)) (now (bytes .exit)) ⌝ }
 {
     put_end(bytes);
     put_words(words, &mut bytes[1..]);

@@ -19,8 +19,9 @@ use Rattle.told.specs.Piece.{Piece}
 use Rattle.pieces.specs.Running.{symbolAt}
 use Rattle.receiver.specs.Doors as doors
 use Rattle.records.specs.Values.{Entry}
-use Rattle.recorder.specs.Recorded.{symbolRecords, finishRecords, spaceOf}
-use Rattle.recorder.specs.Taping.{tapedAt, Ran, stopped, taping, tapedHearing, tapedFinishing}
+use Rattle.tape.specs.Front.{symbolRecords, finishRecords, spaceOf}
+use Rattle.taping.specs.Taping.{tapedAt, Ran, taping}
+use Rattle.recorder.specs.Doors.{stopped, tapedHearing, tapedFinishing}
 use Rattle.stored.specs.State.{readReceiver}
 
 live-reads : (rx : Receiver) → rx .live ≡ true → readReceiver rx ≡ rx
@@ -36,11 +37,14 @@ module _ (rx : Receiver) (y : Two Received) (room : ℕ) where
   unfolding symbolAt taking grown
   symbol-live =
       live-of (ltb (faultOf y) 4) _ _ (rx .live) refl
-      (live-of (eqb (rx .core .taken) 4294967295) _ _ (rx .live) refl (live-of (ltb (rx .core .window) (keptOf rx y)) _ _ (rx .live) refl (live-of (ltb room (agreedOf rx y)) _ _ (rx .live) refl refl)))
+      (live-of (eqb (rx .core .taken) 4294967295) _ _ (rx .live) refl
+      (live-of (ltb (rx .core .window) (keptOf rx y)) _ _ (rx .live) refl (live-of (ltb room (agreedOf rx y)) _ _ (rx .live) refl refl)))
 
   taped-live : (bytes : ℕ) → tapedAt rx y room bytes .receiver .live ≡ rx .live
   unfolding tapedAt
-  taped-live bytes = live-of (isDone (symbolAt rx y room .why) && ltb bytes (spaceOf (symbolRecords y (symbolAt rx y room .words)))) (refused rx NoRoom) (symbolAt rx y room) (rx .live) refl symbol-live
+  taped-live bytes =
+      let o = symbolAt rx y room in
+      live-of (isDone (o .why) && ltb bytes (spaceOf (symbolRecords y (o .words)))) (refused rx NoRoom) o (rx .live) refl symbol-live
 
 module _ (p q : Ran) where
   pick-live : (b : Bool) (v : Bool) → p .receiver .live ≡ v → q .receiver .live ≡ v → cond b p q .receiver .live ≡ v
@@ -79,7 +83,8 @@ module _ (room bytes : ℕ) where
       let h = taping-least ys (o .receiver) (n + 1) (ws ++ o .words) (rs ++ symbolRecords y (o .words)) in
       pick-least (on y ys rx n ws rs) (off y rx n ws rs) (isDone (o .why)) n (omega arith) (omega arith)
 
-  taping-keeps : (ys : List (Two Received)) (rx : Receiver) (n : ℕ) (ws : List ℕ) (rs : List Entry) → taping ys rx n ws rs room bytes .taken ≡ n → taping ys rx n ws rs room bytes .receiver ≡ rx
+  taping-keeps : (ys : List (Two Received)) (rx : Receiver) (n : ℕ) (ws : List ℕ) (rs : List Entry) → taping ys rx n ws rs room bytes .taken ≡ n →
+      taping ys rx n ws rs room bytes .receiver ≡ rx
   unfolding taping
   taping-keeps [] rx n ws rs h = refl
   taping-keeps (y ∷ ys) rx n ws rs h =
@@ -105,16 +110,27 @@ module _ (rx : Receiver) (p : Piece) (room bytes : ℕ) where
     go false b x y = absurd (h (rw x))
 
 module _ (rx : Receiver) (room bytes : ℕ) where
-  -- closed, short of places, short of bytes, or done
+  -- done; and closed, short of places, short of bytes, or done
+  abbrev closes : Ran
+  closes = record { receiver = shut; taken = 0; words = lastWords rx; records = finishRecords (lastWords rx); why = Done }
+
   abbrev outcome : Bool → Bool → Bool → Ran
-  outcome a b c = cond a (cond b (stopped rx NoRoom) (cond c (stopped rx NoRoom) (record { receiver = shut; taken = 0; words = lastWords rx; records = finishRecords (lastWords rx); why = Done }))) (stopped rx Closed)
+  outcome a b c = cond a (cond b (stopped rx NoRoom) (cond c (stopped rx NoRoom) closes)) (stopped rx Closed)
+
+  -- the receiver's own answer, and what the recorder makes of it
+  abbrev own : Bool → Bool → doors.Ran
+  own a b = cond a (cond b (doors.stopped rx NoRoom) (record { receiver = shut; taken = 0; words = lastWords rx; why = Done })) (doors.stopped rx Closed)
+
+  abbrev made : doors.Ran → Ran
+  made h =
+      cond (isDone (h .why))
+      (cond (ltb bytes (spaceOf (finishRecords (h .words)))) (stopped rx NoRoom) (record { receiver = h .receiver; taken = 0; words = h .words; records = finishRecords (h .words); why = Done }))
+      (stopped rx (h .why))
 
   finish-is : tapedFinishing rx room bytes ≡ outcome (sound rx) (ltb room (rx .core .pending)) (ltb bytes (spaceOf (finishRecords (lastWords rx))))
   unfolding tapedFinishing doors.finishing
   finish-is = go (sound rx) (ltb room (rx .core .pending)) where
-    go : (a b : Bool) → (let h = cond {A = doors.Ran} a (cond b (doors.stopped rx NoRoom) (record { receiver = shut; taken = 0; words = lastWords rx; why = Done })) (doors.stopped rx Closed) in
-        cond (isDone (h .why)) (cond (ltb bytes (spaceOf (finishRecords (h .words)))) (stopped rx NoRoom) (record { receiver = h .receiver; taken = 0; words = h .words; records = finishRecords (h .words); why = Done })) (stopped rx (h .why)))
-        ≡ outcome a b (ltb bytes (spaceOf (finishRecords (lastWords rx))))
+    go : (a b : Bool) → made (own a b) ≡ outcome a b (ltb bytes (spaceOf (finishRecords (lastWords rx))))
     go true true = refl
     go true false = refl
     go false b = refl

@@ -13,8 +13,9 @@ use Rattle.machine.specs.declared.Receiver.{Receiver}
 use Rattle.reasons.specs.Reason.{givenOf}
 use Rattle.told.specs.Piece.{pieceOf}
 use Rattle.records.specs.Values.{bytesOf}
-use Rattle.recorder.specs.Recorded.{spaceOf}
-use Rattle.recorder.specs.Taping.{Ran, tapedHearing, tapedFinishing}
+use Rattle.tape.specs.Front.{spaceOf}
+use Rattle.taping.specs.Taping.{Ran}
+use Rattle.recorder.specs.Doors.{tapedHearing, tapedFinishing}
 use Rattle.layout.specs.Layout.{receiverLength}
 use Rattle.stored.specs.State.{receiverIn, wordsOfReceiver}
 

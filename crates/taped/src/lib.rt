@@ -34,7 +34,8 @@ pub fn hear_recorded(
     bytes: &mut [u8],
     told: &mut [u64],
 ) -> u32
-    ensures { λ r. ⌜ Records (hearCall (now (state .entry)) (now (piece .entry)) (now (out .entry)) (now (bytes .entry)) (now (told .entry))) r (now (state .exit)) (now (out .exit)) (now (bytes .exit)) (now (told .exit)) ⌝ }
+    ensures { λ r. ⌜ Records (hearCall (now (state .entry)) (now (piece .entry)) (now (out .entry)) (now (bytes .entry)) (now (told .entry)))
+        r (now (state .exit)) (now (out .exit)) (now (bytes .exit)) (now (told .exit)) ⌝ }
 {
     if told.len() < 4 {
         return 8;
@@ -73,7 +74,8 @@ pub fn finish_recorded(
     bytes: &mut [u8],
     told: &mut [u64],
 ) -> u32
-    ensures { λ r. ⌜ Records (finishCall (now (state .entry)) (now (out .entry)) (now (bytes .entry)) (now (told .entry))) r (now (state .exit)) (now (out .exit)) (now (bytes .exit)) (now (told .exit)) ⌝ }
+    ensures { λ r. ⌜ Records (finishCall (now (state .entry)) (now (out .entry)) (now (bytes .entry)) (now (told .entry)))
+        r (now (state .exit)) (now (out .exit)) (now (bytes .exit)) (now (told .exit)) ⌝ }
 {
     if told.len() < 4 {
         return 8;

@@ -1,21 +1,45 @@
 -- `finish`: closed, no room, refused, or done and recorded.
 use mathlib.Core.Path.{_≡_, sym, _∙_}
+use mathlib.Core.Bool.{true}
 use Prim.Native.Nat.{_≤_}
 use native.Mathlib.Omega.{arith}
 use borrow.Author.Tests.{not-true, not-false}
 use denote.Ref.{now}
-use lib.ListN.{length, take}
+use lib.ListN.{length}
 use lib.Seq.{length-take-le}
+use Rattle.machine.specs.Machine.{sound}
 use Rattle.machine.proofs.Sound.{sound-core}
+use Rattle.reasons.specs.Reason.{isDone}
 use Rattle.receiver.proofs.Laws.{finishes-fit}
 use Rattle.recorder.proofs.Ends.{finish-closed, finish-short, finish-refused, finish-written, finish-done}
 use borrow.Author.Needs.{needs}
 use Rattle.recorder.proofs.finish.Statement.{statement}
 use Rattle.recorder.proofs.finish.Tie as tie
 
--- no more words are written than there are places
+-- after the receiver's own finish: the start, that the receiver was open, and that no more words are written than there are places
+abbrev first : tie.After-finish → tie.Start
+first f = f .before .before .before .before .before .before .before .before .before
+
+opened : (e : tie.Else1) → sound (e .before .before .before .before .args .rx) ≡ true
+opened e = sym (e .before .is-open .ensures) ∙ not-false _ (e .if1 .left)
+
 fits : (f : tie.After-finish) → f .finish .result .written ≤ length (f .finish .last .1 .0)
-fits f = let s = f .before .before .before .before .before .before .before .before .before in omega (arith, finishes-fit (s .args .rx) (now (s .args .out)) (f .finish .result) _ (f .finish .ensures), f .finish .kept .1 .0)
+fits f =
+    let a = first f .args in
+    omega (arith, finishes-fit (a .rx) (now (a .out)) (f .finish .result) _ (f .finish .ensures), f .finish .kept .1 .0)
+
+-- where it was done: how many words it wrote
+abbrev finished : tie.Else3 → tie.After-finish
+finished e = e .before .before .before .before
+
+done : (e : tie.Else3) → isDone (finished e .finish .result .why) ≡ true
+done e = sym (e .before .is-done .ensures) ∙ not-false _ (e .if3 .left)
+
+written : (e : tie.Else3) → finished e .finish .result .written ≡ first (finished e) .args .rx .core .pending
+written e =
+    let f = finished e in
+    let a = first f .args in
+    finish-written (a .rx) (now (a .out)) (now (a .bytes)) (f .finish .result) _ (f .finish .ensures) (done e)
 
 is-open-requires : tie.Need-is-open-requires
 is-open-requires c κs = search needs
@@ -29,22 +53,19 @@ returns c =
     rw (c .stopped .ensures) (finish-closed (s .args .rx) (now (s .args .out)) (now (s .args .bytes)) (sym (c .before .before .is-open .ensures) ∙ not-true _ (c .before .if1 .taken)))
 
 mul-if2 : tie.Need-mul-if2
-mul-if2 c =
-    let k = sound-core (c .before .before .before .before .before .before .args .rx) (sym (c .before .before .before .is-open .ensures) ∙ not-false _ (c .before .before .if1 .left)) in
-    omega (arith, k .held, k .small-window)
+mul-if2 c = let k = sound-core _ (opened (c .before .before)) in omega (arith, k .held, k .small-window)
 
 add-if2 : tie.Need-add-if2
-add-if2 c =
-    let k = sound-core (c .before .before .before .before .before .before .args .rx) (sym (c .before .before .before .is-open .ensures) ∙ not-false _ (c .before .before .if1 .left)) in
-    omega (arith, k .held, k .small-window)
+add-if2 c = let k = sound-core _ (opened (c .before .before)) in omega (arith, k .held, k .small-window)
 
 stopped-requires-2 : tie.Need-stopped-requires-2
 stopped-requires-2 c κs = search needs
 
 returns-2 : tie.Need-returns-2
 returns-2 c =
-    let s = c .before .before .before .before .before .before .before .before in
-    rw (c .stopped2 .ensures) (finish-short (s .args .rx) (now (s .args .out)) (now (s .args .bytes)) (sym (c .before .before .before .before .before .is-open .ensures) ∙ not-false _ (c .before .before .before .before .if1 .left)) (c .before .if2 .taken))
+    let e = c .before .before .before .before in
+    let a = e .before .before .before .before .args in
+    rw (c .stopped2 .ensures) (finish-short (a .rx) (now (a .out)) (now (a .bytes)) (opened e) (c .before .if2 .taken))
 
 finish-requires : tie.Need-finish-requires
 finish-requires c κs = search needs
@@ -61,8 +82,9 @@ same-length c = search needs
 returns-3 : tie.Need-returns-3
 returns-3 c =
     let f = c .before .before .before .before .before in
-    let s = f .before .before .before .before .before .before .before .before .before in
-    rw (c .stopped3 .ensures) (finish-refused (s .args .rx) (now (s .args .out)) (now (s .args .bytes)) (f .finish .result) _ (f .finish .ensures) (sym (c .before .before .is-done .ensures) ∙ not-true _ (c .before .if3 .taken)))
+    let a = first f .args in
+    let no = sym (c .before .before .is-done .ensures) ∙ not-true _ (c .before .if3 .taken) in
+    rw (c .stopped3 .ensures) (finish-refused (a .rx) (now (a .out)) (now (a .bytes)) (f .finish .result) _ (f .finish .ensures) no)
 
 slice-reshare-prefix-put-finish : tie.Need-slice-reshare-prefix-put-finish
 slice-reshare-prefix-put-finish c = fits (c .before .before .before .before .before)
@@ -72,26 +94,21 @@ slice-aggregate-put-finish c = sym (length-take-le _ _ (fits (c .before .before 
 
 put-finish-requires : tie.Need-put-finish-requires
 put-finish-requires c κs =
-    let f = c .before .before .before .before .before .before .before in
-    let s = f .before .before .before .before .before .before .before .before .before in
-    let w = finish-written (s .args .rx) (now (s .args .out)) (now (s .args .bytes)) (f .finish .result) _ (f .finish .ensures) (sym (c .before .before .before .before .is-done .ensures) ∙ not-false _ (c .before .before .before .if3 .left)) in
-    omega (arith, length-take-le (f .finish .result .written) (f .finish .last .1 .0) (fits f), w, f .before .before .if2 .left)
+    let e = c .before .before .before in
+    let f = finished e in
+    omega (arith, length-take-le (f .finish .result .written) (f .finish .last .1 .0) (fits f), written e, f .before .before .if2 .left)
 
 mul-t12 : tie.Need-mul-t12
 mul-t12 c =
-    let f = c .before .before .before .before .before .before .before .before .before .before in
-    let s = f .before .before .before .before .before .before .before .before .before in
-    let w = finish-written (s .args .rx) (now (s .args .out)) (now (s .args .bytes)) (f .finish .result) _ (f .finish .ensures) (sym (c .before .before .before .before .before .before .before .is-done .ensures) ∙ not-false _ (c .before .before .before .before .before .before .if3 .left)) in
-    let k = sound-core (s .args .rx) (sym (f .before .before .before .before .before .before .is-open .ensures) ∙ not-false _ (f .before .before .before .before .before .if1 .left)) in
-    omega (arith, w, k .held, k .small-window)
+    let e = c .before .before .before .before .before .before in
+    let k = sound-core _ (opened (finished e .before .before .before .before .before)) in
+    omega (arith, written e, k .held, k .small-window)
 
 add-t13 : tie.Need-add-t13
 add-t13 c =
-    let f = c .before .before .before .before .before .before .before .before .before .before in
-    let s = f .before .before .before .before .before .before .before .before .before in
-    let w = finish-written (s .args .rx) (now (s .args .out)) (now (s .args .bytes)) (f .finish .result) _ (f .finish .ensures) (sym (c .before .before .before .before .before .before .before .is-done .ensures) ∙ not-false _ (c .before .before .before .before .before .before .if3 .left)) in
-    let k = sound-core (s .args .rx) (sym (f .before .before .before .before .before .before .is-open .ensures) ∙ not-false _ (f .before .before .before .before .before .if1 .left)) in
-    omega (arith, w, k .held, k .small-window)
+    let e = c .before .before .before .before .before .before in
+    let k = sound-core _ (opened (finished e .before .before .before .before .before)) in
+    omega (arith, written e, k .held, k .small-window)
 
 same-length-2 : tie.Need-same-length-2
 same-length-2 c = search needs
@@ -101,9 +118,10 @@ same-length-3 c = search needs
 
 returns-4 : tie.Need-returns-4
 returns-4 c =
-    let f = c .before .before .before .before .before .before .before .before .before .before in
-    let s = f .before .before .before .before .before .before .before .before .before in
-    finish-done (s .args .rx) (now (s .args .out)) (now (s .args .bytes)) (f .finish .result) _ (f .finish .ensures) (sym (c .before .before .before .before .before .before .before .is-done .ensures) ∙ not-false _ (c .before .before .before .before .before .before .if3 .left)) (f .before .before .if2 .left) _ (c .before .before .put-finish .ensures)
+    let e = c .before .before .before .before .before .before in
+    let f = finished e in
+    let a = first f .args in
+    finish-done (a .rx) (now (a .out)) (now (a .bytes)) (f .finish .result) _ (f .finish .ensures) (done e) (f .before .before .if2 .left) _ (c .before .before .put-finish .ensures)
 
 pub finish-spec : {M : Type 1} → statement M
 finish-spec =

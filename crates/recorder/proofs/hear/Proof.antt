@@ -17,7 +17,10 @@ same-length-2 : tie.Need-same-length-2
 same-length-2 c = search needs
 
 returns : tie.Need-returns
-returns c = tapes-lent (c .before .before .before .before .before .before .before .before .before .before .before .before .before .before .before .before .before .before .args .rx) _ _ _ _ _ _ _ _ _ (search needs) (c .before .before .before .before .before .before .hear-lent .ensures)
+returns c =
+    let h = c .before .before .before .before .before .before in
+    let s = h .before .before .before .before .before .before .before .before .before .before .before .before in
+    tapes-lent (s .args .rx) _ _ _ _ _ _ _ _ _ (search needs) (h .hear-lent .ensures)
 
 pub hear-spec : {M : Type 1} → statement M
 hear-spec =

@@ -7,15 +7,16 @@ use Rattle.machine.specs.declared.Receiver.{Receiver}
 use Rattle.machine.specs.Machine.{sound}
 use Rattle.machine.proofs.Sound.{sound-live}
 use Rattle.told.specs.Piece.{pieceOf}
-use Rattle.receiver.specs.Promise.{partsOf, lentLive}
+use Rattle.receiver.specs.Promise.{partsOf}
 use Rattle.receiver.proofs.Doors.{lent-live, lent-none}
+use Rattle.recorder.specs.Promise.{asLent}
 use Rattle.recorder.proofs.Ends.{tape-closed, tape-uneven, tape-parts}
 use borrow.Author.Needs.{needs}
 use Rattle.recorder.proofs.hear_lent.Statement.{statement}
 use Rattle.recorder.proofs.hear_lent.Tie as tie
 
 abbrev rx : tie.Start → Receiver
-rx s = let a = s .args in partsOf (lentLive (a .live) (now (a .picks))) (a .core) (now (a .sums)) (now (a .planes)) (now (a .picks))
+rx s = let a = s .args in asLent (partsOf (a .live) (a .core) (now (a .sums)) (now (a .planes)) (now (a .picks)))
 
 -- other picks than 72 are no receiver's
 none : (c : tie.Then1) → sound (rx (c .before .before .before .before)) ≡ false
@@ -45,7 +46,8 @@ returns-2 : tie.Need-returns-2
 returns-2 c =
     let f = c .before .before in
     let s = f .before .before .before .before .before .before in
-    rw (c .nothing-kept2 .ensures) (tape-closed (rx s) (now (s .args .out)) (now (s .args .bytes)) (pieceOf (now (s .args .samples))) (open-by f ∙ not-true _ (c .before .if2 .taken)))
+    rw (c .nothing-kept2 .ensures)
+    (tape-closed (rx s) (now (s .args .out)) (now (s .args .bytes)) (pieceOf (now (s .args .samples))) (open-by f ∙ not-true _ (c .before .if2 .taken)))
 
 nothing-kept-requires-3 : tie.Need-nothing-kept-requires-3
 nothing-kept-requires-3 c κs = search needs
@@ -54,15 +56,20 @@ returns-3 : tie.Need-returns-3
 returns-3 c =
     let f = c .before .before .before in
     let s = f .before .before .before .before .before .before in
-    rw (c .nothing-kept3 .ensures) (tape-uneven (rx s) (now (s .args .out)) (now (s .args .bytes)) (pieceOf (now (s .args .samples))) (open-by f ∙ not-false _ (c .before .before .if2 .left)) (ne-eqb _ 0 (c .before .if3 .taken)))
+    rw (c .nothing-kept3 .ensures)
+    (tape-uneven (rx s) (now (s .args .out)) (now (s .args .bytes)) (pieceOf (now (s .args .samples))) (open-by f ∙ not-false _ (c .before .before .if2 .left))
+    (ne-eqb _ 0 (c .before .if3 .taken)))
 
 record-symbols-requires : tie.Need-record-symbols-requires
 record-symbols-requires c κs =
-    let f = c .before .before .before .before .before .before .before in
-    let s = f .before .before .before .before .before .before in
-    let a = s .args in
-    let o = open-by f ∙ not-false _ (c .before .before .before .before .before .before .if2 .left) in
-    (subst (λ (b : Bool). sound (partsOf b (a .core) (now (a .sums)) (now (a .planes)) (now (a .picks))) ≡ true) (sound-live (rx s) o) o, c .before .before .before .before .before .if3 .left, f .before .before .if1 .left)
+    let e = c .before .before .before .before .before .before in
+    let f = e .before in
+    let a = f .before .before .before .before .before .before .args in
+    let o = open-by f ∙ not-false _ (e .if2 .left) in (
+      subst (λ (b : Bool). sound (partsOf b (a .core) (now (a .sums)) (now (a .planes)) (now (a .picks))) ≡ true) (sound-live (rx (f .before .before .before .before .before .before)) o) o,
+      c .before .before .before .before .before .if3 .left,
+      f .before .before .if1 .left,
+    )
 
 same-length : tie.Need-same-length
 same-length c = search needs
@@ -76,9 +83,11 @@ same-length-3 c = search needs
 returns-4 : tie.Need-returns-4
 returns-4 c =
     let h = c .before .before .before .before .before .before in
-    let f = h .before .before .before .before .before .before .before .before in
-    let a = f .before .before .before .before .before .before .args in
-    tape-parts (lentLive (a .live) (now (a .picks))) (a .core) (now (a .sums)) (now (a .planes)) (now (a .picks)) (now (a .out)) (now (a .bytes)) (pieceOf (now (a .samples))) (open-by f ∙ not-false _ (h .before .before .before .before .before .before .before .if2 .left)) (eq-eqb _ 0 (h .before .before .before .before .before .before .if3 .left)) _ _ _ _ _ _ (h .record-symbols .ensures)
+    let g = h .before .before .before .before .before .before in
+    let f = g .before .before in
+    let s = f .before .before .before .before .before .before in
+    tape-parts (rx s) (now (s .args .out)) (now (s .args .bytes)) (pieceOf (now (s .args .samples))) (open-by f ∙ not-false _ (g .before .if2 .left)) (eq-eqb _ 0 (g .if3 .left))
+    _ _ _ _ _ _ (h .record-symbols .ensures)
 
 pub hear-lent-spec : {M : Type 1} → statement M
 hear-lent-spec =

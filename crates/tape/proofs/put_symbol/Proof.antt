@@ -79,8 +79,12 @@ same-length c = simp length-set
 returns : tie.Need-returns
 returns c =
     let s = c .before .before .before .before .before in
-    symbol-put (s .args .x0) (s .args .x1) (s .args .x2) (s .args .x3) _ _ _ _ (c .before .before .before .bits .ensures .0 ∙ ap halfOf (toZ-ofZ (s .fits .x0))) (c .before .before .bits2 .ensures .0 ∙ ap halfOf (toZ-ofZ (s .fits .x1)))
-    (c .before .bits3 .ensures .0 ∙ ap halfOf (toZ-ofZ (s .fits .x2))) (c .bits4 .ensures .0 ∙ ap halfOf (toZ-ofZ (s .fits .x3))) (now (s .args .bytes)) (s .pre .0)
+    symbol-put (s .args .x0) (s .args .x1) (s .args .x2) (s .args .x3) _ _ _ _
+    (c .before .before .before .bits .ensures .0 ∙ ap halfOf (toZ-ofZ (s .fits .x0)))
+    (c .before .before .bits2 .ensures .0 ∙ ap halfOf (toZ-ofZ (s .fits .x1)))
+    (c .before .bits3 .ensures .0 ∙ ap halfOf (toZ-ofZ (s .fits .x2)))
+    (c .bits4 .ensures .0 ∙ ap halfOf (toZ-ofZ (s .fits .x3)))
+    (now (s .args .bytes)) (s .pre .0)
 
 pub put-symbol-spec : {M : Type 1} → statement M
 put-symbol-spec =

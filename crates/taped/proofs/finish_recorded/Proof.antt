@@ -1,9 +1,39 @@
 -- `finish_recorded`: told too short, refused, or the state written back.
+use mathlib.Core.Path.{subst}
 use denote.Ref.{now}
-use Rattle.taped.proofs.Cases.{finish-short, finish-kept, finish-long, finish-written}
+use lib.ListN.{length}
+use Rattle.machine.specs.declared.Receiver.{Receiver}
+use Rattle.recorder.specs.Doors.{tapedFinishing}
+use Rattle.recorder.specs.Promise.{Is}
+use Rattle.stored.specs.State.{receiverIn}
+use Rattle.taped.proofs.Cases.{Answered, finish-short, finish-kept, finish-long, finish-written}
 use borrow.Author.Needs.{needs}
 use Rattle.taped.proofs.finish_recorded.Statement.{statement}
 use Rattle.taped.proofs.finish_recorded.Tie as tie
+
+-- after the answer: that `told` is long enough, the start, and the recorder's own answer
+abbrev enough : tie.After-answer → tie.Else1
+enough g = g .before .before .before .before .before .before .before .before .before .before .before
+
+abbrev first : tie.After-answer → tie.Start
+first g = enough g .before .before .before .before .before
+
+abbrev finished : tie.After-answer → tie.After-finish
+finished g = g .before .before .before .before .before .before
+
+-- the promise of `finish` to the receiver that the state holds
+is : (g : tie.After-answer) → let a = first g .args in let f = finished g .finish in
+    Is (tapedFinishing (receiverIn (now (a .state))) (length (now (a .out))) (length (now (a .bytes)))) (now (a .out)) (now (a .bytes)) (f .result) (f .last .1 .0) (f .last .1 .1 .0)
+is g =
+    let a = first g .args in
+    let f = finished g .finish in
+    subst (λ (rx : Receiver). Is (tapedFinishing rx (length (now (a .out))) (length (now (a .bytes)))) (now (a .out)) (now (a .bytes)) (f .result) (f .last .1 .0) (f .last .1 .1 .0))
+    (finished g .before .before .before .load-receiver .ensures) (f .ensures .always)
+
+answered : (g : tie.After-answer) → let a = first g .args in let f = finished g .finish in
+    Answered (tapedFinishing (receiverIn (now (a .state))) (length (now (a .out))) (length (now (a .bytes)))) (now (a .out)) (now (a .bytes)) (now (a .told))
+    (f .result) (g .answer .result) (f .last .1 .0) (f .last .1 .1 .0) (g .answer .last .0)
+answered g = record { is = is g; number = g .answer .ensures .0; tells = g .answer .ensures .1 }
 
 returns : tie.Need-returns
 returns c = let a = c .before .before .before .before .before .args in finish-short (now (a .state)) (now (a .out)) (now (a .bytes)) (now (a .told)) (c .if1 .taken)
@@ -32,20 +62,14 @@ same-length-4 c = search needs
 returns-2 : tie.Need-returns-2
 returns-2 c =
     let g = c .before .before .before in
-    let f = g .before .before .before .before .before .before in
-    let l = f .before .before .before in
-    let e = l .before .before in
-    let a = e .before .before .before .before .before .args in
-    finish-kept (now (a .state)) (now (a .out)) (now (a .bytes)) (now (a .told)) (e .if1 .left) _ _ _ _ _ (rw (l .load-receiver .ensures) at (f .finish .ensures)) (g .answer .ensures .0) (g .answer .ensures .1) (c .if2 .taken)
+    let a = first g .args in
+    finish-kept (now (a .state)) (now (a .out)) (now (a .bytes)) (now (a .told)) (enough g .if1 .left) _ _ _ _ _ (answered g) (c .if2 .taken)
 
 store-receiver-requires : tie.Need-store-receiver-requires
 store-receiver-requires c κs =
     let g = c .before .before .before .before .before in
-    let f = g .before .before .before .before .before .before in
-    let l = f .before .before .before in
-    let e = l .before .before in
-    let a = e .before .before .before .before .before .args in
-    finish-long (now (a .state)) (now (a .out)) (now (a .bytes)) (now (a .told)) (e .if1 .left) _ _ _ _ _ (rw (l .load-receiver .ensures) at (f .finish .ensures)) (g .answer .ensures .0) (g .answer .ensures .1) (c .before .before .if2 .left)
+    let a = first g .args in
+    finish-long (now (a .state)) (now (a .out)) (now (a .bytes)) (now (a .told)) (enough g .if1 .left) _ _ _ _ _ (answered g) (c .before .before .if2 .left)
 
 same-length-5 : tie.Need-same-length-5
 same-length-5 c = search needs
@@ -62,11 +86,9 @@ same-length-8 c = search needs
 returns-3 : tie.Need-returns-3
 returns-3 c =
     let g = c .before .before .before .before .before .before .before .before in
-    let f = g .before .before .before .before .before .before in
-    let l = f .before .before .before in
-    let e = l .before .before in
-    let a = e .before .before .before .before .before .args in
-    finish-written (now (a .state)) (now (a .out)) (now (a .bytes)) (now (a .told)) (e .if1 .left) _ _ _ _ _ (rw (l .load-receiver .ensures) at (f .finish .ensures)) (g .answer .ensures .0) (g .answer .ensures .1) _ (c .before .before .before .before .before .if2 .left) (c .before .before .store-receiver .ensures)
+    let a = first g .args in
+    finish-written (now (a .state)) (now (a .out)) (now (a .bytes)) (now (a .told)) (enough g .if1 .left) _ _ _ _ _ (answered g) _ (c .before .before .before .before .before .if2 .left)
+    (c .before .before .store-receiver .ensures)
 
 pub finish-recorded-spec : {M : Type 1} → statement M
 finish-recorded-spec =

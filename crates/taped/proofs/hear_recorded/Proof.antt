@@ -10,7 +10,7 @@ use lib.ListN.{length}
 use Rattle.layout.specs.Layout.{receiverLength, receiverTag}
 use Rattle.layout.specs.Tagged.{holds}
 use Rattle.layout.proofs.Held.{held}
-use Rattle.taped.proofs.Cases.{hear-short, hear-none, lent-kept, lent-written}
+use Rattle.taped.proofs.Cases.{Lent, hear-short, hear-none, lent-kept, lent-written}
 use Rattle.taped.proofs.Around.{around-long}
 use borrow.Author.Needs.{needs}
 use Rattle.taped.proofs.hear_recorded.Statement.{statement}
@@ -26,8 +26,43 @@ picks d = d .hear-lent .last .1 .1 .1 .1 .1 .0
 sized : (d : tie.After-hear-lent) → length (picks d) ≡ 72
 sized d = search needs
 
+-- after the answer: the call that heard the piece, that the state holds a receiver, the start, and what was lent and left
+abbrev heard : tie.After-answer2 → tie.After-hear-lent
+heard g = g .before .before .before .before .before .before .before .before
+
+abbrev holding : tie.After-hear-lent → tie.Else2
+holding d = d .before .before .before .before .before .before .before .before .before .before .before
+
+abbrev first : tie.Else2 → tie.Start
+first e = e .before .before .before .before .before .before .before .before
+
+abbrev lent : (g : tie.After-answer2) → let a = first (holding (heard g)) .args in Lent (now (a .state)) (now (a .piece)) (now (a .out)) (now (a .bytes)) (now (a .told))
+lent g =
+    let d = heard g in
+    let f = d .before .before .before .before .before .before .before .before .before in
+    let e = holding d in
+    record {
+      yes = yes e;
+      enough = e .before .before .before .if1 .left;
+      copied = f .load-front .result;
+      loaded = f .load-front .ensures;
+      kept = d .hear-lent .result;
+      sums = _;
+      planes = _;
+      picks = picks d;
+      o = _;
+      b = _;
+      was = d .hear-lent .ensures;
+      t = _;
+      n = g .answer2 .result;
+      number = g .answer2 .ensures .0;
+      tells = g .answer2 .ensures .1;
+    }
+
 returns : tie.Need-returns
-returns c = let a = c .before .before .before .before .before .args in hear-short (now (a .state)) (now (a .piece)) (now (a .out)) (now (a .bytes)) (now (a .told)) (c .if1 .taken)
+returns c =
+    let a = c .before .before .before .before .before .args in
+    hear-short (now (a .state)) (now (a .piece)) (now (a .out)) (now (a .bytes)) (now (a .told)) (c .if1 .taken)
 
 holds-receiver-requires : tie.Need-holds-receiver-requires
 holds-receiver-requires c κs = search needs
@@ -43,10 +78,12 @@ same-length-2 c = search needs
 
 returns-2 : tie.Need-returns-2
 returns-2 c =
-    let a = c .before .before .before .before .before .before .before .before .before .before .before .before .args in
+    let n = c .before .before .before .before in
+    let h = n .before in
+    let a = h .before .before .before .before .before .before .before .args in
     let g = c .before .before .answer .ensures in
-    let none = sym (c .before .before .before .before .before .holds-receiver .ensures) ∙ not-true _ (c .before .before .before .before .if2 .taken) in
-    hear-none (now (a .state)) (now (a .piece)) (now (a .out)) (now (a .bytes)) (now (a .told)) none (c .before .before .before .before .before .before .before .if1 .left) _ _ (g .0) (g .1)
+    let none = sym (h .holds-receiver .ensures) ∙ not-true _ (n .if2 .taken) in
+    hear-none (now (a .state)) (now (a .piece)) (now (a .out)) (now (a .bytes)) (now (a .told)) none (h .before .before .if1 .left) _ _ (g .0) (g .1)
 
 load-front-requires : tie.Need-load-front-requires
 load-front-requires c κs = yes (c .before)
@@ -64,7 +101,7 @@ hear-lent-requires : tie.Need-hear-lent-requires
 hear-lent-requires c κs = search needs
 
 answer-requires-2 : tie.Need-answer-requires-2
-answer-requires-2 c κs = c .before .before .before .before .before .before .before .before .before .before .before .before .before .before .before .before .before .before .before .before .before .if1 .left
+answer-requires-2 c κs = holding (c .before .before .before .before .before .before .before) .before .before .before .if1 .left
 
 same-length-3 : tie.Need-same-length-3
 same-length-3 c = search needs
@@ -79,20 +116,12 @@ same-length-6 : tie.Need-same-length-6
 same-length-6 c = search needs
 
 returns-3 : tie.Need-returns-3
-returns-3 c =
-    let d = c .before .before .before .before .before .before .before .before .before .before .before .before in
-    let f = d .before .before .before .before .before .before .before .before .before in
-    let e = d .before .before .before .before .before .before .before .before .before .before .before in
-    let a = e .before .before .before .before .before .before .before .before .args in
-    lent-kept (now (a .state)) (now (a .piece)) (now (a .out)) (now (a .bytes)) (now (a .told)) (yes e) (f .load-front .result) (f .load-front .ensures) (d .hear-lent .result) _ _ _ _ _ (d .hear-lent .ensures) (e .before .before .before .if1 .left) _ _ (c .before .before .before .before .answer2 .ensures .0) (c .before .before .before .before .answer2 .ensures .1) (c .if3 .taken)
+returns-3 c = lent-kept _ _ _ _ _ (lent (c .before .before .before .before)) (c .if3 .taken)
 
 store-front-requires : tie.Need-store-front-requires
 store-front-requires c κs =
-    let d = c .before .before .before .before .before .before .before .before .before .before .before .before .before .before in
-    let f = d .before .before .before .before .before .before .before .before .before in
-    let e = d .before .before .before .before .before .before .before .before .before .before .before in
-    let a = e .before .before .before .before .before .before .before .before .args in
-    around-long (now (a .state)) (yes e) (picks d)
+    let d = heard (c .before .before .before .before .before .before) in
+    around-long (now (first (holding d) .args .state)) (yes (holding d)) (picks d)
 
 same-length-7 : tie.Need-same-length-7
 same-length-7 c = search needs
@@ -108,11 +137,8 @@ same-length-10 c = search needs
 
 returns-4 : tie.Need-returns-4
 returns-4 c =
-    let d = c .before .before .before .before .before .before .before .before .before .before .before .before .before .before .before .before .before in
-    let f = d .before .before .before .before .before .before .before .before .before in
-    let e = d .before .before .before .before .before .before .before .before .before .before .before in
-    let a = e .before .before .before .before .before .before .before .before .args in
-    lent-written (now (a .state)) (now (a .piece)) (now (a .out)) (now (a .bytes)) (now (a .told)) (yes e) (f .load-front .result) (f .load-front .ensures) (d .hear-lent .result) _ _ _ _ _ (d .hear-lent .ensures) (e .before .before .before .if1 .left) _ _ (c .before .before .before .before .before .before .before .before .before .answer2 .ensures .0) (c .before .before .before .before .before .before .before .before .before .answer2 .ensures .1) _ (sized d) (c .before .before .before .before .before .if3 .left) (c .before .before .store-front .ensures)
+    let g = c .before .before .before .before .before .before .before .before .before in
+    lent-written _ _ _ _ _ (lent g) _ (sized (heard g)) (c .before .before .before .before .before .if3 .left) (c .before .before .store-front .ensures)
 
 pub hear-recorded-spec : {M : Type 1} → statement M
 hear-recorded-spec =

@@ -1,6 +1,6 @@
--- One symbol: what the receiver says where it is lent no more places than the bytes can record, and where they cannot hold its own record.
+-- One symbol: what the machine says where it is lent no more places than the bytes can record, and where they cannot hold its own record.
 --   released-many   as many words are released as are agreed
---   enough          with nine bytes or more: the receiver's own answer with so many places
+--   enough          with bytes for its own record: the machine's own answer with so many places
 --   short           with fewer: 5, 7 or 6 as it says it, and else 8
 use mathlib.Core.Path.{_≡_, refl, sym, ap, subst, _∙_}
 use mathlib.Core.Bool.{Bool, true, false, cond, _&&_}
@@ -25,9 +25,9 @@ use Rattle.reasons.specs.declared.Why.the-variants.{Done, BadSample, TooMany, F
 use Rattle.reasons.specs.Reason.{isDone}
 use Rattle.told.specs.Told.{faultOf}
 use Rattle.pieces.specs.Running.{symbolAt}
-use Rattle.recorder.specs.Recorded.{symbolRecords, spaceOf}
-use Rattle.recorder.specs.Taping.{tapedAt}
-use Rattle.recorder.proofs.Spaces.{symbol-space}
+use Rattle.tape.specs.Front.{symbolRecords, symbolSpace, spaceOf}
+use Rattle.tape.proofs.Fronts.{symbol-space}
+use Rattle.taping.specs.Taping.{tapedAt}
 
 module _ (rx : Receiver) (y : Two Received) where
   abbrev words : List ℕ
@@ -49,38 +49,46 @@ module _ (rx : Receiver) (y : Two Received) where
   roomy b = cond b (refused rx NoRoom) (record { receiver = grown rx y; words = words; why = Done })
 
   -- both ways of asking, by cases on 5, 7, 6
-  by-cases : (P : Outcome → Outcome → Type 0) (room other : ℕ) → P (refused rx (BadSample (faultOf y))) (refused rx (BadSample (faultOf y))) → P (refused rx TooMany) (refused rx TooMany) → P (refused rx Full) (refused rx Full) →
+  by-cases : (P : Outcome → Outcome → Type 0) (room other : ℕ) → ((w : Why) → isDone w ≡ false → P (refused rx w) (refused rx w)) →
       P (roomy (ltb room (agreedOf rx y))) (roomy (ltb other (agreedOf rx y))) → P (symbolAt rx y room) (symbolAt rx y other)
   unfolding symbolAt taking
-  by-cases P room other five seven six rest = go (ltb (faultOf y) 4) (eqb (rx .core .taken) 4294967295) (ltb (rx .core .window) (keptOf rx y))
+  by-cases P room other not rest = go (ltb (faultOf y) 4) (eqb (rx .core .taken) 4294967295) (ltb (rx .core .window) (keptOf rx y))
     where
       full : Bool → Bool → Bool → ℕ → Outcome
       full a b c m = cond a (refused rx (BadSample (faultOf y))) (cond b (refused rx TooMany) (cond c (refused rx Full) (roomy (ltb m (agreedOf rx y)))))
 
       go : (a b c : Bool) → P (full a b c room) (full a b c other)
-      go true b c = five
-      go false true c = seven
-      go false false true = six
+      go true b c = not (BadSample (faultOf y)) refl
+      go false true c = not TooMany refl
+      go false false true = not Full refl
       go false false false = rest
 
-  pub enough : (room bytes : ℕ) → 9 ≤ bytes → tapedAt rx y room bytes ≡ symbolAt rx y (min room ((bytes - 9) / 5))
+  -- what both rooms hold
+  abbrev fitting : ℕ → ℕ → ℕ
+  fitting room bytes = min room ((bytes - symbolSpace y) / 5)
+
+  pub enough : (room bytes : ℕ) → symbolSpace y ≤ bytes → tapedAt rx y room bytes ≡ symbolAt rx y (fitting room bytes)
   unfolding tapedAt
-  enough room bytes h = by-cases (λ p q. within bytes p ≡ q) room (min room ((bytes - 9) / 5)) refl refl refl (go (ltb room n) refl)
+  enough room bytes h = by-cases (λ p q. within bytes p ≡ q) room (fitting room bytes) (λ w d. rw d) (go (ltb room n) refl)
     where
       n : ℕ
       n = agreedOf rx y
 
-      go : (b : Bool) → ltb room n ≡ b → within bytes (roomy b) ≡ roomy (ltb (min room ((bytes - 9) / 5)) n)
-      go true e = rw (lt-ltb (min room ((bytes - 9) / 5)) n (omega (arith, ltb-true room n e)))
+      go : (b : Bool) → ltb room n ≡ b → within bytes (roomy b) ≡ roomy (ltb (fitting room bytes) n)
+      go true e = rw (lt-ltb (fitting room bytes) n (omega (arith, ltb-true room n e)))
       go false e = last (ltb bytes (spaceOf (symbolRecords y words))) refl
         where
-          last : (b : Bool) → ltb bytes (spaceOf (symbolRecords y words)) ≡ b → cond b (refused rx NoRoom) (roomy false) ≡ roomy (ltb (min room ((bytes - 9) / 5)) n)
-          last true k = rw (lt-ltb (min room ((bytes - 9) / 5)) n (omega (arith, symbol-space y words, released-many, ltb-true bytes (spaceOf (symbolRecords y words)) k)))
-          last false k = rw (le-ltb (min room ((bytes - 9) / 5)) n (omega (arith, symbol-space y words, released-many, ltb-false bytes (spaceOf (symbolRecords y words)) k, ltb-false room n e)))
+          last : (b : Bool) → ltb bytes (spaceOf (symbolRecords y words)) ≡ b → cond b (refused rx NoRoom) (roomy false) ≡ roomy (ltb (fitting room bytes) n)
+          last true k =
+              rw (lt-ltb (fitting room bytes) n (omega (arith, symbol-space y words, released-many, ltb-true bytes (spaceOf (symbolRecords y words)) k)))
+          last false k =
+              let l = ltb-false bytes (spaceOf (symbolRecords y words)) k in
+              rw (le-ltb (fitting room bytes) n (omega (arith, symbol-space y words, released-many, l, ltb-false room n e)))
 
-  pub short : (room bytes : ℕ) → bytes < 9 → tapedAt rx y room bytes ≡ refused rx (cond (isDone (symbolAt rx y 0 .why)) NoRoom (symbolAt rx y 0 .why))
+  pub short : (room bytes : ℕ) → bytes < symbolSpace y → tapedAt rx y room bytes ≡ refused rx (cond (isDone (symbolAt rx y 0 .why)) NoRoom (symbolAt rx y 0 .why))
   unfolding tapedAt
-  short room bytes h = by-cases (λ p q. within bytes p ≡ refused rx (cond (isDone (q .why)) NoRoom (q .why))) room 0 refl refl refl (go (ltb room n) (ltb 0 n))
+  short room bytes h =
+      by-cases (λ p q. within bytes p ≡ refused rx (cond (isDone (q .why)) NoRoom (q .why))) room 0 (λ w d. rw d) (go (ltb room n) (ltb 0 n))
     where
       n : ℕ
       n = agreedOf rx y

@@ -12,8 +12,8 @@ use Rattle.reasons.specs.declared.Why.the-variants.{NoRoom}
 use Rattle.reasons.specs.Reason.{isDone}
 use Rattle.pieces.specs.Running.{symbolAt}
 use Rattle.pieces.proofs.Kept.{symbol-refused, symbol-sound}
-use Rattle.recorder.specs.Recorded.{symbolRecords, spaceOf}
-use Rattle.recorder.specs.Taping.{tapedAt}
+use Rattle.tape.specs.Front.{symbolRecords, spaceOf}
+use Rattle.taping.specs.Taping.{tapedAt}
 
 module _ (rx : Receiver) (y : Two Received) (room bytes : ℕ) where
   abbrev said : Outcome

@@ -1,3 +1,4 @@
 pub mod Forms
 pub mod Seeing
 pub mod Agrees
+pub mod Library

@@ -161,7 +161,8 @@ pub fn take_symbol(
 ) -> Took
     requires { ⌜ (now t ≡ chartOf (core .accord)) × InRange first × InRange second ⌝ }
     requires { ⌜ Ready core (now sums) × (length (now picks) ≡ 72) ⌝ }
-    ensures { λ r. ⌜ TookIs (taking (whole core (now (sums .entry)) (now (planes .entry)) (now (picks .entry))) (heardAs first second) (length (now (out .entry)))) r (now (sums .exit)) (now (planes .exit)) (now (picks .exit)) (now (out .entry)) (now (out .exit)) ⌝ }
+    ensures { λ r. ⌜ TookIs (taking (whole core (now (sums .entry)) (now (planes .entry)) (now (picks .entry))) (heardAs first second) (length (now (out .entry))))
+        r (now (sums .exit)) (now (planes .exit)) (now (picks .exit)) (now (out .entry)) (now (out .exit)) ⌝ }
 {
     if core.taken == 4294967295 {
         return refused(core, Why::TooMany);

@@ -63,7 +63,9 @@ unfolding lineDistance
 line-rest h l v w = same-rest h (pointOf l v) (pointOf l w)
 
 -- the keys of a turned point, by the received point turned back
-pub turned-keys : (h h1 h2 h3 : Received) (p : Point) (w a c b d : ℕ) → h1 ≡ turnedBack h → h2 ≡ turnedBack h1 → h3 ≡ turnedBack h2 → a ≡ distance h p → c ≡ distance h1 p → b ≡ distance h2 p → d ≡ distance h3 p → record { a = a + w; c = c + w; b = b + w; d = d + w } ≡ keysFrom h p w
+pub turned-keys : (h h1 h2 h3 : Received) (p : Point) (w a c b d : ℕ)
+    → h1 ≡ turnedBack h → h2 ≡ turnedBack h1 → h3 ≡ turnedBack h2 → a ≡ distance h p → c ≡ distance h1 p → b ≡ distance h2 p → d ≡ distance h3 p
+    → record { a = a + w; c = c + w; b = b + w; d = d + w } ≡ keysFrom h p w
 unfolding keysFrom
 turned-keys h h1 h2 h3 p w a c b d e1 e2 e3 f0 f1 f2 f3 =
     cc (back h p, back h (turned p), back h1 p, back h (turned (turned p)), back h1 (turned p), back h2 p)

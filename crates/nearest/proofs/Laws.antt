@@ -112,7 +112,10 @@ module _ (k : Accord) (y : Two Received) where
     best-read =
         let q = turnOf i2 (bestI3 (k .u) lineDistance counted y y0 i1 i2) in
         rw (eight-at (bestI3 (k .u) lineDistance counted y) y0 i1 i2 a b c)
-        (cc (four-at (near (k .u) lineDistance (y .first)) q (omega (arith, i3-below (k .u) lineDistance counted y y0 i1 i2)), four-at (near (k .u) lineDistance (y .second)) (secondLabel q y0 i1) (second-below q y0 i1)))
+        (cc (
+          four-at (near (k .u) lineDistance (y .first)) q (omega (arith, i3-below (k .u) lineDistance counted y y0 i1 i2)),
+          four-at (near (k .u) lineDistance (y .second)) (secondLabel q y0 i1) (second-below q y0 i1),
+        ))
 
 -- the choice is the first of its subset
 pub line-chooses : (k : Accord) → Chooses (k .u) (lineMeasure k) (lineChoice k)

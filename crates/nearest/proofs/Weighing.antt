@@ -65,4 +65,18 @@ weighed k g h a b c p q r =
     let y = heardAs g h in
     let z : 0 < 2 = omega arith in
     let o : 1 < 2 = omega arith in
-    rw (r, p, q, numbers k g, numbers k h, chosen k y 0 0 0 z, chosen k y 0 0 1 o, chosen k y 0 1 0 z, chosen k y 0 1 1 o, chosen k y 1 0 0 z, chosen k y 1 0 1 o, chosen k y 1 1 0 z, chosen k y 1 1 1 o)
+    rw (
+      r,
+      p,
+      q,
+      numbers k g,
+      numbers k h,
+      chosen k y 0 0 0 z,
+      chosen k y 0 0 1 o,
+      chosen k y 0 1 0 z,
+      chosen k y 0 1 1 o,
+      chosen k y 1 0 0 z,
+      chosen k y 1 0 1 o,
+      chosen k y 1 1 0 z,
+      chosen k y 1 1 1 o,
+    )

@@ -85,7 +85,8 @@ same-length-2 c = search needs
 returns-2 : tie.Need-returns-2 Inv-loop μ-loop
 returns-2 c =
     let d = c .before in
-    list-done (reading (to-token d)) _ _ (toZ-ofZ w32 (d .before .x .given .0 .0) (record { sfits = d .known-told .given .0 .1 })) (ap wholeGot (sym (d .before .x .given .1) ∙ d .before .before .before .signed .ensures)) (c .if1 .taken)
+    list-done (reading (to-token d)) _ _ (toZ-ofZ w32 (d .before .x .given .0 .0) (record { sfits = d .known-told .given .0 .1 }))
+    (ap wholeGot (sym (d .before .x .given .1) ∙ d .before .before .before .signed .ensures)) (c .if1 .taken)
 
 add-from : tie.Need-add-from Inv-loop μ-loop
 add-from c = omega (arith, token-within (reading (to-token (c .before))))
@@ -96,7 +97,8 @@ loop-less c = omega (arith, token-within (reading (to-token (c .before))))
 loop-again : tie.Need-loop-again Inv-loop μ-loop
 loop-again c =
     let d = c .before in
-    list-more (reading (to-token d)) _ _ (toZ-ofZ w32 (d .before .x .given .0 .0) (record { sfits = d .known-told .given .0 .1 })) (ap wholeGot (sym (d .before .x .given .1) ∙ d .before .before .before .signed .ensures)) (c .if1 .left)
+    list-more (reading (to-token d)) _ _ (toZ-ofZ w32 (d .before .x .given .0 .0) (record { sfits = d .known-told .given .0 .1 }))
+    (ap wholeGot (sym (d .before .x .given .1) ∙ d .before .before .before .signed .ensures)) (c .if1 .left)
 
 same-length-3 : tie.Need-same-length-3 Inv-loop μ-loop
 same-length-3 c = search needs

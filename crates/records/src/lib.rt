@@ -141,7 +141,7 @@ pub fn counted(n: u64) -> u64
     if n < u64::MAX { n + 1 } else { n }
 }
 
-fn stage_at(have: usize, size: usize) -> Stage
+pub fn stage_at(have: usize, size: usize) -> Stage
     ensures { λ r. ⌜ r ≡ stageAt have size ⌝ }
 {
     if have < size {

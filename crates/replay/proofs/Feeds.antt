@@ -1,6 +1,6 @@
 -- A lump is a fold of the byte step, and the byte step is that of `records` with the judge behind it.
 --   settle-no, settle-yes    the judge takes a record only where it has become whole
---   again, done              the loop over a lump
+--   again, runs, done        the loop over a lump
 --   feedings-append          bytes in two lumps are the bytes in one
 --   feedings-follow          what a lump does: the frame after it, and the judge after the records that became whole
 --   ended-fault, ended-cut, ended-due, ended-agree   the verdict by the code's tests
@@ -8,17 +8,18 @@
 use mathlib.Core.Path.{_≡_, refl, sym, ap, _∙_}
 use mathlib.Core.Bool.{Bool, true, false, cond}
 use mathlib.Core.List.{List, [], _∷_, _++_}
-use Prim.Native.Nat.{ℕ, suc, _+_, _≤_, _<_}
+use Prim.Native.Nat.{ℕ, _+_, _≤_, _<_}
 use native.Mathlib.Omega.{arith}
-use native.Mathlib.Numerals.{add-one}
-use lib.ListN.{length, take, drop, getD, drop-of-length-le}
-use lib.Seq.{drop-cons}
+use lib.ListN.{length, take, drop, drop-of-length-le, take-append-drop, length-drop}
+use lib.Seq.{drop-drop}
 use Rattle.records.specs.declared.Stage.{Stage}
 use Rattle.records.specs.declared.Stage.the-variants.{Fresh, Part, Whole, Bad}
 use Rattle.records.specs.declared.Frame.{Frame}
 use Rattle.records.specs.Kinds.{kindOf}
 use Rattle.records.specs.Values.{Entry, entry}
-use Rattle.records.specs.Frames.{pushed, entryOf, following, ended as whole}
+use Rattle.records.specs.Frames.{pushed, entryOf, Read, following, ended as whole}
+use Rattle.gather.specs.Runs.{Advances}
+use Rattle.gather.proofs.Gathers.{run-some, run-most}
 use Rattle.replay_step.specs.declared.Verdict.{Verdict}
 use Rattle.replay_step.specs.declared.Verdict.the-variants.{Agree, Missing, Malformed}
 use Rattle.replay_step.specs.declared.Judge.{Judge}
@@ -42,21 +43,6 @@ module _ (c : Course) (bs : List ℕ) (i : ℕ) where
   pub done : length bs ≤ i → feedings c (drop i bs) ≡ c
   unfolding feedings
   done h = rw (drop-of-length-le bs {i = i} h)
-
-  one : i < length bs → feedings c (drop i bs) ≡ feedings (stepped c (getD bs i 0)) (drop (i + 1) bs)
-  unfolding feedings
-  one h = rw (add-one, drop-cons bs i 0 h)
-
-pub again : (c₀ : Course) (bs : List ℕ) (i : ℕ) (f : Frame) (j : Judge) (sums planes picks due : List ℕ) (f₁ : Frame) (j₁ : Judge) (sums₁ planes₁ picks₁ due₁ : List ℕ) → i < length bs
-    → feedings c₀ bs ≡ feedings (courseOf f j sums planes picks due) (drop i bs)
-    → f₁ ≡ pushed f (getD bs i 0) → stateOf j₁ sums₁ planes₁ picks₁ due₁ ≡ settled (isWhole (f₁ .stage)) (stateOf j sums planes picks due) (entryOf f₁)
-    → feedings c₀ bs ≡ feedings (courseOf f₁ j₁ sums₁ planes₁ picks₁ due₁) (drop (i + 1) bs)
-unfolding stepped
-again c₀ bs i f j sums planes picks due f₁ j₁ sums₁ planes₁ picks₁ due₁ h inv e k =
-    let z : courseOf f₁ j₁ sums₁ planes₁ picks₁ due₁ ≡ stepped (courseOf f j sums planes picks due) (getD bs i 0) =
-    ap (λ (s : State). record { frame = f₁; state = s }) k
-    ∙ ap (λ (g : Frame). record { frame = g; state = settled (isWhole (g .stage)) (stateOf j sums planes picks due) (entryOf g) }) e in
-    inv ∙ one (courseOf f j sums planes picks due) bs i h ∙ ap (λ (c : Course). feedings c (drop (i + 1) bs)) (sym z)
 
 -- ---- lumps
 
@@ -90,6 +76,30 @@ feedings-follow f s (b ∷ bs) =
     ap (λ (x : State). feedings (record { frame = g; state = x }) bs) (settled-tooks (g .stage) s g)
     ∙ feedings-follow g (tooks s (whole (g .stage) g)) bs
     ∙ ap (λ (t : State). record { frame = following g bs .frame; state = t }) (tooks-append s (whole (g .stage) g) (following g bs .entries))
+
+-- ---- a run of bytes
+
+pub again : (c₀ : Course) (bs : List ℕ) (i n : ℕ) (f : Frame) (j : Judge) (sums planes picks due : List ℕ) (f₁ : Frame) (j₁ : Judge)
+    (sums₁ planes₁ picks₁ due₁ : List ℕ) → feedings c₀ bs ≡ feedings (courseOf f j sums planes picks due) (drop i bs) → Advances f (drop i bs) f₁ n
+    → stateOf j₁ sums₁ planes₁ picks₁ due₁ ≡ settled (isWhole (f₁ .stage)) (stateOf j sums planes picks due) (entryOf f₁)
+    → feedings c₀ bs ≡ feedings (courseOf f₁ j₁ sums₁ planes₁ picks₁ due₁) (drop (i + n) bs)
+again c₀ bs i n f j sums planes picks due f₁ j₁ sums₁ planes₁ picks₁ due₁ inv a k =
+    let s = stateOf j sums planes picks due in
+    let c = courseOf f j sums planes picks due in
+    let ds = drop i bs in
+    let z : feedings c (take n ds) ≡ courseOf f₁ j₁ sums₁ planes₁ picks₁ due₁ =
+    feedings-follow f s (take n ds)
+    ∙ ap (λ (x : Read). record { frame = x .frame; state = tooks s (x .entries) }) (a .pushes)
+    ∙ ap (λ (t : State). record { frame = f₁; state = t }) (sym (settled-tooks (f₁ .stage) s f₁) ∙ sym k) in
+    inv ∙ ap (λ (l : List ℕ). feedings c l) (sym (take-append-drop n ds)) ∙ feedings-append c (take n ds) (drop n ds)
+    ∙ ap (λ (x : Course). feedings x (drop n ds)) z ∙ ap (λ (l : List ℕ). feedings (courseOf f₁ j₁ sums₁ planes₁ picks₁ due₁) l) (drop-drop n i bs)
+
+-- a run moves on, and not past the end
+pub runs : (f : Frame) (bs : List ℕ) (i n : ℕ) (g : Frame) → i < length bs → Advances f (drop i bs) g n → (0 < n) × (i + n ≤ length bs)
+runs f bs i n g h a =
+    let d = length-drop i bs in
+    let e = a .count in
+    (omega (arith, e, run-some f (drop i bs) (omega (arith, d))), omega (arith, d, e, run-most f (drop i bs) (omega (arith, d))))
 
 -- ---- the verdict
 

@@ -1,5 +1,5 @@
 // The replay of a capture: bytes in, one verdict out. The record that is being read is a frame of `records`, what has been found so far a
-// judge of `replay_step`; a byte is pushed into the frame, and where that makes a record whole the judge takes it.
+// judge of `replay_step`; bytes go into the frame (`gather`), and where they make a record whole the judge takes it (`replay_take`).
 //
 // `start`, `feed` and `end` hold all of it by value. `feed_lent` and `verdict` are for a caller that keeps the receiver's lists and the words
 // that are due in places of its own: nothing is copied for a byte, a symbol or a word. A lump of bytes may have any length and may end
@@ -101,9 +101,11 @@ pub fn feed_lent(
     let mut j = judge;
     let mut i: usize = 0;
     while i < bytes.len() {
-        f = records::push(f, bytes[i]);
+        let m = gather::advance(f, bytes, i);
+        let next = m.frame;
+        f = next;
         j = settle(f, j, sums, planes, picks, due);
-        i += 1;
+        i += m.count;
     }
     Fed { frame: f, judge: j }
 }

@@ -1,16 +1,18 @@
+-- `feed_lent`: a run of bytes a round.
 use borrow.Author.Tests.{not-true, not-false, eq-eqb, ne-eqb, lt-ltb, le-ltb, le-leb, lt-leb}
 use borrow.Author.Needs.{needs}
 use native.Mathlib.Omega.{arith}
 use mathlib.Core.Path.{_≡_, refl, sym, ap, _∙_}
-use Prim.Native.Nat.{_≤_, _-_, _+_}
+use Prim.Native.Nat.{_≤_, _<_, _-_, _+_}
+use denote.Ref.{now}
 use lib.ListN.{length, drop}
 use Rattle.replay.specs.Course.{courseOf, feedings}
-use Rattle.replay.proofs.Feeds.{again, done}
+use Rattle.replay.proofs.Feeds.{again, runs, done}
 use Rattle.replay.proofs.feed_lent.Statement.{statement}
 use Rattle.replay.proofs.feed_lent.Tie as tie
 use Rattle.replay.proofs.feed_lent.Reads as reads
 use Rattle.replay.proofs.feed_lent.Lts as lts
-use Rattle.records.proofs.push.Reads as push-reads
+use Rattle.gather.proofs.advance.Reads as advance-reads
 use Rattle.replay.proofs.settle.Reads as settle-reads
 
 abbrev Inv-loop : tie.InvT-loop
@@ -24,36 +26,36 @@ abbrev μ-loop : tie.MeasureT-loop
 loop-holds : tie.Need-loop-holds Inv-loop μ-loop
 loop-holds c = (omega arith, refl, refl)
 
--- src/lib.rt:102:30
-shared-slice-read-push : tie.Need-shared-slice-read-push Inv-loop μ-loop
-shared-slice-read-push c = omega arith
+advance-requires : tie.Need-advance-requires Inv-loop μ-loop
+advance-requires c κs = search needs
 
--- src/lib.rt:102:9
-push-requires : tie.Need-push-requires Inv-loop μ-loop
-push-requires c κs = search needs
+-- the bytes that went into the frame
+moves : (p : tie.After-advance Inv-loop μ-loop)
+    → (0 < p .advance .result .count) × (p .before .before .loop .i + p .advance .result .count ≤ length (now (p .before .before .before .before .before .args .bytes)))
+moves p =
+    let l = p .before .before in
+    runs (l .loop .f) (now (l .before .before .before .args .bytes)) (l .loop .i) _ _ (p .before .loop-test .taken) (p .advance .ensures)
 
--- src/lib.rt:103:9
 settle-requires : tie.Need-settle-requires Inv-loop μ-loop
 settle-requires c κs = search needs
 
--- src/lib.rt:104:9
 add-i : tie.Need-add-i Inv-loop μ-loop
 add-i c =
     let p = c .before .before .before .before .before .before .before .before .before in
-    omega (arith, p .loop-test .taken, p .before .before .before .before .good)
+    omega (arith, moves p .1, p .before .before .before .before .before .good)
 
--- src/lib.rt:101:5
 loop-less : tie.Need-loop-less Inv-loop μ-loop
-loop-less c = omega arith
+loop-less c =
+    let p = c .before .before .before .before .before .before .before .before .before in
+    omega (arith, moves p .0, moves p .1)
 
--- src/lib.rt:101:5
 loop-again : tie.Need-loop-again Inv-loop μ-loop
 loop-again c =
-    let p = c .before .before .before .before .before .before .before in
-    let q = p .before .before in (
-      omega arith,
-      c .before .due .given ∙ q .before .loop .inv .1,
-      again _ _ _ _ _ _ _ _ _ _ _ _ _ _ _ (q .loop-test .taken) (q .before .loop .inv .2) (p .push .ensures) (c .before .before .settle .ensures),
+    let p = c .before .before .before .before .before .before .before .before .before in
+    let l = p .before .before .loop in (
+      moves p .1,
+      c .before .before .due .given ∙ l .inv .1,
+      again _ _ _ _ _ _ _ _ _ _ _ _ _ _ _ _ (l .inv .2) (p .advance .ensures) (c .before .before .before .settle .ensures),
     )
 
 -- src/lib.rt:87:1
@@ -71,8 +73,7 @@ feed-lent-spec =
     Inv-loop
     μ-loop
     loop-holds
-    shared-slice-read-push
-    push-requires
+    advance-requires
     settle-requires
     add-i
     loop-less

@@ -42,10 +42,10 @@ written e =
     finish-written (a .rx) (now (a .out)) (now (a .bytes)) (f .finish .result) _ (f .finish .ensures) (done e)
 
 is-open-requires : tie.Need-is-open-requires
-is-open-requires c κs = search needs
+is-open-requires c κs = tt
 
 stopped-requires : tie.Need-stopped-requires
-stopped-requires c κs = search needs
+stopped-requires c κs = tt
 
 returns : tie.Need-returns
 returns c =
@@ -59,7 +59,7 @@ add-if2 : tie.Need-add-if2
 add-if2 c = let k = sound-core _ (opened (c .before .before)) in omega (arith, k .held, k .small-window)
 
 stopped-requires-2 : tie.Need-stopped-requires-2
-stopped-requires-2 c κs = search needs
+stopped-requires-2 c κs = tt
 
 returns-2 : tie.Need-returns-2
 returns-2 c =
@@ -68,13 +68,13 @@ returns-2 c =
     rw (c .stopped2 .ensures) (finish-short (a .rx) (now (a .out)) (now (a .bytes)) (opened e) (c .before .if2 .taken))
 
 finish-requires : tie.Need-finish-requires
-finish-requires c κs = search needs
+finish-requires c κs = tt
 
 is-done-requires : tie.Need-is-done-requires
-is-done-requires c κs = search needs
+is-done-requires c κs = tt
 
 stopped-requires-3 : tie.Need-stopped-requires-3
-stopped-requires-3 c κs = search needs
+stopped-requires-3 c κs = tt
 
 same-length : tie.Need-same-length
 same-length c = search needs

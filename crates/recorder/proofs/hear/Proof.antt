@@ -8,7 +8,7 @@ slice-aggregate-hear-lent : tie.Need-slice-aggregate-hear-lent
 slice-aggregate-hear-lent c = search needs
 
 hear-lent-requires : tie.Need-hear-lent-requires
-hear-lent-requires c κs = search needs
+hear-lent-requires c κs = tt
 
 same-length : tie.Need-same-length
 same-length c = search needs

@@ -1,5 +1,5 @@
 -- `record_symbol`: no room for its own record, refused, or taken and recorded.
-use mathlib.Core.Path.{_≡_, sym}
+use mathlib.Core.Path.{_≡_, refl, sym}
 use native.Mathlib.Omega.{arith}
 use denote.Ref.{now}
 use lib.Seq.{length-take-le}
@@ -35,16 +35,16 @@ abbrev heard : tie.Else2 → tie.After-hear-symbols
 heard e = e .before .before .before .before .before .before .before
 
 symbol-space-requires : tie.Need-symbol-space-requires
-symbol-space-requires c κs = search needs
+symbol-space-requires c κs = tt
 
 refusal-requires : tie.Need-refusal-requires
-refusal-requires c κs = search needs
+refusal-requires c κs = c .before .before .before .before .before .before .before .before .pre
 
 not-taken-requires : tie.Need-not-taken-requires
-not-taken-requires c κs = search needs
+not-taken-requires c κs = tt
 
 same-length : tie.Need-same-length
-same-length c = search needs
+same-length c = refl
 
 returns : tie.Need-returns
 returns c =
@@ -54,13 +54,13 @@ returns c =
     rw (c .not-taken .ensures) (step-short (s .args .core) _ _ _ (now (s .args .out)) (now (s .args .bytes)) _ (f .refusal .result) (f .refusal .ensures) few)
 
 sub-places : tie.Need-sub-places
-sub-places c = search needs
+sub-places c = omega (arith, c .if1 .left)
 
 places-requires : tie.Need-places-requires
-places-requires c κs = search needs
+places-requires c κs = tt
 
 slice-relend-prefix-hear-symbols : tie.Need-slice-relend-prefix-hear-symbols
-slice-relend-prefix-hear-symbols c = search needs
+slice-relend-prefix-hear-symbols c = omega (arith, c .before .before .before .places .ensures)
 
 slice-aggregate-hear-symbols : tie.Need-slice-aggregate-hear-symbols
 slice-aggregate-hear-symbols c =
@@ -71,10 +71,10 @@ hear-symbols-requires : tie.Need-hear-symbols-requires
 hear-symbols-requires c κs = let s = c .before .before .before .before .before .before .before .before .before .before in (s .pre .0, rw (s .pre .2), s .pre .1)
 
 not-taken-requires-2 : tie.Need-not-taken-requires-2
-not-taken-requires-2 c κs = search needs
+not-taken-requires-2 c κs = tt
 
 same-length-2 : tie.Need-same-length-2
-same-length-2 c = search needs
+same-length-2 c = c .before .before .before .before .before .before .before .before .hear-symbols .kept .1 .1 .1 .1 .0
 
 same-length-3 : tie.Need-same-length-3
 same-length-3 c = search needs
@@ -105,13 +105,13 @@ add-t15 c =
     omega (arith, space _ _ _ _ (lends (heard e)) (e .if2 .left), first (heard e) .good)
 
 same-length-4 : tie.Need-same-length-4
-same-length-4 c = search needs
+same-length-4 c = heard (c .before .before .before .before .before) .hear-symbols .kept .1 .1 .1 .1 .0
 
 same-length-5 : tie.Need-same-length-5
 same-length-5 c = search needs
 
 same-length-6 : tie.Need-same-length-6
-same-length-6 c = search needs
+same-length-6 c = c .before .before .put-taken .kept .1 .1 .0
 
 returns-3 : tie.Need-returns-3
 returns-3 c =

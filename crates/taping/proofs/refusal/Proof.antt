@@ -42,25 +42,25 @@ abbrev asked : (d : tie.After-hear-symbols) → Asked (with-picks (first (copy-a
 asked d = record { four = first (copy-at d) .pre .2; heard = d .hear-symbols .result; sums = _; planes = _; picks = _; after = _; was = d .hear-symbols .ensures }
 
 sub-copy : tie.Need-sub-copy
-sub-copy c = search needs
+sub-copy c = omega arith
 
 part-k-start : tie.Need-part-k-start
-part-k-start c = search needs
+part-k-start c = omega arith
 
 part-k-end : tie.Need-part-k-end
-part-k-end c = search needs
+part-k-end c = omega arith
 
 copy-requires : tie.Need-copy-requires
-copy-requires c κs = search needs
+copy-requires c κs = omega (arith, c .before .before .before .before .pre .1)
 
 slice-aggregate-hear-symbols : tie.Need-slice-aggregate-hear-symbols
 slice-aggregate-hear-symbols c = let k = c .before .before .before .before in sym (ap length (all-copied k) ∙ first k .pre .1)
 
 array-borrow-prefix-none : tie.Need-array-borrow-prefix-none
-array-borrow-prefix-none c = search needs
+array-borrow-prefix-none c = omega arith
 
 slice-aggregate-hear-symbols-2 : tie.Need-slice-aggregate-hear-symbols-2
-slice-aggregate-hear-symbols-2 c = search needs
+slice-aggregate-hear-symbols-2 c = refl
 
 hear-symbols-requires : tie.Need-hear-symbols-requires
 hear-symbols-requires c κs =
@@ -69,7 +69,7 @@ hear-symbols-requires c κs =
     (copy-sound k, rw (s .pre .2), ap length (all-copied k) ∙ s .pre .1)
 
 is-done-requires : tie.Need-is-done-requires
-is-done-requires c κs = search needs
+is-done-requires c κs = tt
 
 returns : tie.Need-returns
 returns c =

@@ -1,13 +1,11 @@
-// `capture record`: lines of lab's protocol for one receiver in, its capture out, and each line's answer on the error stream. The lines are
-// read by `protocol`, the calls are those of `recorder`, the answers those of `answers`; records go out before the answer that tells of them.
+// `capture record`: lines of lab's protocol for one receiver in, its capture out, and each line's answer on the error stream. What a line
+// does is `noting`'s; what it wrote is handed out here, the records before the answer that tells of them.
 use libc::STDERR_FILENO;
 use libc::STDIN_FILENO;
 use libc::STDOUT_FILENO;
 use lines::Part;
 use machine::Receiver;
-use points::Accord;
-use recorder::Taped;
-use requests::Request;
+use noting::Noted;
 ghost use mathlib.Core.Path.{_≡_};
 ghost use Prim.Native.Nat.{_≤_};
 ghost use lib.ListN.{length};
@@ -18,198 +16,6 @@ struct Turn {
     begun: bool,
     part: Part,
     on: bool,
-}
-
-// What a line left: the receiver, whether an opening is recorded, how many bytes of records and of the answer.
-struct Noted {
-    receiver: Receiver,
-    begun: bool,
-    recorded: usize,
-    at: usize,
-    ends: bool,
-}
-
-// The number of a free start.
-const FREE: u32 = 16;
-
-fn kept(rx: Receiver, begun: bool, at: usize, ends: bool) -> Noted {
-    Noted {
-        receiver: rx,
-        begun,
-        recorded: 0,
-        at,
-        ends,
-    }
-}
-
-fn unread(rx: Receiver, begun: bool, page: &mut [u8]) -> Noted
-    requires { ⌜ length (now page) ≡ 98304 ⌝ }
-{
-    let at = answers::unread(page, 0);
-    kept(rx, begun, at, false)
-}
-
-// An opening is recorded where it answers 0; a refused one leaves no record. A capture holds one: a further opening ends the recording.
-fn opened(
-    rx: Receiver,
-    begun: bool,
-    u: u32,
-    window: u32,
-    start: u32,
-    bytes: &mut [u8],
-    page: &mut [u8],
-) -> Noted
-    requires { ⌜ length (now page) ≡ 98304 ⌝ }
-{
-    if begun {
-        return kept(rx, begun, 0, true);
-    }
-    let accord = Accord { u: u };
-    let n = recorder::record_open(accord, window, start, bytes);
-    let at = answers::number(page, 0, n as u64);
-    let o = openings::open_receiver(accord, window, openings::start_at(start));
-    let receiver = o.receiver;
-    if n != 0 {
-        return kept(receiver, false, at, false);
-    }
-    Noted {
-        receiver,
-        begun: true,
-        recorded: 4,
-        at,
-        ends: false,
-    }
-}
-
-// A named state: 16 is none, and the number of a record's free start, so another that is none stands in for it.
-fn named(state: u32) -> u32 {
-    if state == FREE {
-        return 17;
-    }
-    state
-}
-
-// The answer to a call, with the words that it wrote: never more than it was lent, and a line lends 4096 at most.
-fn answered(t: Taped, out: &[u32], page: &mut [u8]) -> usize
-    requires { ⌜ length (now page) ≡ 98304 ⌝ }
-{
-    let why = t.why;
-    let n = t.written;
-    if n > out.len() {
-        return 0;
-    }
-    if n > 4096 {
-        return 0;
-    }
-    answers::heard(page, 0, t.taken, why, &out[..n])
-}
-
-fn told(begun: bool, t: Taped, at: usize) -> Noted {
-    let receiver = t.receiver;
-    Noted {
-        receiver,
-        begun,
-        recorded: t.recorded,
-        at,
-        ends: false,
-    }
-}
-
-fn heard(
-    rx: Receiver,
-    begun: bool,
-    piece: &[i32],
-    out: &mut [u32],
-    bytes: &mut [u8],
-    page: &mut [u8],
-) -> Noted
-    requires { ⌜ length (now page) ≡ 98304 ⌝ }
-{
-    let t = recorder::hear(rx, piece, out, bytes);
-    let at = answered(t, out, page);
-    told(begun, t, at)
-}
-
-fn finished(rx: Receiver, begun: bool, out: &mut [u32], bytes: &mut [u8], page: &mut [u8]) -> Noted
-    requires { ⌜ length (now page) ≡ 98304 ⌝ }
-{
-    let t = recorder::finish(rx, out, bytes);
-    let at = answered(t, out, page);
-    told(begun, t, at)
-}
-
-// `protocol` reads no larger numbers than the lists have places.
-fn piece(
-    rx: Receiver,
-    begun: bool,
-    cap: u32,
-    count: usize,
-    coordinates: &[i32],
-    words: &mut [u32],
-    bytes: &mut [u8],
-    page: &mut [u8],
-) -> Noted
-    requires { ⌜ length (now page) ≡ 98304 ⌝ }
-{
-    let n = cap as usize;
-    if n > words.len() {
-        return unread(rx, begun, page);
-    }
-    if count > coordinates.len() {
-        return unread(rx, begun, page);
-    }
-    heard(
-        rx,
-        begun,
-        &coordinates[..count],
-        &mut words[..n],
-        bytes,
-        page,
-    )
-}
-
-fn finish(
-    rx: Receiver,
-    begun: bool,
-    cap: u32,
-    words: &mut [u32],
-    bytes: &mut [u8],
-    page: &mut [u8],
-) -> Noted
-    requires { ⌜ length (now page) ≡ 98304 ⌝ }
-{
-    let n = cap as usize;
-    if n > words.len() {
-        return unread(rx, begun, page);
-    }
-    finished(rx, begun, &mut words[..n], bytes, page)
-}
-
-// `receiver ..`, `piece ..` and `finish ..` are a receiver's; the other verbs are unread here.
-fn note(
-    rx: Receiver,
-    begun: bool,
-    asked: Request,
-    coordinates: &[i32],
-    words: &mut [u32],
-    bytes: &mut [u8],
-    page: &mut [u8],
-) -> Noted
-    requires { ⌜ length (now page) ≡ 98304 ⌝ }
-{
-    match asked {
-        Request::Nothing => kept(rx, begun, 0, false),
-        Request::Plain { u } => opened(rx, begun, u, openings::PLAIN_WINDOW, FREE, bytes, page),
-        Request::Free { u, window } => opened(rx, begun, u, window, FREE, bytes, page),
-        Request::At { u, window, state } => {
-            opened(rx, begun, u, window, named(state), bytes, page)
-        }
-        Request::Piece { cap, count } => {
-            piece(rx, begun, cap, count, coordinates, words, bytes, page)
-        }
-        Request::Finish { cap } => finish(rx, begun, cap, words, bytes, page),
-        _ => unread(rx, begun, page),
-    }
 }
 
 // The first bytes of some text.
@@ -238,17 +44,6 @@ fn put_out(n: Noted, bytes: &[u8], page: &[u8]) -> bool {
 }
 
 // The line that has come to its end.
-fn read_line(part: Part, line: &[u8], coordinates: &mut [i32], words: &mut [u32]) -> Request {
-    let held = part.held;
-    if part.long {
-        return Request::Unread;
-    }
-    if held > line.len() {
-        return Request::Unread;
-    }
-    protocol::read(&line[..held], coordinates, words)
-}
-
 fn end_line(
     t: Turn,
     line: &[u8],
@@ -257,13 +52,12 @@ fn end_line(
     bytes: &mut [u8],
     page: &mut [u8],
 ) -> Turn
-    requires { ⌜ length (now page) ≡ 98304 ⌝ }
+    requires { ⌜ (length (now coordinates) ≡ 4096) × (length (now words) ≡ 4096) × (length (now page) ≡ 98304) × (t .part .held ≤ length (now line)) ⌝ }
     ensures { λ r. ⌜ r .part .held ≡ 0 ⌝ }
 {
     let part = t.part;
     let rx = t.receiver;
-    let asked = read_line(part, line, coordinates, words);
-    let n = note(rx, t.begun, asked, coordinates, words, bytes, page);
+    let n = noting::line(rx, t.begun, part, line, coordinates, words, bytes, page);
     let after = n.receiver;
     let on = put_out(n, bytes, page);
     Turn {
@@ -284,7 +78,7 @@ fn byte(
     bytes: &mut [u8],
     page: &mut [u8],
 ) -> Turn
-    requires { ⌜ (length (now page) ≡ 98304) × (t .part .held ≤ length (now line)) ⌝ }
+    requires { ⌜ (length (now coordinates) ≡ 4096) × (length (now words) ≡ 4096) × (length (now page) ≡ 98304) × (t .part .held ≤ length (now line)) ⌝ }
     ensures { λ r. ⌜ r .part .held ≤ length (now (line .entry)) ⌝ }
 {
     if b == b'\n' {
@@ -311,7 +105,7 @@ fn hear_chunk(
     bytes: &mut [u8],
     page: &mut [u8],
 ) -> Turn
-    requires { ⌜ (length (now page) ≡ 98304) × (t .part .held ≤ length (now line)) ⌝ }
+    requires { ⌜ (length (now coordinates) ≡ 4096) × (length (now words) ≡ 4096) × (length (now page) ≡ 98304) × (t .part .held ≤ length (now line)) ⌝ }
     ensures { λ r. ⌜ r .part .held ≤ length (now (line .entry)) ⌝ }
 {
     let mut now = t;
@@ -341,7 +135,7 @@ fn at_end(
     bytes: &mut [u8],
     page: &mut [u8],
 ) -> Turn
-    requires { ⌜ (length (now page) ≡ 98304) × (t .part .held ≤ length (now line)) ⌝ }
+    requires { ⌜ (length (now coordinates) ≡ 4096) × (length (now words) ≡ 4096) × (length (now page) ≡ 98304) × (t .part .held ≤ length (now line)) ⌝ }
     ensures { λ r. ⌜ r .part .held ≤ length (now (line .entry)) ⌝ }
 {
     let part = t.part;
@@ -361,7 +155,7 @@ fn read_once(
     bytes: &mut [u8],
     page: &mut [u8],
 ) -> Turn
-    requires { ⌜ (length (now page) ≡ 98304) × (t .part .held ≤ length (now line)) ⌝ }
+    requires { ⌜ (length (now coordinates) ≡ 4096) × (length (now words) ≡ 4096) × (length (now page) ≡ 98304) × (t .part .held ≤ length (now line)) ⌝ }
     ensures { λ r. ⌜ r .part .held ≤ length (now (line .entry)) ⌝ }
 {
     let got = libc::read(STDIN_FILENO, chunk);

@@ -10,7 +10,7 @@ use Rattle.capture.proofs.recording.byte.Reads as byte-reads
 
 abbrev Inv-loop : tie.InvT-loop
 Inv-loop chunk line₀ coordinates₀ words₀ bytes₀ page₀ now₀ i₀ line coordinates words bytes page now i =
-    (i ≤ length chunk) × (now .part .held ≤ length line) × (length page ≡ 98304)
+    (i ≤ length chunk) × (now .part .held ≤ length line) × (length coordinates ≡ 4096) × (length words ≡ 4096) × (length page ≡ 98304)
     × ((length line ≡ length line₀) × (length coordinates ≡ length coordinates₀) × (length words ≡ length words₀) × (length bytes ≡ length bytes₀) × (length page ≡ length page₀))
 
 abbrev μ-loop : tie.MeasureT-loop

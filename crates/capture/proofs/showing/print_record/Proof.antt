@@ -7,7 +7,7 @@ use Rattle.capture.proofs.showing.print_record.Statement.{statement}
 use Rattle.capture.proofs.showing.print_record.Tie as tie
 use Rattle.capture.proofs.showing.print_record.Reads as reads
 use Rattle.capture.proofs.showing.print_record.Lts as lts
-use Rattle.capture.proofs.showing.put_record.Reads as put-record-reads
+use Rattle.shown.proofs.put_record.Reads as put-record-reads
 use Rattle.io.proofs.write_all.Reads as write-all-reads
 
 -- src/showing.rt:105:37

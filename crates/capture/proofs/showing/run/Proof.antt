@@ -6,7 +6,7 @@ use Rattle.capture.proofs.showing.run.Statement.{statement}
 use Rattle.capture.proofs.showing.run.Tie as tie
 use Rattle.capture.proofs.showing.run.Reads as reads
 use Rattle.capture.proofs.showing.run.Lts as lts
-use Rattle.capture.proofs.showing.is_whole.Reads as is-whole-reads
+use Rattle.shown.proofs.is_whole.Reads as is-whole-reads
 use Rattle.capture.proofs.showing.print_malformed.Reads as print-malformed-reads
 use Rattle.capture.proofs.showing.read_once.Reads as read-once-reads
 use Rattle.os.proofs.fail.Reads as fail-reads

@@ -1,0 +1,202 @@
+-- Laws of what a line does: what a call gave, made into a note, and the request that was read.
+--   front-few, is-few          what was put at the front of a list fits it
+--   tells                      a recorded call and its answer
+--   idles                      an answer alone
+--   ends-before, opens-first, opens-not   an opening: a further one, one that answered 0, one that is refused
+--   noted-as, .., other-noted  by the kind of the request
+--   long-noted, line-noted     by the line
+use Prim.Native.Nat.{ℕ, _+_, _-_, _*_, _≤_}
+use mathlib.Core.Path.{_≡_, refl, sym, ap, subst, _∙_}
+use mathlib.Core.Bool.{Bool, true, false, cond, _||_}
+use mathlib.Core.Logic.{inl, inr}
+use mathlib.Core.List.{List, [], _∷_, _++_}
+use native.Mathlib.Omega.{arith}
+use borrow.Author.Tests.{eq-eqb, ne-eqb, lt-ltb, le-ltb}
+use denote.Enum.Declared.{tagOf}
+use types.Run.{OneOf}
+use lib.Dec.{T, eqb, ltb}
+use lib.IntN.{ℤ}
+use lib.ListN.{length, take, drop, length-append, length-drop, length-take}
+use lib.Seq.{take-at, length-take-le}
+use Rattle.points.specs.declared.Accord.{Accord}
+use Rattle.points.specs.Agreed.{ofWidth}
+use Rattle.machine.specs.declared.Receiver.{Receiver}
+use Rattle.reasons.specs.Reason.{givenOf}
+use Rattle.openings.specs.declared.Opened.{Opened}
+use Rattle.openings.specs.Given.{startAt}
+use Rattle.openings.specs.Opening.{Opens}
+use Rattle.told.specs.Piece.{pieceOf}
+use Rattle.records.specs.Values.{bytesOf}
+use Rattle.recorder.specs.declared.Taped.{Taped}
+use Rattle.recorder.specs.Recorded.{openRecords, spaceOf, openingRecorded}
+use Rattle.recorder.specs.Taping.{Ran, tapedHearing, tapedFinishing}
+use Rattle.recorder.specs.Promise.{Is, OpenTaped}
+use Rattle.recorder.proofs.Spaces.{open-space}
+use Rattle.page.specs.Page.{Puts}
+use Rattle.phrases.proofs.Phrases.{puts-as, nothing-put}
+use Rattle.answers.specs.Answer.{numberLine, heardLine, unreadLine}
+use Rattle.requests.specs.declared.Request.{Request}
+use Rattle.requests.specs.declared.Request.the-variants as request
+use Rattle.requests.proofs.Request.{the-type}
+use Rattle.requests.specs.Verb.{Fit}
+use Rattle.protocol.specs.Request.{requestOf, coordinatesOf, Reads}
+use Rattle.lines.specs.declared.Part.{Part}
+use Rattle.lines.specs.Line.{Gathered}
+use Rattle.noting.specs.declared.Noted.{Noted}
+use Rattle.noting.specs.Note.{Note, stays, opens, taped, startNumber, noting, notingLine, Notes}
+use Rattle.noting.specs.Room.{Lent, Ready}
+
+-- what was put at the front of a list fits it
+pub front-few : (ws out o : List ℕ) → o ≡ ws ++ drop (length ws) out → length o ≡ length out → length ws ≤ length out
+front-few ws out o is kept =
+    let a : length o ≡ length ws + (length out - length ws) = ap length is ∙ length-append ws (drop (length ws) out) ∙ rw length-drop in
+    omega arith
+
+pub is-few : (ran : Ran) (out bytes : List ℕ) (t : Taped) (o b : List ℕ) → Is ran out bytes t o b → length o ≡ length out → t .written ≤ length out
+is-few ran out bytes t o b is kept = omega (arith, is .written, front-few (ran .words) out o (is .output) kept)
+
+-- ---- a call
+
+module _ (begun : Bool) (ran : Ran) (room bytes o b : List ℕ) (t : Taped) (is : Is ran room bytes t o b) (kept : length b ≡ length bytes) where
+  words-are : take (t .written) o ≡ ran .words
+  words-are = rw (is .written, is .output) (take-at (ran .words) (drop (length (ran .words)) room) (length (ran .words)) refl)
+
+  pub tells : (page page' : List ℕ) (at : ℕ) → at ≤ length page → Puts page 0 (heardLine (t .taken) (givenOf (t .why)) (take (t .written) o)) at page'
+      → Notes (taped begun ran) bytes page (record { receiver = t .receiver; begun = begun; recorded = t .recorded; at = at; ends = false }) b page'
+  tells page page' at h p =
+      record {
+        receiver = is .receiver;
+        begun = refl;
+        ends = refl;
+        recorded = is .recorded;
+        bytes-are = is .bytes-are;
+        puts = puts-as (rw (is .taken, is .given, words-are)) p;
+        fits = omega (arith, is .recorded, front-few (bytesOf (ran .records)) bytes b (is .bytes-are) kept);
+        near = h;
+      }
+
+-- ---- no call
+
+pub idles : (rx : Receiver) (begun : Bool) (text bytes page page' : List ℕ) (at : ℕ) → at ≤ length page → Puts page 0 text at page'
+    → Notes (stays rx begun text) bytes page (record { receiver = rx; begun = begun; recorded = 0; at = at; ends = false }) bytes page'
+unfolding bytesOf
+idles rx begun text bytes page page' at h p = record { receiver = refl; begun = refl; ends = refl; recorded = refl; bytes-are = refl; puts = p; fits = omega arith; near = h }
+
+-- ---- an opening
+
+module _ (rx : Receiver) (begun : Bool) (k : Accord) (w s : ℕ) (bytes page : List ℕ) where
+  pub ends-before : begun ≡ true → Notes (opens rx begun k w s (length bytes)) bytes page (record { receiver = rx; begun = begun; recorded = 0; at = 0; ends = true }) bytes page
+  unfolding opens bytesOf
+  ends-before e = rw e (record { receiver = refl; begun = refl; ends = refl; recorded = refl; bytes-are = refl; puts = nothing-put page 0; fits = omega arith; near = omega arith })
+
+  module _ (first : begun ≡ false) (n : ℕ) (b : List ℕ) (is : OpenTaped k w s bytes n b) (kept : length b ≡ length bytes) (o : Opened) (opened : Opens k w (startAt s) o) (page' : List ℕ) (at : ℕ) (h : at ≤ length page) (p : Puts page 0 (numberLine n) at page') where
+    abbrev left : ℕ → Bool → Noted
+    left m z = record { receiver = o .receiver; begun = z; recorded = m; at = at; ends = false }
+
+    pub opens-first : n ≡ 0 → Notes (opens rx begun k w s (length bytes)) bytes page (left 4 true) b page'
+    unfolding opens
+    opens-first z =
+        let e : openingRecorded k w s (length bytes) ≡ 0 = sym (is .number) ∙ z in
+        rw (first, e)
+        (record {
+          receiver = opened .always-receiver;
+          begun = refl;
+          ends = refl;
+          recorded = sym (open-space k w s);
+          bytes-are = rw e at (is .bytes-are);
+          puts = puts-as (ap numberLine z) p;
+          fits = omega (arith, open-space k w s, front-few (bytesOf (openRecords k w s)) bytes b (rw e at (is .bytes-are)) kept);
+          near = h;
+        })
+
+    pub opens-not : (n ≡ 0 → ⊥) → Notes (opens rx begun k w s (length bytes)) bytes page (left 0 false) b page'
+    unfolding opens bytesOf
+    opens-not z =
+        let e : openingRecorded k w s (length bytes) ≡ n = sym (is .number) in
+        let f : eqb n 0 ≡ false = ne-eqb n 0 z in
+        rw (first, e, f)
+        (record {
+          receiver = opened .always-receiver;
+          begun = refl;
+          ends = refl;
+          recorded = refl;
+          bytes-are = rw (e, f) at (is .bytes-are);
+          puts = p;
+          fits = omega arith;
+          near = h;
+        })
+
+-- ---- a request
+
+-- what each kind of request does, as the code has it: the start of a named state as its number, the output by its places
+module _ (rx : Receiver) (begun : Bool) (cs : List ℤ) (room : ℕ) where
+  pub noted-as : {asked k : Request} → asked ≡ k → noting rx begun k cs room ≡ noting rx begun asked cs room
+  noted-as e = ap (λ (a : Request). noting rx begun a cs room) (sym e)
+
+  pub at-noted : {asked : Request} {u w s n : ℕ} → asked ≡ request.At u w s → n ≡ startNumber s → opens rx begun (ofWidth u) w n room ≡ noting rx begun asked cs room
+  unfolding noting
+  at-noted {u = u} {w = w} e z = ap (λ (m : ℕ). opens rx begun (ofWidth u) w m room) z ∙ noted-as e
+
+  pub piece-noted : (words : List ℕ) {asked : Request} {cap n : ℕ} → asked ≡ request.Piece cap n → cap ≤ length words
+      → taped begun (tapedHearing rx (pieceOf (take n cs)) (length (take cap words)) room) ≡ noting rx begun asked cs room
+  unfolding noting
+  piece-noted words {cap = cap} {n = n} e h = ap (λ (m : ℕ). taped begun (tapedHearing rx (pieceOf (take n cs)) m room)) (length-take-le cap words h) ∙ noted-as e
+
+  pub finish-noted : (words : List ℕ) {asked : Request} {cap : ℕ} → asked ≡ request.Finish cap → cap ≤ length words → taped begun (tapedFinishing rx (length (take cap words)) room) ≡ noting rx begun asked cs room
+  unfolding noting
+  finish-noted words {cap = cap} e h = ap (λ (m : ℕ). taped begun (tapedFinishing rx m room)) (length-take-le cap words h) ∙ noted-as e
+
+-- the verbs that are no receiver's, by their tags
+isOther : ℕ → Bool
+isOther n = eqb n 1 || (eqb n 2 || (eqb n 3 || (eqb n 9 || (eqb n 10 || eqb n 11))))
+
+other-tag : (n : ℕ) → OneOf (1 ∷ 2 ∷ 3 ∷ 9 ∷ 10 ∷ 11 ∷ []) n → isOther n ≡ true
+unfolding isOther
+other-tag n (inl e) = rw e
+other-tag n (inr (inl e)) = rw e
+other-tag n (inr (inr (inl e))) = rw e
+other-tag n (inr (inr (inr (inl e)))) = rw e
+other-tag n (inr (inr (inr (inr (inl e))))) = rw e
+other-tag n (inr (inr (inr (inr (inr e))))) = rw e
+
+pub other-noted : (rx : Receiver) (begun : Bool) (cs : List ℤ) (room : ℕ) (asked : Request) → OneOf (1 ∷ 2 ∷ 3 ∷ 9 ∷ 10 ∷ 11 ∷ []) (tagOf the-type asked) → stays rx begun unreadLine ≡ noting rx begun asked cs room
+unfolding noting isOther
+other-noted rx begun cs room request.Nothing h = absurd (subst T (sym (other-tag 0 h)) tt)
+other-noted rx begun cs room request.Unread h = refl
+other-noted rx begun cs room (request.Sender u) h = refl
+other-noted rx begun cs room (request.Send w cap) h = refl
+other-noted rx begun cs room (request.Plain u) h = absurd (subst T (sym (other-tag 4 h)) tt)
+other-noted rx begun cs room (request.Free u w) h = absurd (subst T (sym (other-tag 5 h)) tt)
+other-noted rx begun cs room (request.At u w s) h = absurd (subst T (sym (other-tag 6 h)) tt)
+other-noted rx begun cs room (request.Piece cap n) h = absurd (subst T (sym (other-tag 7 h)) tt)
+other-noted rx begun cs room (request.Finish cap) h = absurd (subst T (sym (other-tag 8 h)) tt)
+other-noted rx begun cs room (request.Sample x y) h = refl
+other-noted rx begun cs room request.Pending h = refl
+other-noted rx begun cs room (request.List cap n) h = refl
+
+-- ---- a line
+
+-- a request that was read into the lists can be answered
+pub ready : {asked : Request} (list : List ℤ) (list-words : List ℕ) {coordinates : List ℤ} {words page : List ℕ}
+    → Lent list list-words page → length coordinates ≡ length list → length words ≡ length list-words → Fit (length list) asked → Ready asked coordinates words page
+ready {asked} list list-words lent e g f =
+    record {
+      lent = record { coordinates-long = e ∙ lent .coordinates-long; words-long = g ∙ lent .words-long; page-long = lent .page-long };
+      fit = subst (λ (n : ℕ). Fit n asked) (sym e) f;
+    }
+
+module _ {line : List ℕ} {part : Part} {s : List ℕ} (g : Gathered line part s) (rx : Receiver) (begun : Bool) (list : List ℤ) (room : ℕ) where
+  pub long-noted : part .long ≡ true → stays rx begun unreadLine ≡ notingLine (length line) rx begun s list room
+  unfolding notingLine
+  long-noted e = sym (rw (lt-ltb (length line) (length s) (g .too-long e)))
+
+  pub line-noted : {list' : List ℤ} {words words' : List ℕ} {asked : Request} → part .long ≡ false → length list ≡ 4096 → length words ≡ 4096 → Reads (take (part .held) line) list words asked list' words'
+      → noting rx begun asked list' room ≡ notingLine (length line) rx begun s list room
+  unfolding notingLine
+  line-noted {list'} {words} {words'} {asked} f h k r =
+      let few : length s ≤ length line = omega (arith, ap length (g .kept f), length-take (part .held) line) in
+      (λ i. noting rx begun (r .is i) (r .fills i) room)
+      ∙ rw (g .kept f, le-ltb (length line) (length s) few) (λ i. noting rx begun (requestOf (h i) (k i) s) (coordinatesOf s list) room)
+
+pub notes-same : {g g' : Note} {bytes page : List ℕ} {r : Noted} {b page' : List ℕ} → g ≡ g' → Notes g bytes page r b page' → Notes g' bytes page r b page'
+notes-same {bytes = bytes} {page = page} {r = r} {b = b} {page' = page'} e n = subst (λ (g : Note). Notes g bytes page r b page') e n

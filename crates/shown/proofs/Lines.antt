@@ -1,0 +1,50 @@
+-- Laws of a record's line: its parts as the code puts them, and any two lines that the promise allows are one.
+--   start-free, start-named     the start of an open
+--   symbol-is                   the coordinates of a symbol
+--   values-as                   by the kind's role
+--   record-settled              the promise of `put_record` allows one result alone
+use Prim.Native.Nat.{ℕ}
+use mathlib.Core.Path.{_≡_, refl, sym, ap, _∙_}
+use mathlib.Core.List.{List, [], _++_, append-assoc, append-nil}
+use borrow.Author.Tests.{eq-eqb, ne-eqb}
+use lib.Dec.{eqb}
+use lib.IntN.{ℤ}
+use lib.ListN.{getD}
+use Rattle.text.specs.Bytes.{bytes}
+use Rattle.page.specs.Page.{Puts}
+use Rattle.page.proofs.Pages.{one-result}
+use Rattle.phrases.specs.Phrase.{decimal, whole}
+use Rattle.records.specs.declared.Role.{Role}
+use Rattle.records.specs.declared.Role.the-variants.{Symbol}
+use Rattle.records.specs.declared.Kind.{Kind}
+use Rattle.records.specs.declared.Frame.{Frame}
+use Rattle.records.specs.Kinds.{kindOf}
+use Rattle.records.specs.Values.{coordinateOf}
+use Rattle.shown.specs.Shown.{startText, valuesText, recordLine}
+
+pub start-free : (s : ℕ) → s ≡ 16 → bytes " start free" ≡ startText s
+unfolding startText
+start-free s e = sym (rw (eq-eqb s 16 e))
+
+pub start-named : (s n : ℕ) → (s ≡ 16 → ⊥) → n ≡ s → bytes " start " ++ decimal n ≡ startText s
+unfolding startText
+start-named s n e w = rw w (sym (rw (ne-eqb s 16 e)))
+
+-- a text after another, each a space and something
+regroup : (t s a b c d : List ℕ) → t ++ (s ++ a) ++ (s ++ b) ++ (s ++ c) ++ (s ++ d) ≡ t ++ (s ++ a ++ (s ++ b ++ (s ++ c ++ (s ++ d ++ []))))
+regroup t s a b c d = simp (append-assoc, append-nil)
+
+abbrev pub after : ℤ → List ℕ
+after z = bytes " " ++ whole z
+
+pub symbol-is : (body : List ℕ) → bytes " symbol" ++ after (coordinateOf (getD body 0 0) (getD body 1 0)) ++ after (coordinateOf (getD body 2 0) (getD body 3 0))
+    ++ after (coordinateOf (getD body 4 0) (getD body 5 0)) ++ after (coordinateOf (getD body 6 0) (getD body 7 0)) ≡ valuesText Symbol body
+unfolding valuesText
+symbol-is body =
+    regroup (bytes " symbol") (bytes " ") (whole (coordinateOf (getD body 0 0) (getD body 1 0))) (whole (coordinateOf (getD body 2 0) (getD body 3 0))) (whole (coordinateOf (getD body 4 0) (getD body 5 0))) (whole (coordinateOf (getD body 6 0) (getD body 7 0)))
+
+pub values-as : (k : ℕ) (row : Kind) (r : Role) (body : List ℕ) → row ≡ kindOf k → row .role ≡ r → valuesText r body ≡ valuesText (kindOf k .role) body
+values-as k row r body is e = ap (λ (q : Role). valuesText q body) (sym e ∙ ap (λ (q : Kind). q .role) is)
+
+pub record-settled : (n : ℕ) (f : Frame) (page : List ℕ) (at q r : ℕ) (o p : List ℕ) → Puts page at (recordLine n f) q o → Puts page at (recordLine n f) r p → (q ≡ r) × (o ≡ p)
+record-settled n f page at q r o p a b = one-result a b

@@ -28,10 +28,11 @@ use Rattle.openings.specs.Opening.{Opens}
 use Rattle.told.specs.Piece.{pieceOf}
 use Rattle.records.specs.Values.{bytesOf}
 use Rattle.recorder.specs.declared.Taped.{Taped}
-use Rattle.recorder.specs.Recorded.{openRecords, spaceOf, openingRecorded}
-use Rattle.recorder.specs.Taping.{Ran, tapedHearing, tapedFinishing}
+use Rattle.recorder.specs.Recorded.{openRecords, openingRecorded}
+use Rattle.taping.specs.Taping.{Ran}
+use Rattle.recorder.specs.Doors.{tapedHearing, tapedFinishing}
 use Rattle.recorder.specs.Promise.{Is, OpenTaped}
-use Rattle.recorder.proofs.Spaces.{open-space}
+use Rattle.recorder.proofs.Opens.{open-space}
 use Rattle.page.specs.Page.{Puts}
 use Rattle.phrases.proofs.Phrases.{puts-as, nothing-put}
 use Rattle.answers.specs.Answer.{numberLine, heardLine, unreadLine}
@@ -89,7 +90,8 @@ module _ (rx : Receiver) (begun : Bool) (k : Accord) (w s : ℕ) (bytes page : L
   unfolding opens bytesOf
   ends-before e = rw e (record { receiver = refl; begun = refl; ends = refl; recorded = refl; bytes-are = refl; puts = nothing-put page 0; fits = omega arith; near = omega arith })
 
-  module _ (first : begun ≡ false) (n : ℕ) (b : List ℕ) (is : OpenTaped k w s bytes n b) (kept : length b ≡ length bytes) (o : Opened) (opened : Opens k w (startAt s) o) (page' : List ℕ) (at : ℕ) (h : at ≤ length page) (p : Puts page 0 (numberLine n) at page') where
+  module _ (first : begun ≡ false) (n : ℕ) (b : List ℕ) (is : OpenTaped k w s bytes n b) (kept : length b ≡ length bytes)
+      (o : Opened) (opened : Opens k w (startAt s) o) (page' : List ℕ) (at : ℕ) (h : at ≤ length page) (p : Puts page 0 (numberLine n) at page') where
     abbrev left : ℕ → Bool → Noted
     left m z = record { receiver = o .receiver; begun = z; recorded = m; at = at; ends = false }
 
@@ -142,7 +144,8 @@ module _ (rx : Receiver) (begun : Bool) (cs : List ℤ) (room : ℕ) where
   unfolding noting
   piece-noted words {cap = cap} {n = n} e h = ap (λ (m : ℕ). taped begun (tapedHearing rx (pieceOf (take n cs)) m room)) (length-take-le cap words h) ∙ noted-as e
 
-  pub finish-noted : (words : List ℕ) {asked : Request} {cap : ℕ} → asked ≡ request.Finish cap → cap ≤ length words → taped begun (tapedFinishing rx (length (take cap words)) room) ≡ noting rx begun asked cs room
+  pub finish-noted : (words : List ℕ) {asked : Request} {cap : ℕ} → asked ≡ request.Finish cap → cap ≤ length words
+      → taped begun (tapedFinishing rx (length (take cap words)) room) ≡ noting rx begun asked cs room
   unfolding noting
   finish-noted words {cap = cap} e h = ap (λ (m : ℕ). taped begun (tapedFinishing rx m room)) (length-take-le cap words h) ∙ noted-as e
 
@@ -159,7 +162,8 @@ other-tag n (inr (inr (inr (inl e)))) = rw e
 other-tag n (inr (inr (inr (inr (inl e))))) = rw e
 other-tag n (inr (inr (inr (inr (inr e))))) = rw e
 
-pub other-noted : (rx : Receiver) (begun : Bool) (cs : List ℤ) (room : ℕ) (asked : Request) → OneOf (1 ∷ 2 ∷ 3 ∷ 9 ∷ 10 ∷ 11 ∷ []) (tagOf the-type asked) → stays rx begun unreadLine ≡ noting rx begun asked cs room
+pub other-noted : (rx : Receiver) (begun : Bool) (cs : List ℤ) (room : ℕ) (asked : Request) → OneOf (1 ∷ 2 ∷ 3 ∷ 9 ∷ 10 ∷ 11 ∷ []) (tagOf the-type asked)
+    → stays rx begun unreadLine ≡ noting rx begun asked cs room
 unfolding noting isOther
 other-noted rx begun cs room request.Nothing h = absurd (subst T (sym (other-tag 0 h)) tt)
 other-noted rx begun cs room request.Unread h = refl
@@ -190,7 +194,8 @@ module _ {line : List ℕ} {part : Part} {s : List ℕ} (g : Gathered line part 
   unfolding notingLine
   long-noted e = sym (rw (lt-ltb (length line) (length s) (g .too-long e)))
 
-  pub line-noted : {list' : List ℤ} {words words' : List ℕ} {asked : Request} → part .long ≡ false → length list ≡ 4096 → length words ≡ 4096 → Reads (take (part .held) line) list words asked list' words'
+  pub line-noted : {list' : List ℤ} {words words' : List ℕ} {asked : Request} → part .long ≡ false → length list ≡ 4096 → length words ≡ 4096
+      → Reads (take (part .held) line) list words asked list' words'
       → noting rx begun asked list' room ≡ notingLine (length line) rx begun s list room
   unfolding notingLine
   line-noted {list'} {words} {words'} {asked} f h k r =

@@ -25,9 +25,10 @@ use Rattle.openings.specs.Given.{startAt, plainWindow}
 use Rattle.openings.specs.Opening.{opening}
 use Rattle.told.specs.Piece.{pieceOf}
 use Rattle.records.specs.Values.{Entry}
-use Rattle.tape.specs.Front.{Fronted}
-use Rattle.recorder.specs.Recorded.{openRecords, spaceOf, openingRecorded}
-use Rattle.recorder.specs.Taping.{Ran, tapedHearing, tapedFinishing}
+use Rattle.tape.specs.Front.{Fronted, spaceOf}
+use Rattle.recorder.specs.Recorded.{openRecords, openingRecorded}
+use Rattle.taping.specs.Taping.{Ran}
+use Rattle.recorder.specs.Doors.{tapedHearing, tapedFinishing}
 use Rattle.page.specs.Page.{Puts}
 use Rattle.requests.specs.declared.Request.{Request}
 use Rattle.requests.specs.declared.Request.the-variants as request

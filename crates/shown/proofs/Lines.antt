@@ -41,7 +41,8 @@ pub symbol-is : (body : List ℕ) → bytes " symbol" ++ after (coordinateOf (ge
     ++ after (coordinateOf (getD body 4 0) (getD body 5 0)) ++ after (coordinateOf (getD body 6 0) (getD body 7 0)) ≡ valuesText Symbol body
 unfolding valuesText
 symbol-is body =
-    regroup (bytes " symbol") (bytes " ") (whole (coordinateOf (getD body 0 0) (getD body 1 0))) (whole (coordinateOf (getD body 2 0) (getD body 3 0))) (whole (coordinateOf (getD body 4 0) (getD body 5 0))) (whole (coordinateOf (getD body 6 0) (getD body 7 0)))
+    regroup (bytes " symbol") (bytes " ") (whole (coordinateOf (getD body 0 0) (getD body 1 0))) (whole (coordinateOf (getD body 2 0) (getD body 3 0)))
+    (whole (coordinateOf (getD body 4 0) (getD body 5 0))) (whole (coordinateOf (getD body 6 0) (getD body 7 0)))
 
 pub values-as : (k : ℕ) (row : Kind) (r : Role) (body : List ℕ) → row ≡ kindOf k → row .role ≡ r → valuesText r body ≡ valuesText (kindOf k .role) body
 values-as k row r body is e = ap (λ (q : Role). valuesText q body) (sym e ∙ ap (λ (q : Kind). q .role) is)

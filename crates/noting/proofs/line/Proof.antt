@@ -51,7 +51,9 @@ returns-2 c =
     let read = call .before .before .before .before .before .before .before .before in
     let start = read .before .before .before .before .before .before .before .before .before in
     let a = start .args in
-    λ s g. notes-same (line-noted g (a .rx) (a .begun) _ _ (read .before .before .before .before .if1 .left) (start .pre .0 .coordinates-long) (start .pre .0 .words-long) (read .read .ensures)) (call .note .ensures)
+    λ s g. notes-same
+    (line-noted g (a .rx) (a .begun) _ _ (read .before .before .before .before .if1 .left) (start .pre .0 .coordinates-long) (start .pre .0 .words-long) (read .read .ensures))
+    (call .note .ensures)
 
 pub line-spec : {M : Type 1} → statement M
 line-spec =

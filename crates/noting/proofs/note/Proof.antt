@@ -135,7 +135,9 @@ returns-4 : tie.Need-returns-4
 returns-4 c =
     let call = c .before .before .before .before in
     let a = call .before .before .before .before .before .before .before .before .before .before .args in
-    notes-same (at-noted (a .rx) (a .begun) (now (a .coordinates)) _ (call .before .before .before .before .before .asked3 .given .1) (call .before .before .before .start-number .ensures)) (call .opening3 .ensures)
+    notes-same
+    (at-noted (a .rx) (a .begun) (now (a .coordinates)) _ (call .before .before .before .before .before .asked3 .given .1) (call .before .before .before .start-number .ensures))
+    (call .opening3 .ensures)
 
 same-length-7 : tie.Need-same-length-7
 same-length-7 c = search needs

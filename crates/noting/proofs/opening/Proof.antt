@@ -49,7 +49,8 @@ returns-2 c =
     let start = at-open .before .before .before .before .before in
     let a = start .args in
     opens-not (a .rx) (a .begun) (ofWidth (a .u)) (a .window) (a .start) (now (a .bytes)) (now (a .page)) first (recorded .result) _ (recorded .ensures) (recorded .kept .1 .1 .1 .0) (opened .result)
-    (subst (λ (b : Start). Opens (ofWidth (a .u)) (a .window) b (opened .result)) (start-at .ensures) (opened .ensures)) _ (number .result) (omega (arith, number-near _ (number .ensures), start .pre)) (number .ensures) (c .if2 .taken)
+    (subst (λ (b : Start). Opens (ofWidth (a .u)) (a .window) b (opened .result)) (start-at .ensures) (opened .ensures))
+    _ (number .result) (omega (arith, number-near _ (number .ensures), start .pre)) (number .ensures) (c .if2 .taken)
 
 same-length-3 : tie.Need-same-length-3
 same-length-3 c = search needs
@@ -69,7 +70,8 @@ returns-3 c =
     let start = at-open .before .before .before .before .before in
     let a = start .args in
     opens-first (a .rx) (a .begun) (ofWidth (a .u)) (a .window) (a .start) (now (a .bytes)) (now (a .page)) first (recorded .result) _ (recorded .ensures) (recorded .kept .1 .1 .1 .0) (opened .result)
-    (subst (λ (b : Start). Opens (ofWidth (a .u)) (a .window) b (opened .result)) (start-at .ensures) (opened .ensures)) _ (number .result) (omega (arith, number-near _ (number .ensures), start .pre)) (number .ensures) (c .if2 .left)
+    (subst (λ (b : Start). Opens (ofWidth (a .u)) (a .window) b (opened .result)) (start-at .ensures) (opened .ensures))
+    _ (number .result) (omega (arith, number-near _ (number .ensures), start .pre)) (number .ensures) (c .if2 .left)
 
 pub opening-spec : {M : Type 1} → statement M
 opening-spec =

@@ -22,7 +22,8 @@ returns : tie.Need-returns
 returns c =
     let heard = c .before .before .before .heard in
     let start = c .before .before .before .before .before .before .before .before in
-    λ ran room bytes b is kept. tells (start .args .begun) ran room bytes _ b (start .args .t) is kept _ _ _ (omega (arith, heard-near _ _ _ (heard .ensures), length-take (start .args .t .written) (start .args .out .now))) (heard .ensures)
+    λ ran room bytes b is kept. tells (start .args .begun) ran room bytes _ b (start .args .t) is kept _ _ _
+    (omega (arith, heard-near _ _ _ (heard .ensures), length-take (start .args .t .written) (start .args .out .now))) (heard .ensures)
 
 pub tell-spec : {M : Type 1} → statement M
 tell-spec = tie.close (tie.spec slice-aggregate-heard heard-requires same-length returns)

@@ -41,8 +41,8 @@
  *   - the words of a state are used by one thread at a time. Different states are independent: the library has no other
  *     memory;
  *   - the program is for the kind of machine that the archive was made for: it holds no other code;
- *   - the stack has room: a call takes less than 2.5 kilobytes, and the first call of a program some 3 more where the loader
- *     resolves memcpy at its first use;
+ *   - the stack has room: a call takes less than 2.5 kilobytes, a replay's call less than 9, and the first call of a program
+ *     some 3 more where the loader resolves memcpy at its first use;
  *   - for demfizagu_sample and demfizagu_samples, the thread's floating-point environment is the default one. They are exact
  *     only there: under another rounding mode they give other numbers, and where exceptions trap a call may raise the
  *     signal. Denormals that are flushed to zero make no difference.
@@ -61,9 +61,11 @@
  *
  * TOLD
  *
- * Where a call has a slice `told`, it has at least three places, and the call always writes these three: told[0] how
- * many symbols were taken (0 for a finish) or words sent, told[1] how many words or coordinates were written, told[2] the
- * place at fault if the number is 5, else 0. If `told` is shorter the call answers 8 and does nothing.
+ * Where a call of an end has a slice `told`, it has at least three places, and the call always writes these three: told[0]
+ * how many symbols were taken (0 for a finish) or words sent, told[1] how many words or coordinates were written, told[2]
+ * the place at fault if the number is 5, else 0. If `told` is shorter the call answers 8 and does nothing.
+ *
+ * A call of a replay writes told[0] alone, where it exists: how many bytes it said at the front of `line`, or 0.
  *
  * NUMBERS
  *
@@ -235,6 +237,62 @@ uint32_t demfizagu_sample(float x, float y, int32_t *out, size_t out_len);
  */
 uint32_t demfizagu_samples(const float *floats, size_t floats_len, int32_t *out, size_t out_len, uint64_t *told,
                            size_t told_len);
+
+/*
+ * REPLAYS OF CAPTURES
+ *
+ * A capture is a recorded run of a receiver: records of one byte of kind and a body. Kind 1, open: width, window, start (16
+ * is free). Kind 2, symbol taken: four signed 16-bit coordinates, low byte first. Kind 3, word released: 4 bytes, low byte
+ * first. Kind 4, finish. Words stand right after the symbol or finish that gave them. A replay runs the receiver and
+ * compares; its verdict is one line of text, with no newline:
+ *
+ *     agree N                          all is well, with N words
+ *     record N word G expected H       the word recorded, and the one that belongs there; `expected none` for one too many
+ *     record N missing word H          a word that belongs there
+ *     record N refused R               the receiver refused the open, the symbol or the finish, with number R
+ *     offset P malformed               the record whose kind byte is byte P is none, is cut, or may not stand there
+ *
+ * Words have eight hex digits; records and bytes count from 0. Only the first fault is said.
+ *
+ * The bytes come in lumps of any length, empty ones too, which may end inside a record:
+ *
+ *     uint64_t *replay = malloc(8 * demfizagu_replay_words()), told[1];   uint8_t line[64];
+ *     demfizagu_replay_start(replay, demfizagu_replay_words());
+ *     for each lump:
+ *         demfizagu_replay_feed(replay, demfizagu_replay_words(), lump, lump_len, line, 64, told, 1);
+ *         if told[0] is not 0: line[0] to line[told[0] - 1] is the fault
+ *     demfizagu_replay_end(replay, demfizagu_replay_words(), line, 64, told, 1);
+ *         if told[0] is not 0: line[0] to line[told[0] - 1] is the verdict
+ *
+ * However the bytes are cut, exactly one call says a line, and it is the verdict on all the bytes. A fault is said by the
+ * lump that settles it, and from then on lumps are swallowed. examples/collect.c is such a collector.
+ *
+ * A replay's state is one more kind of state: all that is said of states above holds, with words of its own. Where no
+ * replay is in it (too short, another kind's, numbers out of range, or ended) it is answered with 9.
+ */
+
+/* How many 64-bit words the state of a replay needs. Always the same. */
+size_t demfizagu_replay_words(void);
+
+/* Makes a replay before any byte. 8 if the state is too short (nothing is written). */
+uint32_t demfizagu_replay_start(uint64_t *state, size_t state_len);
+
+/*
+ * Takes a lump of bytes. told[0] is 0, or the length of the line of a fault that this lump brought; other places of `line`
+ * and `told` stay.
+ * Order: 8 if told has no place or line less than 64, then 9. A refused lump was not taken: told[0] is 0 where it exists,
+ * and all else stays. Else the number is 0, fault or not.
+ */
+uint32_t demfizagu_replay_feed(uint64_t *state, size_t state_len, const uint8_t *lump, size_t lump_len, uint8_t *line,
+                               size_t line_len, uint64_t *told, size_t told_len);
+
+/*
+ * The end of input. told[0] is the length of the verdict's line, or 0 if a lump has said a fault already. The replay has
+ * then ended: another call answers 9 until a start.
+ * Order: as for a lump. A refused end may be tried again.
+ */
+uint32_t demfizagu_replay_end(uint64_t *state, size_t state_len, uint8_t *line, size_t line_len, uint64_t *told,
+                              size_t told_len);
 
 #ifdef __cplusplus
 }

@@ -30,6 +30,9 @@ ghost use Rattle.recorder.specs.Promise.{OpenTaped};
 ghost use Rattle.taped.specs.Calls as taped;
 ghost use Rattle.taped.specs.Promise.{Records};
 ghost use Rattle.stored.specs.State.{senderIn, receiverIn};
+ghost use Rattle.course_layout.specs.Table.{replayLength};
+ghost use Rattle.collected.specs.Calls.{startCall, feedCall, endCall};
+ghost use Rattle.collected.specs.Promise.{Starts, Feeds, Ends};
 
 #[no_mangle]
 pub extern "C" fn demfizagu_version() -> u32
@@ -277,4 +280,38 @@ pub extern "C" fn demfizagu_finish_recorded(
         r (now (state .exit)) (now (out .exit)) (now (bytes .exit)) (now (told .exit)) ⌝ }
 {
     taped::finish_recorded(state, out, bytes, told)
+}
+
+#[no_mangle]
+pub extern "C" fn demfizagu_replay_words() -> usize
+    ensures { λ r. ⌜ r ≡ replayLength ⌝ }
+{
+    course_layout::WORDS
+}
+
+#[no_mangle]
+pub extern "C" fn demfizagu_replay_start(state: &mut [u64]) -> u32
+    ensures { λ r. ⌜ Starts (startCall (now (state .entry))) r (now (state .exit)) ⌝ }
+{
+    collected::start(state)
+}
+
+// A lump of a capture's bytes, which may be empty and may end inside a record.
+#[no_mangle]
+pub extern "C" fn demfizagu_replay_feed(
+    state: &mut [u64],
+    lump: &[u8],
+    line: &mut [u8],
+    told: &mut [u64],
+) -> u32
+    ensures { λ r. ⌜ Feeds (now (state .entry)) (now (lump .entry)) (feedCall (now (state .entry)) (now (lump .entry)) (now (line .entry)) (now (told .entry))) r (now (state .exit)) (now (line .exit)) (now (told .exit)) ⌝ }
+{
+    collected::feed(state, lump, line, told)
+}
+
+#[no_mangle]
+pub extern "C" fn demfizagu_replay_end(state: &mut [u64], line: &mut [u8], told: &mut [u64]) -> u32
+    ensures { λ r. ⌜ Ends (endCall (now (state .entry)) (now (line .entry)) (now (told .entry))) r (now (state .exit)) (now (line .exit)) (now (told .exit)) ⌝ }
+{
+    collected::end(state, line, told)
 }

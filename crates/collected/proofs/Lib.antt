@@ -1,0 +1,4 @@
+pub mod Empty
+pub mod Cases
+pub mod Final
+pub mod Runs

@@ -7,6 +7,7 @@ pub fn show(to: i32) -> bool {
   capture record          records a receiver: lines of lab in, the capture out, each line's answer on the error stream
   capture replay [FILE]   runs the receiver on the capture and prints one line
   capture show [FILE]     prints a line for each record, then `offset P malformed` if the capture is
+  capture compare A B     prints a line for each record in which the two captures differ, then how many lines that were
   capture help            prints this page
 
 A recording takes the lines `receiver ..`, `piece ..` and `finish ..` (`lab help`); any other line answers `?`, and a second receiver ends it.
@@ -21,6 +22,13 @@ With no FILE standard input is read, as it comes. A replay prints a fault as soo
   offset P malformed               no record of a capture begins at byte P
 
 Records and offsets count from 0, and words are eight hexadecimal digits. A script asks: capture replay F | grep -q ^agree
+
+A comparison reads both files twice, so neither may be a pipe. It prints, K being the lines before the last:
+
+  record N differs                 kind or body of record N differs
+  record N only first              only A has a record N; `only second` where only B has one
+  differences K                    the last line
+  first malformed P                A is no capture: nothing else is printed; `second malformed P` where A is one and B is none
 
 A capture is a row of records: a byte of kind, then its body.
 

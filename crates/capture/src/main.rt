@@ -1,6 +1,7 @@
-// The program for captures: `capture record`, `capture replay [FILE]`, `capture show [FILE]`, `capture help`. It reads a file or standard
-// input, as it comes, in constant memory. What no proof can say of a program, which bytes it reads and writes, is all that stands here; the verdict is that of
+// The program for captures: `capture record`, `capture replay [FILE]`, `capture show [FILE]`, `capture compare FIRST SECOND`, `capture help`. It
+// reads a file or standard input, as it comes, in constant memory. What no proof can say of a program, which bytes it reads and writes, is all that stands here; the verdict is that of
 // `replay`, its line that of `replay_line`, and the form of a capture that of `records`.
+mod compare;
 mod help;
 mod input;
 mod recording;
@@ -31,7 +32,7 @@ fn unknown(i: usize) {
 fn nothing_asked() {
     io::write_all(
         STDERR_FILENO,
-        b"capture: it wants a word: record, replay, show or help\n\n",
+        b"capture: it wants a word: record, replay, show, compare or help\n\n",
     );
     help::show(STDERR_FILENO);
 }
@@ -58,6 +59,10 @@ fn main() {
     let count = os::arg_count();
     if count < 2 {
         nothing_asked();
+        return;
+    }
+    if is_word(1, b"compare") && count < 5 {
+        compare::run();
         return;
     }
     if count > 3 {

@@ -2,3 +2,4 @@ pub mod Counts
 pub mod Halves
 pub mod Steps
 pub mod Back
+pub mod Fronts

@@ -1,0 +1,29 @@
+use mathlib.Core.Path.{_≡_, refl, sym, ap, subst, _∙_}
+use native.Mathlib.Omega.{arith}
+use borrow.Author.Tests.{not-true, not-false}
+use Rattle.records.proofs.Counts.{capped-small}
+use Rattle.compared.proofs.Bounds.{capped-large}
+use borrow.Author.Needs.{needs}
+use Rattle.compared.proofs.further.Statement.{statement}
+use Rattle.compared.proofs.further.Tie as tie
+use Rattle.compared.proofs.further.Reads as reads
+use Rattle.compared.proofs.further.Lts as lts
+
+-- src/lib.rt:68:16
+sub-room : tie.Need-sub-room
+sub-room c = search needs
+
+-- src/lib.rt:70:9
+add-result : tie.Need-add-result
+add-result c = search needs
+
+-- src/lib.rt:65:1
+returns : tie.Need-returns
+returns c = sym (capped-small _ (omega arith))
+
+-- src/lib.rt:65:1
+returns-2 : tie.Need-returns-2
+returns-2 c = capped-large _ (omega arith)
+
+pub further-spec : {M : Type 1} → statement M
+further-spec = tie.close (tie.spec sub-room add-result returns returns-2)

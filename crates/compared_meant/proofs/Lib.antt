@@ -1,0 +1,5 @@
+pub mod Meaning
+pub mod Forms
+pub mod Runs
+pub mod Laws
+pub mod Rows

@@ -1,0 +1,75 @@
+-- `form_of`: what waits lies in the chunk.
+use Prim.Native.Nat.{_≤_}
+use mathlib.Core.Path.{_≡_, refl}
+use native.Mathlib.Omega.{arith}
+use borrow.Author.Needs.{needs}
+use lib.ListN.{length}
+use Rattle.comparing.proofs.form_of.Statement.{statement}
+use Rattle.comparing.proofs.form_of.Tie as tie
+use Rattle.comparing.proofs.form_of.Reads as reads
+use Rattle.comparing.proofs.form_of.Lts as lts
+use Rattle.comparing.proofs.fresh.Reads as fresh-reads
+use Rattle.comparing.proofs.read_form.Reads as read-form-reads
+
+abbrev Inv-loop : tie.InvT-loop
+Inv-loop fd chunk₀ now₀ turns₀ chunk now turns = (now .side .from ≤ now .side .to) × (now .side .to ≤ length chunk) × (length chunk ≡ length chunk₀)
+
+abbrev μ-loop : tie.MeasureT-loop
+μ-loop fd chunk₀ now₀ turns₀ chunk now turns = turns
+
+-- src/lib.rt:164:15
+fresh-requires : tie.Need-fresh-requires Inv-loop μ-loop
+fresh-requires c κs = search needs
+
+-- src/lib.rt:171:5
+loop-holds : tie.Need-loop-holds Inv-loop μ-loop
+loop-holds c = (omega arith, omega arith, refl)
+
+-- src/lib.rt:172:9
+read-form-requires : tie.Need-read-form-requires Inv-loop μ-loop
+read-form-requires c κs = (omega arith, omega arith)
+
+-- src/lib.rt:173:9
+sub-turns : tie.Need-sub-turns Inv-loop μ-loop
+sub-turns c = search needs
+
+-- src/lib.rt:171:5
+loop-less : tie.Need-loop-less Inv-loop μ-loop
+loop-less c = search needs
+
+-- src/lib.rt:171:5
+loop-again : tie.Need-loop-again Inv-loop μ-loop
+loop-again c = (omega arith, omega arith, omega arith)
+
+-- src/lib.rt:177:9
+same-length : tie.Need-same-length Inv-loop μ-loop
+same-length c = omega arith
+
+-- src/lib.rt:177:9
+returns : tie.Need-returns Inv-loop μ-loop
+returns c = search needs
+
+-- src/lib.rt:162:1
+same-length-2 : tie.Need-same-length-2 Inv-loop μ-loop
+same-length-2 c = omega arith
+
+-- src/lib.rt:162:1
+returns-2 : tie.Need-returns-2 Inv-loop μ-loop
+returns-2 c = search needs
+
+pub form-of-spec : {M : Type 1} → statement M
+form-of-spec =
+    tie.close
+    (tie.spec
+    Inv-loop
+    μ-loop
+    fresh-requires
+    loop-holds
+    read-form-requires
+    sub-turns
+    loop-less
+    loop-again
+    same-length
+    returns
+    same-length-2
+    returns-2)

@@ -1,0 +1,108 @@
+-- `side_by_side`: what waits lies in its chunk, and the page has room for a line.
+use Prim.Native.Nat.{_+_, _≤_}
+use mathlib.Core.Path.{_≡_, refl}
+use native.Mathlib.Omega.{arith}
+use borrow.Author.Needs.{needs}
+use lib.ListN.{length}
+use Rattle.comparing.proofs.side_by_side.Statement.{statement}
+use Rattle.comparing.proofs.side_by_side.Tie as tie
+use Rattle.comparing.proofs.side_by_side.Reads as reads
+use Rattle.comparing.proofs.side_by_side.Lts as lts
+use Rattle.compared.proofs.start.Reads as start-reads
+use Rattle.comparing.proofs.fresh.Reads as fresh-reads
+use Rattle.comparing.proofs.turn.Reads as turn-reads
+
+abbrev Inv-loop : tie.InvT-loop
+Inv-loop first second one₀ two₀ page₀ now₀ turns₀ one two page now turns =
+    ((now .first .from ≤ now .first .to) × (now .first .to ≤ length one) × (now .second .from ≤ now .second .to) × (now .second .to ≤ length two) × (now .out .at + 40 ≤ length page))
+    × ((length one ≡ length one₀) × (length two ≡ length two₀) × (length page ≡ length page₀))
+
+abbrev μ-loop : tie.MeasureT-loop
+μ-loop first second one₀ two₀ page₀ now₀ turns₀ one two page now turns = turns
+
+-- src/lib.rt:374:15
+start-requires : tie.Need-start-requires Inv-loop μ-loop
+start-requires c κs = search needs
+
+-- src/lib.rt:375:16
+fresh-requires : tie.Need-fresh-requires Inv-loop μ-loop
+fresh-requires c κs = search needs
+
+-- src/lib.rt:376:17
+fresh-requires-2 : tie.Need-fresh-requires-2 Inv-loop μ-loop
+fresh-requires-2 c κs = search needs
+
+-- src/lib.rt:381:5
+loop-holds : tie.Need-loop-holds Inv-loop μ-loop
+loop-holds c = ((omega arith, omega arith, omega arith, omega arith, omega arith), (refl, refl, refl))
+
+-- src/lib.rt:382:9
+turn-requires : tie.Need-turn-requires Inv-loop μ-loop
+turn-requires c κs = ((omega arith, omega arith), ((omega arith, omega arith), omega arith))
+
+-- src/lib.rt:383:9
+sub-turns : tie.Need-sub-turns Inv-loop μ-loop
+sub-turns c = search needs
+
+-- src/lib.rt:381:5
+loop-less : tie.Need-loop-less Inv-loop μ-loop
+loop-less c = search needs
+
+-- src/lib.rt:381:5
+loop-again : tie.Need-loop-again Inv-loop μ-loop
+loop-again c = ((omega arith, omega arith, omega arith, omega arith, omega arith), (omega arith, omega arith, omega arith))
+
+-- src/lib.rt:364:1
+same-length : tie.Need-same-length Inv-loop μ-loop
+same-length c = omega arith
+
+-- src/lib.rt:364:1
+same-length-2 : tie.Need-same-length-2 Inv-loop μ-loop
+same-length-2 c = omega arith
+
+-- src/lib.rt:364:1
+same-length-3 : tie.Need-same-length-3 Inv-loop μ-loop
+same-length-3 c = omega arith
+
+-- src/lib.rt:364:1
+returns : tie.Need-returns Inv-loop μ-loop
+returns c = search needs
+
+-- src/lib.rt:364:1
+same-length-4 : tie.Need-same-length-4 Inv-loop μ-loop
+same-length-4 c = omega arith
+
+-- src/lib.rt:364:1
+same-length-5 : tie.Need-same-length-5 Inv-loop μ-loop
+same-length-5 c = omega arith
+
+-- src/lib.rt:364:1
+same-length-6 : tie.Need-same-length-6 Inv-loop μ-loop
+same-length-6 c = omega arith
+
+-- src/lib.rt:364:1
+returns-2 : tie.Need-returns-2 Inv-loop μ-loop
+returns-2 c = search needs
+
+pub side-by-side-spec : {M : Type 1} → statement M
+side-by-side-spec =
+    tie.close
+    (tie.spec
+    Inv-loop
+    μ-loop
+    start-requires
+    fresh-requires
+    fresh-requires-2
+    loop-holds
+    turn-requires
+    sub-turns
+    loop-less
+    loop-again
+    same-length
+    same-length-2
+    same-length-3
+    returns
+    same-length-4
+    same-length-5
+    same-length-6
+    returns-2)

@@ -1,12 +1,9 @@
 // The program for captures: `capture record`, `capture replay [FILE]`, `capture show [FILE]`, `capture compare FIRST SECOND`, `capture help`. It
-// reads a file or standard input, as it comes, in constant memory. What no proof can say of a program, which bytes it reads and writes, is all that stands here; the verdict is that of
-// `replay`, its line that of `replay_line`, and the form of a capture that of `records`.
+// reads a file or standard input, as it comes, in constant memory. Here stands which word asks for what; each word's reading and writing is a
+// crate (`recording`, `replaying`, `showing`, `comparing`), and what is written is said in those below them.
 mod compare;
 mod help;
 mod input;
-mod recording;
-mod replaying;
-mod showing;
 
 use libc::STDERR_FILENO;
 use libc::STDOUT_FILENO;

@@ -10,10 +10,10 @@ use lib.ListN.{length, take, drop, length-drop}
 use lib.Seq.{take-all}
 use Rattle.text.specs.Token.{sameBytes}
 use Rattle.records.specs.declared.Phase.{Phase}
-use Rattle.records.specs.declared.ahead.Front.{Front}
+use Rattle.ahead.specs.declared.Front.{Front}
 use Rattle.records.specs.Frames.{capped}
-use Rattle.records.specs.Fronts.{frontOf}
-use Rattle.records.proofs.Fronts.{front-within}
+use Rattle.ahead.specs.Fronts.{frontOf}
+use Rattle.ahead.proofs.Fronts.{front-within}
 use Rattle.compared.specs.declared.Formed.{Formed}
 use Rattle.compared.specs.declared.Event.{Event}
 use Rattle.compared.specs.declared.Pass.{Pass}

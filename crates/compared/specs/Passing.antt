@@ -10,11 +10,11 @@ use lib.ListN.{length, take, drop}
 use Rattle.text.specs.Token.{sameBytes}
 use Rattle.records.specs.declared.Phase.{Phase}
 use Rattle.records.specs.declared.Phase.the-variants.{Start}
-use Rattle.records.specs.declared.ahead.Sign.{Sign}
-use Rattle.records.specs.declared.ahead.Sign.the-variants as sign
-use Rattle.records.specs.declared.ahead.Front.{Front}
+use Rattle.ahead.specs.declared.Sign.{Sign}
+use Rattle.ahead.specs.declared.Sign.the-variants as sign
+use Rattle.ahead.specs.declared.Front.{Front}
 use Rattle.records.specs.Frames.{capped}
-use Rattle.records.specs.Fronts.{frontOf}
+use Rattle.ahead.specs.Fronts.{frontOf}
 use Rattle.compared.specs.declared.Line.{Line}
 use Rattle.compared.specs.declared.Line.the-variants.{Differs, OnlyFirst, OnlySecond, Differences}
 use Rattle.compared.specs.declared.Event.{Event}

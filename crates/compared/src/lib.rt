@@ -2,8 +2,8 @@
 //
 // `form` reads a lump of one capture for its form, `next` two lumps side by side up to the next line. Both pass whole records only and say
 // how many bytes they have used; the caller keeps the rest, puts more behind it and calls again. Nothing is kept of a record that is passed.
+use ahead::Sign;
 use records::Phase;
-use records::ahead::Sign;
 use text::token;
 ghost use mathlib.Core.Path.{_≡_};
 ghost use Prim.Native.Nat.{_+_, _≤_};
@@ -80,7 +80,7 @@ fn form_step(f: Formed, bytes: &[u8], ends: bool) -> Formed
 {
     let phase = f.phase;
     let used = f.used;
-    let w = records::ahead::look(phase, &bytes[used..], ends);
+    let w = ahead::look(phase, &bytes[used..], ends);
     let sign = w.sign;
     let after = w.phase;
     Formed {
@@ -191,8 +191,8 @@ fn pair(p: Pass, xs: &[u8], ys: &[u8], ends: bool, closes: bool) -> Pass
     let second = p.second;
     let i = p.here;
     let j = p.there;
-    let a = records::ahead::look(first, &xs[i..], ends);
-    let b = records::ahead::look(second, &ys[j..], closes);
+    let a = ahead::look(first, &xs[i..], ends);
+    let b = ahead::look(second, &ys[j..], closes);
     let a_sign = a.sign;
     let b_sign = b.sign;
     let a_end = i + a.length;

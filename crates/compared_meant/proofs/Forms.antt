@@ -12,14 +12,14 @@ use lib.ListN.{length, take, drop, length-drop, take-append-drop}
 use lib.Seq.{drop-drop}
 use Rattle.records.specs.declared.Phase.{Phase}
 use Rattle.records.specs.declared.Phase.the-variants.{Start}
-use Rattle.records.specs.declared.ahead.Sign.{Sign}
-use Rattle.records.specs.declared.ahead.Sign.the-variants as sign
-use Rattle.records.specs.declared.ahead.Front.{Front}
+use Rattle.ahead.specs.declared.Sign.{Sign}
+use Rattle.ahead.specs.declared.Sign.the-variants as sign
+use Rattle.ahead.specs.declared.Front.{Front}
 use Rattle.records.specs.Reading.{Ending, clean, malformed, Reading, readingOf}
 use Rattle.records.specs.Frames.{capped, cappedEnding}
-use Rattle.records.specs.Fronts.{frontOf}
+use Rattle.ahead.specs.Fronts.{frontOf}
 use Rattle.records.proofs.Counts.{capped-more}
-use Rattle.records.proofs.Fronts.{restOf, rest-whole, Says, look-passes, front-within}
+use Rattle.ahead.proofs.Fronts.{restOf, rest-whole, Says, look-passes, front-within}
 use Rattle.compared.specs.declared.Formed.{Formed}
 use Rattle.compared.specs.Passing.{isRecord, formStep, formFrom, formOf}
 use Rattle.compared_meant.proofs.Meaning.{split, none-capped}

@@ -16,14 +16,14 @@ use lib.Seq.{drop-drop, drop-append-le}
 use Rattle.text.specs.Token.{sameBytes}
 use Rattle.records.specs.declared.Phase.{Phase}
 use Rattle.records.specs.declared.Phase.the-variants.{Start}
-use Rattle.records.specs.declared.ahead.Sign.{Sign}
-use Rattle.records.specs.declared.ahead.Sign.the-variants as sign
-use Rattle.records.specs.declared.ahead.Front.{Front}
+use Rattle.ahead.specs.declared.Sign.{Sign}
+use Rattle.ahead.specs.declared.Sign.the-variants as sign
+use Rattle.ahead.specs.declared.Front.{Front}
 use Rattle.records.specs.Values.{Entry}
 use Rattle.records.specs.Reading.{clean, Reading, readingOf}
 use Rattle.records.specs.Frames.{capped}
 use Rattle.records.proofs.Counts.{capped-more}
-use Rattle.records.proofs.Fronts.{restOf, rest-whole, Taken, Ended, Says, look-passes, front-within}
+use Rattle.ahead.proofs.Fronts.{restOf, rest-whole, Taken, Ended, Says, look-passes, front-within}
 use Rattle.compared.specs.declared.Line.{Line}
 use Rattle.compared.specs.declared.Line.the-variants.{Differs, OnlyFirst, OnlySecond, Differences, FirstMalformed, SecondMalformed}
 use Rattle.compared.specs.declared.Event.{Event}

@@ -3,6 +3,7 @@
 // lines are `compare_line`'s.
 //
 // A file that cannot be read or rewound, as a pipe, is told on the error stream before any line is printed.
+use ahead::Sign;
 use compared::Event;
 use compared::Line;
 use compared::Pass;
@@ -10,7 +11,6 @@ use libc::SEEK_SET;
 use libc::STDERR_FILENO;
 use libc::STDOUT_FILENO;
 use records::Phase;
-use records::ahead::Sign;
 ghost use mathlib.Core.Path.{_≡_};
 ghost use Prim.Native.Nat.{_+_, _-_, _≤_};
 ghost use lib.ListN.{length, take, drop};

@@ -2,4 +2,3 @@ pub mod Counts
 pub mod Halves
 pub mod Steps
 pub mod Back
-pub mod Fronts

@@ -2,4 +2,3 @@ pub mod Kinds
 pub mod Values
 pub mod Reading
 pub mod Frames
-pub mod Fronts

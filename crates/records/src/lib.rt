@@ -3,8 +3,6 @@
 // A capture is read by a byte step: `start` gives a frame, `push` takes one byte more. A frame holds one record at most, and says after each
 // byte whether a record has just become whole or the capture is malformed; at the end of input it is well formed exactly if the frame is
 // whole. specs/Reading says the same record by record, and proofs/Steps shows that the steps give it.
-pub mod ahead;
-
 ghost use mathlib.Core.Path.{_≡_};
 ghost use Prim.Native.Nat.{_+_, _≤_};
 ghost use lib.IntN.{natAbs};
@@ -89,7 +87,7 @@ pub fn kind_of(k: u8) -> Kind
     }
 }
 
-fn may_stand(phase: Phase, role: Role) -> bool
+pub fn may_stand(phase: Phase, role: Role) -> bool
     ensures { λ r. ⌜ r ≡ mayStand phase role ⌝ }
 {
     match phase {
@@ -124,7 +122,7 @@ fn may_stand(phase: Phase, role: Role) -> bool
     }
 }
 
-fn after(phase: Phase, role: Role) -> Phase
+pub fn after(phase: Phase, role: Role) -> Phase
     ensures { λ r. ⌜ r ≡ afterRole phase role ⌝ }
 {
     match role {

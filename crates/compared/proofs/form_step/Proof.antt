@@ -8,7 +8,7 @@ use Rattle.compared.proofs.form_step.Tie as tie
 use Rattle.compared.proofs.form_step.Reads as reads
 use Rattle.compared.proofs.form_step.Lts as lts
 use Rattle.compared.proofs.further.Reads as further-reads
-use Rattle.records.proofs.ahead.look.Reads as look-reads
+use Rattle.ahead.proofs.look.Reads as look-reads
 
 -- src/lib.rt:83:41
 sub-look : tie.Need-sub-look

@@ -11,7 +11,7 @@ use Rattle.compared.proofs.pair.Lts as lts
 use Rattle.compared.proofs.judge.Reads as judge-reads
 use Rattle.compared.proofs.line_more.Reads as line-more-reads
 use Rattle.compared.proofs.takes.Reads as takes-reads
-use Rattle.records.proofs.ahead.look.Reads as look-reads
+use Rattle.ahead.proofs.look.Reads as look-reads
 use Rattle.records.proofs.counted.Reads as counted-reads
 use Rattle.text.proofs.token.same.Reads as same-reads
 

@@ -1,0 +1,87 @@
+-- `run`: the list keeps its length, and the turns are counted down.
+use mathlib.Core.Path.{_≡_}
+use Prim.Native.Nat.{_≤_, _-_}
+use lib.ListN.{length}
+use borrow.Author.Needs.{needs}
+use Rattle.showing.proofs.run.Statement.{statement}
+use Rattle.showing.proofs.run.Tie as tie
+use Rattle.showing.proofs.run.Reads as reads
+use Rattle.showing.proofs.run.Lts as lts
+use Rattle.shown.proofs.is_whole.Reads as is-whole-reads
+use Rattle.showing.proofs.print_malformed.Reads as print-malformed-reads
+use Rattle.showing.proofs.read_once.Reads as read-once-reads
+use Rattle.os.proofs.fail.Reads as fail-reads
+use Rattle.records.proofs.start.Reads as start-reads
+
+abbrev Inv-loop : tie.InvT-loop
+Inv-loop fd chunk₀ now₀ turns₀ t7 chunk now turns = length chunk ≡ 65536
+
+abbrev μ-loop : tie.MeasureT-loop
+μ-loop fd chunk₀ now₀ turns₀ t7 chunk now turns = turns
+
+returns : tie.Need-returns Inv-loop μ-loop
+returns c = search needs
+
+start-requires : tie.Need-start-requires Inv-loop μ-loop
+start-requires c κs = search needs
+
+loop-holds : tie.Need-loop-holds Inv-loop μ-loop
+loop-holds c = search needs
+
+slice-aggregate-read-once : tie.Need-slice-aggregate-read-once Inv-loop μ-loop
+slice-aggregate-read-once c = search needs
+
+read-once-requires : tie.Need-read-once-requires Inv-loop μ-loop
+read-once-requires c κs = search needs
+
+sub-turns : tie.Need-sub-turns Inv-loop μ-loop
+sub-turns c = search needs
+
+loop-less : tie.Need-loop-less Inv-loop μ-loop
+loop-less c = search needs
+
+loop-again : tie.Need-loop-again Inv-loop μ-loop
+loop-again c = search needs
+
+is-whole-requires : tie.Need-is-whole-requires Inv-loop μ-loop
+is-whole-requires c κs = search needs
+
+returns-2 : tie.Need-returns-2 Inv-loop μ-loop
+returns-2 c = search needs
+
+print-malformed-requires : tie.Need-print-malformed-requires Inv-loop μ-loop
+print-malformed-requires c κs = search needs
+
+slice-aggregate-fail : tie.Need-slice-aggregate-fail Inv-loop μ-loop
+slice-aggregate-fail c = search needs
+
+fail-requires : tie.Need-fail-requires Inv-loop μ-loop
+fail-requires c κs = search needs
+
+returns-3 : tie.Need-returns-3 Inv-loop μ-loop
+returns-3 c = search needs
+
+returns-4 : tie.Need-returns-4 Inv-loop μ-loop
+returns-4 c = search needs
+
+pub run-spec : {M : Type 1} → statement M
+run-spec =
+    tie.close
+    (tie.spec
+    Inv-loop
+    μ-loop
+    returns
+    start-requires
+    loop-holds
+    slice-aggregate-read-once
+    read-once-requires
+    sub-turns
+    loop-less
+    loop-again
+    is-whole-requires
+    returns-2
+    print-malformed-requires
+    slice-aggregate-fail
+    fail-requires
+    returns-3
+    returns-4)

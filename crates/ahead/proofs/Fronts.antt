@@ -96,7 +96,8 @@ rest-record p at k bs e l =
     let z = kindOf k .size in
     let q = afterRole p (kindOf k .role) in
     let a : at + (z + 1) ≡ at + 1 + z = omega arith in
-    let s : readingFrom (length bs) q (at + 1 + z) (drop z bs) ≡ readingFrom (length (drop z bs)) q (at + 1 + z) (drop z bs) = steps-free (length bs) (length (drop z bs)) q _ (drop z bs) (omega (arith, length-drop z bs)) (omega arith) in
+    let s : readingFrom (length bs) q (at + 1 + z) (drop z bs) ≡ readingFrom (length (drop z bs)) q (at + 1 + z) (drop z bs) = steps-free (length bs)
+    (length (drop z bs)) q _ (drop z bs) (omega (arith, length-drop z bs)) (omega arith) in
     rw (e, le-leb z (length bs) l, a, s)
 
 -- ---- what a front says

@@ -65,7 +65,8 @@ module _ (state lump line told : List ℕ) where
   abbrev call : Call
   call = feedCall state lump line told
 
-  feeds-as : (x : Call) {n : ℕ} {st ln t : List ℕ} → call ≡ x → n ≡ x .number → st ≡ x .state → ln ≡ x .line → t ≡ x .told → (n ≡ 0 → Keeps st (goneOn (courseIn state) lump)) → Feeds state lump call n st ln t
+  feeds-as : (x : Call) {n : ℕ} {st ln t : List ℕ} → call ≡ x → n ≡ x .number → st ≡ x .state → ln ≡ x .line → t ≡ x .told →
+      (n ≡ 0 → Keeps st (goneOn (courseIn state) lump)) → Feeds state lump call n st ln t
   feeds-as x e a b c d k =
       record {
         number = a ∙ ap (λ (y : Call). y .number) (sym e);
@@ -106,13 +107,16 @@ module _ (state lump line told : List ℕ) where
         pub feed-on : {n : ℕ} {t : List ℕ} → isFound d ≡ false → n ≡ 0 → t ≡ set told 0 0 → Feeds state lump call n st line t
         unfolding feedCall
         feed-on g e q =
-            feeds-as (quiet 0 (into d state) line told) (rw (s, h, there false f, now-found false g) (ap (λ (x : Course). quiet 0 (into x state) line told) (sym so))) e (stored .words) refl q (λ k. kept)
+            feeds-as (quiet 0 (into d state) line told) (rw (s, h, there false f, now-found false g) (ap (λ (x : Course). quiet 0 (into x state) line told) (sym so))) e
+            (stored .words) refl q (λ k. kept)
 
-        pub feed-says : {n : ℕ} {ln t : List ℕ} (v : Verdict) → isFound d ≡ true → v ≡ verdictNow d → n ≡ 0 → ln ≡ lineOf v ++ drop (length (lineOf v)) line → t ≡ set told 0 (length (lineOf v)) → Feeds state lump call n st ln t
+        pub feed-says : {n : ℕ} {ln t : List ℕ} (v : Verdict) → isFound d ≡ true → v ≡ verdictNow d → n ≡ 0 → ln ≡ lineOf v ++ drop
+            (length (lineOf v)) line → t ≡ set told 0 (length (lineOf v)) → Feeds state lump call n st ln t
         unfolding feedCall
         feed-says v g w e l q =
             feeds-as (saying v (into d state) line told)
-            (rw (s, h, there false f, now-found true g) (ap (λ (x : Course). saying (verdictNow x) (into x state) line told) (sym so) ∙ ap (λ (x : Verdict). saying x (into d state) line told) (sym w))) e (stored .words) l q (λ k. kept)
+            (rw (s, h, there false f, now-found true g)
+            (ap (λ (x : Course). saying (verdictNow x) (into x state) line told) (sym so) ∙ ap (λ (x : Verdict). saying x (into d state) line told) (sym w))) e (stored .words) l q (λ k. kept)
 
 -- ---- the end
 
@@ -143,8 +147,10 @@ module _ (state line told : List ℕ) where
       unfolding endCall
       end-after f e d = ends-as (quiet 0 (set state 0 0) line told) (rw (s, h, ap isFound (sym is) ∙ f)) e refl refl d
 
-      pub end-says : {n : ℕ} {ln t : List ℕ} (v : Verdict) → isFound c ≡ false → v ≡ verdictNow c → n ≡ 0 → ln ≡ lineOf v ++ drop (length (lineOf v)) line → t ≡ set told 0 (length (lineOf v)) → Ends ending n (set state 0 0) ln t
+      pub end-says : {n : ℕ} {ln t : List ℕ} (v : Verdict) → isFound c ≡ false → v ≡ verdictNow c → n ≡ 0 → ln ≡ lineOf v ++ drop
+          (length (lineOf v)) line → t ≡ set told 0 (length (lineOf v)) → Ends ending n (set state 0 0) ln t
       unfolding endCall
       end-says v f w e l q =
           ends-as (saying v (set state 0 0) line told)
-          (rw (s, h, ap isFound (sym is) ∙ f) (ap (λ (x : Course). saying (verdictNow x) (set state 0 0) line told) (sym is) ∙ ap (λ (x : Verdict). saying x (set state 0 0) line told) (sym w))) e refl l q
+          (rw (s, h, ap isFound (sym is) ∙ f)
+          (ap (λ (x : Course). saying (verdictNow x) (set state 0 0) line told) (sym is) ∙ ap (λ (x : Verdict). saying x (set state 0 0) line told) (sym w))) e refl l q

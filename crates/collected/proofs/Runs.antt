@@ -61,7 +61,8 @@ module _ (c : Course) (x state line told : List ℕ) (h : 1 ≤ length told) whe
   over-says : saidIn (over c state line told .told) (over c state line told .line) ≡ saidAtEnd c
   over-says = go (isFound c)
     where
-      go : (a : Bool) → saidIn (cond a (quiet 0 (set state 0 0) line told) (saying (verdictNow c) (set state 0 0) line told) .told) (cond a (quiet 0 (set state 0 0) line told) (saying (verdictNow c) (set state 0 0) line told) .line)
+      go : (a : Bool) → saidIn (cond a (quiet 0 (set state 0 0) line told) (saying (verdictNow c) (set state 0 0) line told) .told)
+          (cond a (quiet 0 (set state 0 0) line told) (saying (verdictNow c) (set state 0 0) line told) .line)
           ≡ cond a [] (lineOf (verdictNow c))
       go true = quiet-says told line h
       go false = saying-says (verdictNow c) told line h

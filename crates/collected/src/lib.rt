@@ -65,7 +65,8 @@ pub fn start(state: &mut [u64]) -> u32
 
 // A lump of bytes, which may be empty.
 pub fn feed(state: &mut [u64], lump: &[u8], line: &mut [u8], told: &mut [u64]) -> u32
-    ensures { λ r. ⌜ Feeds (now (state .entry)) (now (lump .entry)) (feedCall (now (state .entry)) (now (lump .entry)) (now (line .entry)) (now (told .entry))) r (now (state .exit)) (now (line .exit)) (now (told .exit)) ⌝ }
+    ensures { λ r. ⌜ Feeds (now (state .entry)) (now (lump .entry)) (feedCall (now (state .entry)) (now (lump .entry)) (now (line .entry)) (now (told .entry))) r
+        (now (state .exit)) (now (line .exit)) (now (told .exit)) ⌝ }
 {
     if is_short(line.len(), told.len()) {
         return quiet(told, 8);

@@ -40,7 +40,8 @@ looked w p i bs ends e = e ∙ ap (λ (l : List ℕ). frontOf p l ends) (rest-pa
 pub looked-within : (w : Front) (p : Phase) (i : ℕ) (bs : List ℕ) (ends : Bool) → w ≡ frontOf p (take (length bs - i) (drop i bs)) ends → i ≤ length bs → i + w .length ≤ length bs
 looked-within w p i bs ends e h = within w p i bs ends (looked w p i bs ends e) h
 
-pub form-stepped : (f : Formed) (bs : List ℕ) (ends : Bool) (w : Front) (at : ℕ) → w ≡ frontOf (f .phase) (take (length bs - f .used) (drop (f .used) bs)) ends → at ≡ capped (f .at + w .length) → f .used ≤ length bs
+pub form-stepped : (f : Formed) (bs : List ℕ) (ends : Bool) (w : Front) (at : ℕ) → w ≡ frontOf (f .phase) (take (length bs - f .used) (drop (f .used) bs)) ends
+    → at ≡ capped (f .at + w .length) → f .used ≤ length bs
     → (record { sign = w .sign; phase = w .phase; at = at; used = f .used + w .length } ≡ formStep f bs ends) × (f .used + w .length ≤ length bs)
 unfolding formStep
 form-stepped f bs ends w at e a h =
@@ -72,7 +73,8 @@ module _ (p : Pass) (xs ys : List ℕ) (ends closes : Bool) (a b : Front) (t : B
       → (halted p e ≡ pairStep p xs ys ends closes) × ((p .here ≤ length xs) × (p .there ≤ length ys))
   pair-halts l k s j h m n = (subst (λ (z : Bool). cond z (moved p e a b) (halted p e) ≡ pairStep p xs ys ends closes) h (pair-is l k s j), (m, n))
 
-  pub pair-moves : Looks → LooksToo → Tells → Judges → takes e ≡ true → p .here ≤ length xs → p .there ≤ length ys → (number lines : ℕ) → number ≡ capped (p .number + 1) → lines ≡ lineMore e (p .lines)
+  pub pair-moves : Looks → LooksToo → Tells → Judges → takes e ≡ true → p .here ≤ length xs → p .there ≤ length ys →
+      (number lines : ℕ) → number ≡ capped (p .number + 1) → lines ≡ lineMore e (p .lines)
       → (record { event = e; first = a .phase; second = b .phase; number = number; lines = lines; here = p .here + a .length; there = p .there + b .length } ≡ pairStep p xs ys ends closes)
       × ((p .here + a .length ≤ length xs) × (p .there + b .length ≤ length ys))
   pair-moves l k s j h m n number lines u v = (

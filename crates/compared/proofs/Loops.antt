@@ -33,7 +33,8 @@ module _ (goal : Pass) (g : Pass) (xs ys : List ℕ) (ends closes : Bool) where
   pass-ends f zero e h s i = absurd (none 0 h refl)
   pass-ends f (suc n) e h s i = rw (i, sym e, s)
 
-  pub pass-goes : (f : Pass) (left : ℕ) → g ≡ pairStep f xs ys ends closes → 0 < left → isSame (g .event) ≡ true → goal ≡ passFrom left f xs ys ends closes → goal ≡ passFrom (left - 1) g xs ys ends closes
+  pub pass-goes : (f : Pass) (left : ℕ) → g ≡ pairStep f xs ys ends closes → 0 < left → isSame (g .event) ≡ true
+      → goal ≡ passFrom left f xs ys ends closes → goal ≡ passFrom (left - 1) g xs ys ends closes
   pass-goes f zero e h s i = absurd (none 0 h refl)
   pass-goes f (suc n) e h s i = rw (less n, i, sym e, s)
 

@@ -49,7 +49,8 @@ module _ (n : ℕ) (f : Formed) (bs more : List ℕ) (w : Front) (en : f .at ≡
   abbrev Goes : Type 0
   Goes = endingAt (f .phase) n (us ++ more) ≡ endingAt (w .phase) (n + w .length) (drop (w .length) us ++ more)
 
-  formed : (s : Sign) → Goes → Tells s (n + w .length) (endingAt (f .phase) n (us ++ more)) → FormPassed n f bs more (record { sign = s; phase = w .phase; at = capped (f .at + w .length); used = f .used + w .length })
+  formed : (s : Sign) → Goes → Tells s (n + w .length) (endingAt (f .phase) n (us ++ more)) → FormPassed n f bs more
+      (record { sign = s; phase = w .phase; at = capped (f .at + w .length); used = f .used + w .length })
   formed s r t =
       record {
         now = n + w .length;
@@ -59,10 +60,12 @@ module _ (n : ℕ) (f : Formed) (bs more : List ℕ) (w : Front) (en : f .at ≡
         used = fits;
       }
 
-  stopped : w .length ≡ 0 → w .phase ≡ f .phase → (s : Sign) → Tells s n (endingAt (f .phase) n (us ++ more)) → FormPassed n f bs more (record { sign = s; phase = w .phase; at = capped (f .at + w .length); used = f .used + w .length })
+  stopped : w .length ≡ 0 → w .phase ≡ f .phase → (s : Sign) → Tells s n (endingAt (f .phase) n (us ++ more)) → FormPassed n f bs more
+      (record { sign = s; phase = w .phase; at = capped (f .at + w .length); used = f .used + w .length })
   stopped z q s t =
       let e : n ≡ n + w .length = omega arith in
-      let r : Goes = ap (λ (x : ℕ). endingAt (f .phase) x (us ++ more)) e ∙ ap (λ (x : Phase). endingAt x (n + w .length) (us ++ more)) (sym q) ∙ ap (λ (x : ℕ). endingAt (w .phase) (n + w .length) (drop x us ++ more)) (sym z) in
+      let r : Goes = ap (λ (x : ℕ). endingAt (f .phase) x (us ++ more)) e ∙ ap (λ (x : Phase). endingAt x (n + w .length) (us ++ more)) (sym q)
+      ∙ ap (λ (x : ℕ). endingAt (w .phase) (n + w .length) (drop x us ++ more)) (sym z) in
       formed s r (subst (λ (x : ℕ). Tells s x (endingAt (f .phase) n (us ++ more))) e t)
 
   -- a front, by its sign
@@ -154,7 +157,8 @@ module _ (c : FormCall) (cs : List FormCall) (p : Phase) (at n : ℕ) (us : List
 run-tells : (cs : List FormCall) (p : Phase) (at n : ℕ) (us : List ℕ) (e : Ending) → at ≡ capped n → FormRun cs p at us e → e ≡ cappedEnding (endingAt p n us)
 run-tells [] p at n us e en h = absurd h
 run-tells (c ∷ cs) p at n us e en h =
-    call-tells c cs p at n us e en (h .0) (λ m x y. run-tells cs (formed-by c p at us .phase) (formed-by c p at us .at) m (drop (formed-by c p at us .used) us) e x y) (formed-by c p at us .sign) refl (h .1)
+    call-tells c cs p at n us e en (h .0) (λ m x y. run-tells cs (formed-by c p at us .phase) (formed-by c p at us .at) m (drop (formed-by c p at us .used) us) e x y)
+    (formed-by c p at us .sign) refl (h .1)
 
 -- calls over a capture that have come to an end say how it ends
 pub form-tells : (cs : List FormCall) (us : List ℕ) (e : Ending) → FormRun cs Start 0 us e → e ≡ cappedEnding (readingOf us .ending)

@@ -77,7 +77,8 @@ OneClean (malformed p) (malformed q) = ⊥
 
 judged-swap : (e d : Ending) (ls ms : List Line) → OneClean e d → map exchanged ls ≡ ms → map exchanged (judged e d ls) ≡ judged d e ms
 judged-swap clean clean ls ms h w =
-    map-append exchanged ls (Differences (length ls) ∷ []) ∙ ap (λ (l : List Line). l ++ Differences (length ls) ∷ []) w ∙ ap (λ (k : ℕ). ms ++ Differences k ∷ []) (sym (map-length ls) ∙ ap (λ (l : List Line). length l) w)
+    map-append exchanged ls (Differences (length ls) ∷ []) ∙ ap (λ (l : List Line). l ++ Differences (length ls) ∷ []) w ∙ ap
+    (λ (k : ℕ). ms ++ Differences k ∷ []) (sym (map-length ls) ∙ ap (λ (l : List Line). length l) w)
 judged-swap clean (malformed q) ls ms h w = refl
 judged-swap (malformed p) clean ls ms h w = refl
 judged-swap (malformed p) (malformed q) ls ms h w = absurd h

@@ -93,7 +93,8 @@ no-lines [] h = refl
 no-lines (l ∷ ls) h = absurd (cons-nil h)
 
 -- one pair of records
-module _ (n k : ℕ) (p : Pass) (a b : ℕ) (xs ys more further : List ℕ) (A B : Front) (en : p .number ≡ capped n) (ek : p .lines ≡ capped k) (hx : p .here + A .length ≤ length xs) (hy : p .there + B .length ≤ length ys) where
+module _ (n k : ℕ) (p : Pass) (a b : ℕ) (xs ys more further : List ℕ) (A B : Front) (en : p .number ≡ capped n) (ek : p .lines ≡ capped k)
+    (hx : p .here + A .length ≤ length xs) (hy : p .there + B .length ≤ length ys) where
   abbrev us : List ℕ
   us = drop (p .here) xs
 
@@ -140,7 +141,8 @@ module _ (n k : ℕ) (p : Pass) (a b : ℕ) (xs ys more further : List ℕ) (A B
   line-count = capped-next k (p .lines) ek
 
   -- both have a record here
-  both : (w : Bool) → w ≡ sameBytes (take (A .length) us) (take (B .length) vs) → Taken (p .first) a us more A → Taken (p .second) b vs further B → G (movedBy p (cond w Same (Said (Differs (p .number)))) A B)
+  both : (w : Bool) → w ≡ sameBytes (take (A .length) us) (take (B .length) vs) → Taken (p .first) a us more A → Taken
+      (p .second) b vs further B → G (movedBy p (cond w Same (Said (Differs (p .number)))) A B)
   unfolding differencesFrom
   both w e s t = go w (e ∙ alike)
     where
@@ -180,7 +182,8 @@ module _ (n k : ℕ) (p : Pass) (a b : ℕ) (xs ys more further : List ℕ) (A B
   fronts-passed w e sign.Bad s t u = stays Broken refl tt
 
 module _ (xs ys more further : List ℕ) (ends closes : Bool) (he : ends ≡ true → more ≡ []) (hc : closes ≡ true → further ≡ []) where
-  pub pair-passed : (n k : ℕ) (p : Pass) (a b : ℕ) → p .number ≡ capped n → p .lines ≡ capped k → p .here ≤ length xs → p .there ≤ length ys → Passed n k p a b xs ys more further (pairStep p xs ys ends closes)
+  pub pair-passed : (n k : ℕ) (p : Pass) (a b : ℕ) → p .number ≡ capped n → p .lines ≡ capped k → p .here ≤ length xs → p .there ≤ length ys
+      → Passed n k p a b xs ys more further (pairStep p xs ys ends closes)
   unfolding pairStep
   pair-passed n k p a b en ek hx hy =
       let u = drop (p .here) xs in
@@ -222,7 +225,8 @@ module _ (xs ys more further : List ℕ) (ends closes : Bool) (he : ends ≡ tru
       r : Pass
       r = pairStep p xs ys ends closes
 
-      go : Passed n k p a b xs ys more further r → ((m c d : ℕ) → Goal j m k r c d) → (w : Bool) → isSame (r .event) ≡ w → Passed n k p a b xs ys more further (cond w (passFrom j r xs ys ends closes) r)
+      go : Passed n k p a b xs ys more further r → ((m c d : ℕ) → Goal j m k r c d) → (w : Bool) → isSame (r .event) ≡ w
+          → Passed n k p a b xs ys more further (cond w (passFrom j r xs ys ends closes) r)
       go q ih true h = onward j n k p a b r q h (ih (q .now) (q .first) (q .second))
       go q ih false h = q
 
@@ -298,7 +302,8 @@ module _ (c : Call) (cs : List Call) (p : Pass) (us vs : List ℕ) (n k a b : �
 
   stepped : Stepped
   stepped =
-      let q = pass-passed (take (c .first) us) (take (c .second) vs) (drop (c .first) us) (drop (c .second) vs) (c .ends) (c .closes) (hon .ends) (hon .closes) (length (take (c .first) us)) n k (anew p) a b en ek (omega arith) (omega arith) in
+      let q = pass-passed (take (c .first) us) (take (c .second) vs) (drop (c .first) us) (drop (c .second) vs) (c .ends) (c .closes) (hon .ends)
+      (hon .closes) (length (take (c .first) us)) n k (anew p) a b en ek (omega arith) (omega arith) in
       let e : drop (r .here) (take (c .first) us) ++ drop (c .first) us ≡ us' = split (r .here) (c .first) us (q .here) in
       let d : drop (r .there) (take (c .second) vs) ++ drop (c .second) vs ≡ vs' = split (r .there) (c .second) vs (q .there) in
       record {
@@ -362,7 +367,8 @@ module _ (c : Call) (cs : List Call) (p : Pass) (us vs : List ℕ) (n k a b : �
 pub run-prints : (cs : List Call) (p : Pass) (us vs : List ℕ) (n k a b : ℕ) → p .number ≡ capped n → p .lines ≡ capped k → Run cs p us vs → printed cs p us vs ≡ whole k (todo n p a b us vs)
 run-prints [] p us vs n k a b en ek h = absurd h
 run-prints (c ∷ cs) p us vs n k a b en ek h =
-    call-prints c cs p us vs n k a b en ek (h .0) (λ m j d e x y z. run-prints cs (called c p us vs) (drop (called c p us vs .here) us) (drop (called c p us vs .there) vs) m j d e x y z) (called c p us vs .event) refl (h .1)
+    call-prints c cs p us vs n k a b en ek (h .0)
+    (λ m j d e x y z. run-prints cs (called c p us vs) (drop (called c p us vs .here) us) (drop (called c p us vs .there) vs) m j d e x y z) (called c p us vs .event) refl (h .1)
 
 pub none-capped : 0 ≡ capped 0
 unfolding capped
@@ -372,10 +378,12 @@ zero-plus : (m : ℕ) → 0 + m ≡ m
 zero-plus m = omega arith
 
 -- two well-formed captures: any run over them that has come to its last line has printed the comparison
-pub compare-prints : (cs : List Call) (xs ys : List ℕ) → readingOf xs .ending ≡ clean → readingOf ys .ending ≡ clean → Run cs freshPass xs ys → printed cs freshPass xs ys ≡ map cappedLine (comparedOf xs ys)
+pub compare-prints : (cs : List Call) (xs ys : List ℕ) → readingOf xs .ending ≡ clean → readingOf ys .ending ≡ clean
+    → Run cs freshPass xs ys → printed cs freshPass xs ys ≡ map cappedLine (comparedOf xs ys)
 unfolding comparisonOf
 compare-prints cs xs ys ex ey h =
     let e : printed cs freshPass xs ys ≡ whole 0 (todo 0 freshPass 0 0 xs ys) = run-prints cs freshPass xs ys 0 0 0 0 none-capped none-capped h in
     let t = differencesFrom 0 (readingOf xs .records) (readingOf ys .records) in
-    e ∙ ap (λ (q : Reading). whole 0 (differencesFrom 0 (q .records) (restOf Start 0 ys .records))) (rest-whole xs) ∙ ap (λ (q : Reading). whole 0 (differencesFrom 0 (readingOf xs .records) (q .records))) (rest-whole ys)
+    e ∙ ap (λ (q : Reading). whole 0 (differencesFrom 0 (q .records) (restOf Start 0 ys .records))) (rest-whole xs) ∙ ap
+    (λ (q : Reading). whole 0 (differencesFrom 0 (readingOf xs .records) (q .records))) (rest-whole ys)
     ∙ ap (λ (z : ℕ). map cappedLine t ++ Differences (capped z) ∷ []) (zero-plus (length t)) ∙ sym (map-append cappedLine t (Differences (length t) ∷ [])) ∙ rw (ex, ey)

@@ -96,7 +96,8 @@ module _ (xs ys : List ℕ) (p : Pass) (q : Rest p xs ys) (A B : Front) (hx : p 
   second-same : Ended (p .second) b vs [] B clean → restOf (B .phase) (b + B .length) (drop (p .there + B .length) ys ++ []) .ending ≡ clean
   second-same t = ap (λ (z : Reading). z .ending) (nothing-passed _ _ _ _ _ ys [] (t .stays .length) (t .stays .phase)) ∙ q .second
 
-  goes : (e : Event) → restOf (A .phase) (a + A .length) (drop (p .here + A .length) xs ++ []) .ending ≡ clean → restOf (B .phase) (b + B .length) (drop (p .there + B .length) ys ++ []) .ending ≡ clean
+  goes : (e : Event) → restOf (A .phase) (a + A .length) (drop (p .here + A .length) xs ++ []) .ending ≡ clean → restOf
+      (B .phase) (b + B .length) (drop (p .there + B .length) ys ++ []) .ending ≡ clean
       → p .here + p .there < p .here + A .length + (p .there + B .length) → Further p (moved p e A B) xs ys
   goes e f s h = record { rest = record { from = a + A .length; till = b + B .length; first = f; second = s; here = hx; there = hy }; more = h }
 
@@ -199,7 +200,8 @@ module _ (p : Pass) (us vs : List ℕ) where
       })))
 
   abbrev Later : ℕ → Type 0
-  Later n = (a b : ℕ) → restOf (r .first) a (drop (r .here) us) .ending ≡ clean → restOf (r .second) b (drop (r .there) vs) .ending ≡ clean → length (drop (r .here) us) + length (drop (r .there) vs) < n → SomeRun r (drop (r .here) us) (drop (r .there) vs)
+  Later n = (a b : ℕ) → restOf (r .first) a (drop (r .here) us) .ending ≡ clean → restOf (r .second) b (drop (r .there) vs) .ending ≡ clean → length
+      (drop (r .here) us) + length (drop (r .there) vs) < n → SomeRun r (drop (r .here) us) (drop (r .there) vs)
 
   onward : (n : ℕ) (v : Event) → r .event ≡ v → ((cs : List Call) (t : Type 0) → t → unlessLast v cs t) → length us + length vs < suc n → Further (anew p) r us vs → Later n → SomeRun p us vs
   onward n v w u h f ih =
@@ -223,4 +225,5 @@ run-from zero p us vs a b f s h = absurd (omega arith)
 run-from (suc n) p us vs a b f s h = runs-on p us vs n h (λ x y i j k. run-from n _ _ _ x y i j k) (called (all us vs) p us vs .event) refl (whole-lives p us vs a b f s)
 
 pub some-run : (xs ys : List ℕ) → readingOf xs .ending ≡ clean → readingOf ys .ending ≡ clean → SomeRun freshPass xs ys
-some-run xs ys ex ey = run-from (suc (length xs + length ys)) freshPass xs ys 0 0 (ap (λ (q : Reading). q .ending) (rest-whole xs) ∙ ex) (ap (λ (q : Reading). q .ending) (rest-whole ys) ∙ ey) (omega arith)
+some-run xs ys ex ey = run-from (suc (length xs + length ys)) freshPass xs ys 0 0 (ap (λ (q : Reading). q .ending) (rest-whole xs) ∙ ex)
+    (ap (λ (q : Reading). q .ending) (rest-whole ys) ∙ ey) (omega arith)

@@ -21,7 +21,8 @@ module _ (chunk₀ : List ℕ) (from i : ℕ) (chunk : List ℕ) (m : Moved chun
   byte : getD chunk (from + i) 0 ≡ getD (drop from chunk₀) i 0
   byte =
       let e : from + i ≡ i + from = omega arith in
-      ap (λ (k : ℕ). getD chunk k 0) e ∙ sym (getD-drop i chunk from 0) ∙ ap (λ (l : List ℕ). getD l from 0) (m .rest) ∙ getD-drop i chunk₀ from 0 ∙ ap (λ (k : ℕ). getD chunk₀ k 0) (sym e) ∙ sym (getD-drop from chunk₀ i 0)
+      ap (λ (k : ℕ). getD chunk k 0) e ∙ sym (getD-drop i chunk from 0) ∙ ap (λ (l : List ℕ). getD l from 0) (m .rest) ∙ getD-drop i chunk₀ from 0
+      ∙ ap (λ (k : ℕ). getD chunk₀ k 0) (sym e) ∙ sym (getD-drop from chunk₀ i 0)
 
   pub one-moved : Moved chunk₀ from (i + 1) (set chunk i (getD chunk (from + i) 0))
   one-moved =
@@ -35,5 +36,6 @@ module _ (chunk₀ : List ℕ) (from i : ℕ) (chunk : List ℕ) (m : Moved chun
       after = sym (drop-drop 1 i chunk) ∙ ap (λ (l : List ℕ). drop 1 l) (m .rest) ∙ drop-drop 1 i chunk₀
 
 -- what is read behind them leaves them as they are
-pub still-there : (from held k n : ℕ) (old chunk part : List ℕ) → held ≡ n → held ≤ length chunk → take held chunk ≡ take held (drop from old) → take n (putMid held k chunk part) ≡ take n (drop from old)
+pub still-there : (from held k n : ℕ) (old chunk part : List ℕ) → held ≡ n → held ≤ length chunk → take held chunk ≡ take held
+    (drop from old) → take n (putMid held k chunk part) ≡ take n (drop from old)
 still-there from held k n old chunk part e h f = subst (λ (m : ℕ). take m (putMid held k chunk part) ≡ take m (drop from old)) e (take-at (take held chunk) _ held (length-take-le held chunk h) ∙ f)

@@ -304,7 +304,8 @@ pub extern "C" fn demfizagu_replay_feed(
     line: &mut [u8],
     told: &mut [u64],
 ) -> u32
-    ensures { λ r. ⌜ Feeds (now (state .entry)) (now (lump .entry)) (feedCall (now (state .entry)) (now (lump .entry)) (now (line .entry)) (now (told .entry))) r (now (state .exit)) (now (line .exit)) (now (told .exit)) ⌝ }
+    ensures { λ r. ⌜ Feeds (now (state .entry)) (now (lump .entry)) (feedCall (now (state .entry)) (now (lump .entry)) (now (line .entry)) (now (told .entry))) r
+        (now (state .exit)) (now (line .exit)) (now (told .exit)) ⌝ }
 {
     collected::feed(state, lump, line, told)
 }

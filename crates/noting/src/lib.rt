@@ -104,7 +104,8 @@ fn start_number(state: u32) -> u32
 // The answer to a recorded call, with the words that it wrote.
 fn tell(begun: bool, t: Taped, out: &[u32], page: &mut [u8]) -> Noted
     requires { ⌜ (t .written ≤ length (now out)) × (length (now out) ≤ 4096) × (pageRoom ≤ length (now page)) ⌝ }
-    ensures { λ r. ⌜ ((ran : Ran) (room bytes b : List ℕ) → Is ran room bytes t (now (out .entry)) b → length b ≡ length bytes → Notes (taped begun ran) bytes (now (page .entry)) r b (now (page .exit))) ⌝ }
+    ensures { λ r. ⌜ ((ran : Ran) (room bytes b : List ℕ) → Is ran room bytes t (now (out .entry)) b → length b ≡ length bytes
+        → Notes (taped begun ran) bytes (now (page .entry)) r b (now (page .exit))) ⌝ }
 {
     let why = t.why;
     let n = t.written;
@@ -128,7 +129,8 @@ fn hear(
     page: &mut [u8],
 ) -> Noted
     requires { ⌜ (length (now out) ≤ 4096) × (pageRoom ≤ length (now page)) ⌝ }
-    ensures { λ r. ⌜ Notes (taped begun (tapedHearing rx (pieceOf (now (piece .entry))) (length (now (out .entry))) (length (now (bytes .entry))))) (now (bytes .entry)) (now (page .entry)) r (now (bytes .exit)) (now (page .exit)) ⌝ }
+    ensures { λ r. ⌜ Notes (taped begun (tapedHearing rx (pieceOf (now (piece .entry))) (length (now (out .entry))) (length (now (bytes .entry)))))
+        (now (bytes .entry)) (now (page .entry)) r (now (bytes .exit)) (now (page .exit)) ⌝ }
 {
     let t = recorder::hear(rx, piece, out, bytes);
     tell(begun, t, out, page)
@@ -136,7 +138,8 @@ fn hear(
 
 fn finish(rx: Receiver, begun: bool, out: &mut [u32], bytes: &mut [u8], page: &mut [u8]) -> Noted
     requires { ⌜ (length (now out) ≤ 4096) × (pageRoom ≤ length (now page)) ⌝ }
-    ensures { λ r. ⌜ Notes (taped begun (tapedFinishing rx (length (now (out .entry))) (length (now (bytes .entry))))) (now (bytes .entry)) (now (page .entry)) r (now (bytes .exit)) (now (page .exit)) ⌝ }
+    ensures { λ r. ⌜ Notes (taped begun (tapedFinishing rx (length (now (out .entry))) (length (now (bytes .entry)))))
+        (now (bytes .entry)) (now (page .entry)) r (now (bytes .exit)) (now (page .exit)) ⌝ }
 {
     let t = recorder::finish(rx, out, bytes);
     tell(begun, t, out, page)
@@ -193,7 +196,8 @@ pub fn line(
     page: &mut [u8],
 ) -> Noted
     requires { ⌜ Lent (now coordinates) (now words) (now page) × (part .held ≤ length (now line)) ⌝ }
-    ensures { λ r. ⌜ ((s : List ℕ) → Gathered (now (line .entry)) part s → Notes (notingLine (length (now (line .entry))) rx begun s (now (coordinates .entry)) (length (now (bytes .entry)))) (now (bytes .entry)) (now (page .entry)) r (now (bytes .exit)) (now (page .exit))) ⌝ }
+    ensures { λ r. ⌜ ((s : List ℕ) → Gathered (now (line .entry)) part s → Notes (notingLine (length (now (line .entry))) rx begun s (now (coordinates .entry))
+        (length (now (bytes .entry)))) (now (bytes .entry)) (now (page .entry)) r (now (bytes .exit)) (now (page .exit))) ⌝ }
 {
     if part.long {
         return unread(rx, begun, bytes, page);

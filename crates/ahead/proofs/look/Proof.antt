@@ -36,7 +36,8 @@ cut-requires : tie.Need-cut-requires
 cut-requires c κs = search needs
 
 returns-3 : tie.Need-returns-3
-returns-3 c = front-cut _ _ _ _ _ (c .before .before .before .before .before .kind-of .ensures) (omega arith) (sym (c .before .before .before .before .may-stand .ensures) ∙ not-false _ (c .before .before .before .if2 .left)) (c .before .if3 .taken) (c .cut .ensures)
+returns-3 c = front-cut _ _ _ _ _ (c .before .before .before .before .before .kind-of .ensures) (omega arith)
+    (sym (c .before .before .before .before .may-stand .ensures) ∙ not-false _ (c .before .before .before .if2 .left)) (c .before .if3 .taken) (c .cut .ensures)
 
 add-t15 : tie.Need-add-t15
 add-t15 c = search needs
@@ -45,7 +46,8 @@ after-requires : tie.Need-after-requires
 after-requires c κs = search needs
 
 returns-4 : tie.Need-returns-4
-returns-4 c = front-whole _ _ _ _ _ (c .before .before .before .before .before .before .kind-of .ensures) (omega arith) (sym (c .before .before .before .before .before .may-stand .ensures) ∙ not-false _ (c .before .before .before .before .if2 .left)) (c .before .before .if3 .left) (c .after .ensures)
+returns-4 c = front-whole _ _ _ _ _ (c .before .before .before .before .before .before .kind-of .ensures) (omega arith)
+    (sym (c .before .before .before .before .before .may-stand .ensures) ∙ not-false _ (c .before .before .before .before .if2 .left)) (c .before .before .if3 .left) (c .after .ensures)
 
 pub look-spec : {M : Type 1} → statement M
 look-spec =

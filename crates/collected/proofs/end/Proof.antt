@@ -51,7 +51,8 @@ returns-2 : tie.Need-returns-2
 returns-2 c =
     let e = c .before .before .before .before .before .before .before in
     let s = e .before .before .before .before .before in
-    end-none (now (s .args .state)) (now (s .args .line)) (now (s .args .told)) (long e) (sym (c .before .before .before .before .before .holds-replay .ensures) ∙ not-true (c .before .before .before .before .before .holds-replay .result) (c .before .before .before .before .if2 .taken))
+    end-none (now (s .args .state)) (now (s .args .line)) (now (s .args .told)) (long e) (sym (c .before .before .before .before .before .holds-replay .ensures) ∙ not-true
+    (c .before .before .before .before .before .holds-replay .result) (c .before .before .before .before .if2 .taken))
     (c .before .before .quiet2 .ensures .0) (c .before .before .quiet2 .ensures .1)
 
 load-requires : tie.Need-load-requires

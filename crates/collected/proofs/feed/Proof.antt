@@ -32,7 +32,8 @@ same-length c = search needs
 returns : tie.Need-returns
 returns c =
     let s = c .before .before .before .before .before .before .before .before .before .before in
-    feed-short (now (s .args .state)) (now (s .args .lump)) (now (s .args .line)) (now (s .args .told)) (sym (c .before .before .before .before .before .is-short .ensures) ∙ c .before .before .before .before .if1 .taken)
+    feed-short (now (s .args .state)) (now (s .args .lump)) (now (s .args .line)) (now (s .args .told))
+    (sym (c .before .before .before .before .before .is-short .ensures) ∙ c .before .before .before .before .if1 .taken)
     (c .before .before .quiet .ensures .0) (c .before .before .quiet .ensures .1)
 
 holds-replay-requires : tie.Need-holds-replay-requires
@@ -51,7 +52,9 @@ returns-2 : tie.Need-returns-2
 returns-2 c =
     let e = c .before .before .before .before .before .before .before in
     let s = e .before .before .before .before .before .before in
-    feed-none (now (s .args .state)) (now (s .args .lump)) (now (s .args .line)) (now (s .args .told)) (long e) (sym (c .before .before .before .before .before .holds-replay .ensures) ∙ not-true (c .before .before .before .before .before .holds-replay .result) (c .before .before .before .before .if2 .taken))
+    feed-none (now (s .args .state)) (now (s .args .lump)) (now (s .args .line)) (now (s .args .told)) (long e)
+    (sym (c .before .before .before .before .before .holds-replay .ensures) ∙ not-true (c .before .before .before .before .before .holds-replay .result)
+    (c .before .before .before .before .if2 .taken))
     (c .before .before .quiet2 .ensures .0) (c .before .before .quiet2 .ensures .1)
 
 load-requires : tie.Need-load-requires
@@ -82,7 +85,12 @@ feed-requires : tie.Need-feed-requires
 feed-requires c κs = search needs
 
 store-requires : tie.Need-store-requires
-store-requires c κs = omega (arith, holding (now (c .before .before .before .before .before .before .before .before .before .before .before .before .before .before .before .before .before .args .state)) (yes (c .before .before .before .before .before .before .before .before)))
+store-requires c κs = omega (
+  arith,
+  holding (now
+      (c .before .before .before .before .before .before .before .before .before .before .before .before .before .before .before .before .before .args .state))
+      (yes (c .before .before .before .before .before .before .before .before)),
+)
 
 found-requires-2 : tie.Need-found-requires-2
 found-requires-2 c κs = search needs

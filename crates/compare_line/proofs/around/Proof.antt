@@ -30,7 +30,8 @@ same-length c = search needs
 returns : tie.Need-returns
 returns c = (
   joined (omega arith)
-      (joined (omega arith) (c .before .before .before .before .before .before .before .before .before .before .put-text .ensures) (says-number (c .before .before .before .before .before .before .put-number .ensures)))
+      (joined (omega arith) (c .before .before .before .before .before .before .before .before .before .before .put-text .ensures)
+      (says-number (c .before .before .before .before .before .before .put-number .ensures)))
       (c .before .before .put-text2 .ensures),
   omega (
     arith,

@@ -35,7 +35,8 @@ is-record-requires c κs = search needs
 -- src/lib.rt:110:13
 returns : tie.Need-returns Inv-loop μ-loop
 returns c = (
-  form-ends _ _ _ _ _ _ (c .before .before .form-step .ensures .0) (c .before .before .before .loop-test .taken) (sym (c .before .is-record .ensures) ∙ not-true _ (c .if1 .taken)) (c .before .before .before .before .loop .inv .1),
+  form-ends _ _ _ _ _ _ (c .before .before .form-step .ensures .0) (c .before .before .before .loop-test .taken)
+      (sym (c .before .is-record .ensures) ∙ not-true _ (c .if1 .taken)) (c .before .before .before .before .loop .inv .1),
   c .before .before .form-step .ensures .1,
 )
 
@@ -51,7 +52,8 @@ loop-less c = search needs
 loop-again : tie.Need-loop-again Inv-loop μ-loop
 loop-again c = (
   c .before .before .form-step .ensures .1,
-  form-goes _ _ _ _ _ _ (c .before .before .form-step .ensures .0) (c .before .before .before .loop-test .taken) (sym (c .before .is-record .ensures) ∙ not-false _ (c .if1 .left)) (c .before .before .before .before .loop .inv .1),
+  form-goes _ _ _ _ _ _ (c .before .before .form-step .ensures .0) (c .before .before .before .loop-test .taken)
+      (sym (c .before .is-record .ensures) ∙ not-false _ (c .if1 .left)) (c .before .before .before .before .loop .inv .1),
 )
 
 -- src/lib.rt:114:5

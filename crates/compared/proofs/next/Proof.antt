@@ -35,7 +35,8 @@ is-same-requires c κs = search needs
 -- src/lib.rt:269:13
 returns : tie.Need-returns Inv-loop μ-loop
 returns c = (
-  pass-ends _ _ _ _ _ _ _ _ (c .before .before .pair .ensures .0) (c .before .before .before .loop-test .taken) (sym (c .before .is-same .ensures) ∙ not-true _ (c .if1 .taken)) (c .before .before .before .before .loop .inv .1),
+  pass-ends _ _ _ _ _ _ _ _ (c .before .before .pair .ensures .0) (c .before .before .before .loop-test .taken)
+      (sym (c .before .is-same .ensures) ∙ not-true _ (c .if1 .taken)) (c .before .before .before .before .loop .inv .1),
   c .before .before .pair .ensures .1,
 )
 
@@ -51,7 +52,8 @@ loop-less c = search needs
 loop-again : tie.Need-loop-again Inv-loop μ-loop
 loop-again c = (
   c .before .before .pair .ensures .1,
-  pass-goes _ _ _ _ _ _ _ _ (c .before .before .pair .ensures .0) (c .before .before .before .loop-test .taken) (sym (c .before .is-same .ensures) ∙ not-false _ (c .if1 .left)) (c .before .before .before .before .loop .inv .1),
+  pass-goes _ _ _ _ _ _ _ _ (c .before .before .pair .ensures .0) (c .before .before .before .loop-test .taken)
+      (sym (c .before .is-same .ensures) ∙ not-false _ (c .if1 .left)) (c .before .before .before .before .loop .inv .1),
 )
 
 -- src/lib.rt:273:5

@@ -106,7 +106,8 @@ returns c =
     let a = start .args in
     let told = c .before .before in
     pair-halts (a .p) (a .xs .now) (a .ys .now) (a .ends) (a .closes) _ _ _ _
-    (told .before .before .before .before .before .before .before .before .look .ensures) (told .before .before .before .before .before .before .look2 .ensures) (told .before .same .ensures) (told .judge .ensures)
+    (told .before .before .before .before .before .before .before .before .look .ensures) (told .before .before .before .before .before .before .look2 .ensures)
+    (told .before .same .ensures) (told .judge .ensures)
     (sym (c .before .takes .ensures) ∙ not-true _ (c .if1 .taken)) (start .pre .0) (start .pre .1)
 
 -- src/lib.rt:219:17
@@ -124,7 +125,8 @@ returns-2 c =
     let a = start .args in
     let told = c .before .before .before .before in
     pair-moves (a .p) (a .xs .now) (a .ys .now) (a .ends) (a .closes) _ _ _ _
-    (told .before .before .before .before .before .before .before .before .look .ensures) (told .before .before .before .before .before .before .look2 .ensures) (told .before .same .ensures) (told .judge .ensures)
+    (told .before .before .before .before .before .before .before .before .look .ensures) (told .before .before .before .before .before .before .look2 .ensures)
+    (told .before .same .ensures) (told .judge .ensures)
     (sym (c .before .before .before .takes .ensures) ∙ not-false _ (c .before .before .if1 .left)) (start .pre .0) (start .pre .1) _ _ (c .before .counted .ensures) (c .line-more .ensures)
 
 pub pair-spec : {M : Type 1} → statement M

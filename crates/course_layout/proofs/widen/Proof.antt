@@ -48,8 +48,12 @@ loop-less c = omega arith
 loop-again : tie.Need-loop-again Inv-loop μ-loop
 loop-again c =
     let p = c .before .before in
-    let n = whole p in
-    (omega arith, copied-more (now (p .before .args .from)) (now (p .before .args .to)) (p .loop .to) (p .loop .i) 0 (p .loop .inv .1) (omega arith) (omega arith), λ j h. omega (arith, c .shared-slice-known .given j))
+    let n = whole p in (
+      omega arith,
+      copied-more (now (p .before .args .from)) (now (p .before .args .to)) (p .loop .to) (p .loop .i) 0 (p .loop .inv .1)
+          (omega arith) (omega arith),
+      λ j h. omega (arith, c .shared-slice-known .given j),
+    )
 
 same-length : tie.Need-same-length Inv-loop μ-loop
 same-length c = whole (c .before)

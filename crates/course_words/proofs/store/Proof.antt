@@ -38,7 +38,8 @@ put-lists-requires : tie.Need-put-lists-requires
 put-lists-requires c κs = search needs
 
 slice-aggregate-put-due : tie.Need-slice-aggregate-put-due
-slice-aggregate-put-due c = sym (sized (c .before .before .before .before .before .before .before .before .before .before .before .before .before .before .before .before .before .before .before .before .before .before .before) .4)
+slice-aggregate-put-due c = sym (sized
+    (c .before .before .before .before .before .before .before .before .before .before .before .before .before .before .before .before .before .before .before .before .before .before .before) .4)
 
 put-due-requires : tie.Need-put-due-requires
 put-due-requires c κs =

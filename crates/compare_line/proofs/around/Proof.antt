@@ -10,23 +10,18 @@ use Rattle.compare_line.proofs.around.Lts as lts
 use Rattle.page.proofs.put_number.Reads as put-number-reads
 use Rattle.page.proofs.put_text.Reads as put-text-reads
 
--- src/lib.rt:15:9
 put-text-requires : tie.Need-put-text-requires
 put-text-requires c κs = search needs
 
--- src/lib.rt:16:9
 put-number-requires : tie.Need-put-number-requires
 put-number-requires c κs = search needs
 
--- src/lib.rt:17:5
 put-text-requires-2 : tie.Need-put-text-requires-2
 put-text-requires-2 c κs = search needs
 
--- src/lib.rt:11:1
 same-length : tie.Need-same-length
 same-length c = search needs
 
--- src/lib.rt:11:1
 returns : tie.Need-returns
 returns c = (
   joined (omega arith)

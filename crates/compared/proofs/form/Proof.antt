@@ -20,19 +20,15 @@ Inv-loop at bytes ends f₀ left₀ f left = (f .used ≤ length bytes) × (form
 abbrev μ-loop : tie.MeasureT-loop
 μ-loop at bytes ends f₀ left₀ f left = left
 
--- src/lib.rt:106:5
 loop-holds : tie.Need-loop-holds Inv-loop μ-loop
 loop-holds c = (omega arith, refl)
 
--- src/lib.rt:107:9
 form-step-requires : tie.Need-form-step-requires Inv-loop μ-loop
 form-step-requires c κs = c .before .loop .inv .0
 
--- src/lib.rt:109:13
 is-record-requires : tie.Need-is-record-requires Inv-loop μ-loop
 is-record-requires c κs = search needs
 
--- src/lib.rt:110:13
 returns : tie.Need-returns Inv-loop μ-loop
 returns c = (
   form-ends _ _ _ _ _ _ (c .before .before .form-step .ensures .0) (c .before .before .before .loop-test .taken)
@@ -40,15 +36,12 @@ returns c = (
   c .before .before .form-step .ensures .1,
 )
 
--- src/lib.rt:112:9
 sub-left : tie.Need-sub-left Inv-loop μ-loop
 sub-left c = search needs
 
--- src/lib.rt:106:5
 loop-less : tie.Need-loop-less Inv-loop μ-loop
 loop-less c = search needs
 
--- src/lib.rt:106:5
 loop-again : tie.Need-loop-again Inv-loop μ-loop
 loop-again c = (
   c .before .before .form-step .ensures .1,
@@ -56,11 +49,9 @@ loop-again c = (
       (sym (c .before .is-record .ensures) ∙ not-false _ (c .if1 .left)) (c .before .before .before .before .loop .inv .1),
 )
 
--- src/lib.rt:114:5
 form-step-requires-2 : tie.Need-form-step-requires-2 Inv-loop μ-loop
 form-step-requires-2 c κs = c .before .loop .inv .0
 
--- src/lib.rt:96:1
 returns-2 : tie.Need-returns-2 Inv-loop μ-loop
 returns-2 c = (form-last _ _ _ _ _ _ (c .form-step2 .ensures .0) (c .before .loop-test .left) (c .before .before .loop .inv .1), c .form-step2 .ensures .1)
 

@@ -1,3 +1,4 @@
+-- `form_step`: what stands at the front of the bytes left, and the place after it.
 use mathlib.Core.Path.{_≡_, refl, sym, ap, subst, _∙_}
 use native.Mathlib.Omega.{arith}
 use borrow.Author.Tests.{not-true, not-false}
@@ -10,33 +11,26 @@ use Rattle.compared.proofs.form_step.Lts as lts
 use Rattle.compared.proofs.further.Reads as further-reads
 use Rattle.ahead.proofs.look.Reads as look-reads
 
--- src/lib.rt:83:41
 sub-look : tie.Need-sub-look
 sub-look c = search needs
 
--- src/lib.rt:83:41
 part-look-start : tie.Need-part-look-start
 part-look-start c = search needs
 
--- src/lib.rt:83:41
 part-look-end : tie.Need-part-look-end
 part-look-end c = search needs
 
--- src/lib.rt:83:9
 look-requires : tie.Need-look-requires
 look-requires c κs = search needs
 
--- src/lib.rt:89:13
 further-requires : tie.Need-further-requires
 further-requires c κs = search needs
 
--- src/lib.rt:90:15
 add-t10 : tie.Need-add-t10
 add-t10 c =
     let a = c .before .before .before .before .before .args in
     omega (arith, looked-within _ (a .f .phase) (a .f .used) (a .bytes .now) (a .ends) (c .before .before .look .ensures) (omega arith))
 
--- src/lib.rt:77:1
 returns : tie.Need-returns
 returns c =
     let a = c .before .before .before .before .before .args in

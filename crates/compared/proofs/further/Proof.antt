@@ -1,3 +1,4 @@
+-- `further`: an offset so many bytes further, which stays at the end of 64 bits.
 use mathlib.Core.Path.{_≡_, refl, sym, ap, subst, _∙_}
 use native.Mathlib.Omega.{arith}
 use borrow.Author.Tests.{not-true, not-false}
@@ -9,19 +10,15 @@ use Rattle.compared.proofs.further.Tie as tie
 use Rattle.compared.proofs.further.Reads as reads
 use Rattle.compared.proofs.further.Lts as lts
 
--- src/lib.rt:68:16
 sub-room : tie.Need-sub-room
 sub-room c = search needs
 
--- src/lib.rt:70:9
 add-result : tie.Need-add-result
 add-result c = search needs
 
--- src/lib.rt:65:1
 returns : tie.Need-returns
 returns c = sym (capped-small _ (omega arith))
 
--- src/lib.rt:65:1
 returns-2 : tie.Need-returns-2
 returns-2 c = capped-large _ (omega arith)
 

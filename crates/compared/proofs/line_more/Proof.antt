@@ -1,3 +1,4 @@
+-- `line_more`: how many lines there are with that of an event.
 use mathlib.Core.Path.{_≡_, refl, sym, ap, subst, _∙_}
 use native.Mathlib.Omega.{arith}
 use borrow.Author.Tests.{not-true, not-false}
@@ -8,47 +9,36 @@ use Rattle.compared.proofs.line_more.Reads as reads
 use Rattle.compared.proofs.line_more.Lts as lts
 use Rattle.records.proofs.counted.Reads as counted-reads
 
--- src/lib.rt:176:24
 enum-told : tie.Need-enum-told
 enum-told c = search needs
 
--- src/lib.rt:177:27
 enum-told-2 : tie.Need-enum-told-2
 enum-told-2 c = search needs
 
--- src/lib.rt:177:27
 counted-requires : tie.Need-counted-requires
 counted-requires c κs = search needs
 
--- src/lib.rt:178:27
 enum-told-3 : tie.Need-enum-told-3
 enum-told-3 c = search needs
 
--- src/lib.rt:179:24
 enum-told-4 : tie.Need-enum-told-4
 enum-told-4 c = search needs
 
--- src/lib.rt:180:26
 enum-told-5 : tie.Need-enum-told-5
 enum-told-5 c = search needs
 
--- src/lib.rt:172:1
 returns : tie.Need-returns
 returns c = search needs
 
--- src/lib.rt:172:1
 returns-2 : tie.Need-returns-2
 returns-2 c = simp (c .before .enum-told2 .given .1, c .counted .ensures)
 
--- src/lib.rt:172:1
 returns-3 : tie.Need-returns-3
 returns-3 c = search needs
 
--- src/lib.rt:172:1
 returns-4 : tie.Need-returns-4
 returns-4 c = search needs
 
--- src/lib.rt:172:1
 returns-5 : tie.Need-returns-5
 returns-5 c = search needs
 

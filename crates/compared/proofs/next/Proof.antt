@@ -20,19 +20,15 @@ Inv-loop xs ys ends closes now₀ left₀ now left = ((now .here ≤ length xs) 
 abbrev μ-loop : tie.MeasureT-loop
 μ-loop xs ys ends closes now₀ left₀ now left = left
 
--- src/lib.rt:265:5
 loop-holds : tie.Need-loop-holds Inv-loop μ-loop
 loop-holds c = ((omega arith, omega arith), refl)
 
--- src/lib.rt:266:9
 pair-requires : tie.Need-pair-requires Inv-loop μ-loop
 pair-requires c κs = c .before .loop .inv .0
 
--- src/lib.rt:268:13
 is-same-requires : tie.Need-is-same-requires Inv-loop μ-loop
 is-same-requires c κs = search needs
 
--- src/lib.rt:269:13
 returns : tie.Need-returns Inv-loop μ-loop
 returns c = (
   pass-ends _ _ _ _ _ _ _ _ (c .before .before .pair .ensures .0) (c .before .before .before .loop-test .taken)
@@ -40,15 +36,12 @@ returns c = (
   c .before .before .pair .ensures .1,
 )
 
--- src/lib.rt:271:9
 sub-left : tie.Need-sub-left Inv-loop μ-loop
 sub-left c = search needs
 
--- src/lib.rt:265:5
 loop-less : tie.Need-loop-less Inv-loop μ-loop
 loop-less c = search needs
 
--- src/lib.rt:265:5
 loop-again : tie.Need-loop-again Inv-loop μ-loop
 loop-again c = (
   c .before .before .pair .ensures .1,
@@ -56,11 +49,9 @@ loop-again c = (
       (sym (c .before .is-same .ensures) ∙ not-false _ (c .if1 .left)) (c .before .before .before .before .loop .inv .1),
 )
 
--- src/lib.rt:273:5
 pair-requires-2 : tie.Need-pair-requires-2 Inv-loop μ-loop
 pair-requires-2 c κs = c .before .loop .inv .0
 
--- src/lib.rt:259:1
 returns-2 : tie.Need-returns-2 Inv-loop μ-loop
 returns-2 c = (
   pass-last _ _ _ _ _ _ _ _ (c .pair2 .ensures .0) (c .before .loop-test .left) (c .before .before .loop .inv .1),

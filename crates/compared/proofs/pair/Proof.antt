@@ -15,91 +15,71 @@ use Rattle.ahead.proofs.look.Reads as look-reads
 use Rattle.records.proofs.counted.Reads as counted-reads
 use Rattle.text.proofs.token.same.Reads as same-reads
 
--- src/lib.rt:194:41
 sub-look : tie.Need-sub-look
 sub-look c = search needs
 
--- src/lib.rt:194:41
 part-look-start : tie.Need-part-look-start
 part-look-start c = search needs
 
--- src/lib.rt:194:41
 part-look-end : tie.Need-part-look-end
 part-look-end c = search needs
 
--- src/lib.rt:194:9
 look-requires : tie.Need-look-requires
 look-requires c κs = search needs
 
--- src/lib.rt:195:42
 sub-look-2 : tie.Need-sub-look-2
 sub-look-2 c = search needs
 
--- src/lib.rt:195:42
 part-look-start-2 : tie.Need-part-look-start-2
 part-look-start-2 c = search needs
 
--- src/lib.rt:195:42
 part-look-end-2 : tie.Need-part-look-end-2
 part-look-end-2 c = search needs
 
--- src/lib.rt:195:9
 look-requires-2 : tie.Need-look-requires-2
 look-requires-2 c κs = search needs
 
--- src/lib.rt:198:17
 add-a-end : tie.Need-add-a-end
 add-a-end c =
     let a = c .before .before .before .before .before .before .before .args in
     omega (arith, looked-within _ (a .p .first) (a .p .here) (a .xs .now) (a .ends) (c .before .before .before .look .ensures) (omega arith))
 
--- src/lib.rt:199:17
 add-b-end : tie.Need-add-b-end
 add-b-end c =
     let a = c .before .before .before .before .before .before .before .before .args in
     omega (arith, looked-within _ (a .p .second) (a .p .there) (a .ys .now) (a .closes) (c .before .before .look2 .ensures) (omega arith))
 
--- src/lib.rt:200:28
 sub-same : tie.Need-sub-same
 sub-same c = search needs
 
--- src/lib.rt:200:28
 part-same-start : tie.Need-part-same-start
 part-same-start c = search needs
 
--- src/lib.rt:200:28
 part-same-end : tie.Need-part-same-end
 part-same-end c =
     let a = c .before .before .before .before .before .before .before .before .args in
     looked-within _ (a .p .first) (a .p .here) (a .xs .now) (a .ends) (c .before .before .before .before .look .ensures) (omega arith)
 
--- src/lib.rt:200:43
 sub-same-2 : tie.Need-sub-same-2
 sub-same-2 c = search needs
 
--- src/lib.rt:200:43
 part-same-start-2 : tie.Need-part-same-start-2
 part-same-start-2 c = search needs
 
--- src/lib.rt:200:43
 part-same-end-2 : tie.Need-part-same-end-2
 part-same-end-2 c =
     let a = c .before .before .before .before .before .before .before .before .before .args in
     looked-within _ (a .p .second) (a .p .there) (a .ys .now) (a .closes) (c .before .before .before .look2 .ensures) (omega arith)
 
--- src/lib.rt:200:9
 same-requires : tie.Need-same-requires
 same-requires c κs = search needs
 
--- src/lib.rt:201:9
 judge-requires : tie.Need-judge-requires
 judge-requires c κs = search needs
 
--- src/lib.rt:202:9
 takes-requires : tie.Need-takes-requires
 takes-requires c κs = search needs
 
--- src/lib.rt:203:9
 returns : tie.Need-returns
 returns c =
     let start = c .before .before .before .before .before .before .before .before .before .before .before .before .before .before in
@@ -110,15 +90,12 @@ returns c =
     (told .before .same .ensures) (told .judge .ensures)
     (sym (c .before .takes .ensures) ∙ not-true _ (c .if1 .taken)) (start .pre .0) (start .pre .1)
 
--- src/lib.rt:219:17
 counted-requires : tie.Need-counted-requires
 counted-requires c κs = search needs
 
--- src/lib.rt:220:16
 line-more-requires : tie.Need-line-more-requires
 line-more-requires c κs = search needs
 
--- src/lib.rt:185:1
 returns-2 : tie.Need-returns-2
 returns-2 c =
     let start = c .before .before .before .before .before .before .before .before .before .before .before .before .before .before .before .before in

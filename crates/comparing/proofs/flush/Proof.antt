@@ -1,3 +1,4 @@
+-- `flush`: a front of the page that is there.
 use mathlib.Core.Path.{sym}
 use native.Mathlib.Omega.{arith}
 use lib.Seq.{length-take-le}
@@ -9,27 +10,21 @@ use Rattle.comparing.proofs.flush.Lts as lts
 use Rattle.io.proofs.write_all.Reads as write-all-reads
 use Rattle.os.proofs.fail.Reads as fail-reads
 
--- src/lib.rt:186:51
 slice-aggregate-write-all : tie.Need-slice-aggregate-write-all
 slice-aggregate-write-all c = sym (length-take-le _ _ (omega arith))
 
--- src/lib.rt:186:9
 write-all-requires : tie.Need-write-all-requires
 write-all-requires c κs = search needs
 
--- src/lib.rt:188:18
 slice-aggregate-fail : tie.Need-slice-aggregate-fail
 slice-aggregate-fail c = search needs
 
--- src/lib.rt:188:9
 fail-requires : tie.Need-fail-requires
 fail-requires c κs = search needs
 
--- src/lib.rt:183:1
 returns : tie.Need-returns
 returns c = search needs
 
--- src/lib.rt:183:1
 returns-2 : tie.Need-returns-2
 returns-2 c = search needs
 

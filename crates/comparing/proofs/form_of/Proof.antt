@@ -17,43 +17,33 @@ Inv-loop fd chunk₀ now₀ turns₀ chunk now turns = (now .side .from ≤ now 
 abbrev μ-loop : tie.MeasureT-loop
 μ-loop fd chunk₀ now₀ turns₀ chunk now turns = turns
 
--- src/lib.rt:164:15
 fresh-requires : tie.Need-fresh-requires Inv-loop μ-loop
 fresh-requires c κs = search needs
 
--- src/lib.rt:171:5
 loop-holds : tie.Need-loop-holds Inv-loop μ-loop
 loop-holds c = (omega arith, omega arith, refl)
 
--- src/lib.rt:172:9
 read-form-requires : tie.Need-read-form-requires Inv-loop μ-loop
 read-form-requires c κs = (omega arith, omega arith)
 
--- src/lib.rt:173:9
 sub-turns : tie.Need-sub-turns Inv-loop μ-loop
 sub-turns c = search needs
 
--- src/lib.rt:171:5
 loop-less : tie.Need-loop-less Inv-loop μ-loop
 loop-less c = search needs
 
--- src/lib.rt:171:5
 loop-again : tie.Need-loop-again Inv-loop μ-loop
 loop-again c = (omega arith, omega arith, omega arith)
 
--- src/lib.rt:177:9
 same-length : tie.Need-same-length Inv-loop μ-loop
 same-length c = omega arith
 
--- src/lib.rt:177:9
 returns : tie.Need-returns Inv-loop μ-loop
 returns c = search needs
 
--- src/lib.rt:162:1
 same-length-2 : tie.Need-same-length-2 Inv-loop μ-loop
 same-length-2 c = omega arith
 
--- src/lib.rt:162:1
 returns-2 : tie.Need-returns-2 Inv-loop μ-loop
 returns-2 c = search needs
 

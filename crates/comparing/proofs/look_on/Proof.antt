@@ -10,31 +10,24 @@ use Rattle.comparing.proofs.heed.Reads as heed-reads
 use Rattle.comparing.proofs.passed.Reads as passed-reads
 use Rattle.comparing.proofs.told_by.Reads as told-by-reads
 
--- src/lib.rt:304:9
 told-by-requires : tie.Need-told-by-requires
 told-by-requires c κs = search needs
 
--- src/lib.rt:309:9
 heed-requires : tie.Need-heed-requires
 heed-requires c κs = search needs
 
--- src/lib.rt:312:16
 passed-requires : tie.Need-passed-requires
 passed-requires c κs = search needs
 
--- src/lib.rt:313:17
 passed-requires-2 : tie.Need-passed-requires-2
 passed-requires-2 c κs = search needs
 
--- src/lib.rt:315:13
 goes-requires : tie.Need-goes-requires
 goes-requires c κs = search needs
 
--- src/lib.rt:296:1
 same-length : tie.Need-same-length
 same-length c = search needs
 
--- src/lib.rt:296:1
 returns : tie.Need-returns
 returns c =
     let pre = c .before .before .before .before .before .before .before .before .before .before .before .before .before .before .before .pre in
@@ -42,11 +35,9 @@ returns c =
     let two = c .before .before .passed2 .ensures in
     ((one .0, omega (arith, one .1, pre .0 .1)), ((two .0, omega (arith, two .1, pre .1 .0 .1)), c .before .before .before .before .before .before .heed .ensures))
 
--- src/lib.rt:296:1
 same-length-2 : tie.Need-same-length-2
 same-length-2 c = search needs
 
--- src/lib.rt:296:1
 returns-2 : tie.Need-returns-2
 returns-2 c =
     let pre = c .before .before .before .before .before .before .before .before .before .before .before .before .before .before .before .pre in

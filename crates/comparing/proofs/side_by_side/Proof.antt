@@ -20,67 +20,51 @@ Inv-loop first second one₀ two₀ page₀ now₀ turns₀ one two page now tur
 abbrev μ-loop : tie.MeasureT-loop
 μ-loop first second one₀ two₀ page₀ now₀ turns₀ one two page now turns = turns
 
--- src/lib.rt:374:15
 start-requires : tie.Need-start-requires Inv-loop μ-loop
 start-requires c κs = search needs
 
--- src/lib.rt:375:16
 fresh-requires : tie.Need-fresh-requires Inv-loop μ-loop
 fresh-requires c κs = search needs
 
--- src/lib.rt:376:17
 fresh-requires-2 : tie.Need-fresh-requires-2 Inv-loop μ-loop
 fresh-requires-2 c κs = search needs
 
--- src/lib.rt:381:5
 loop-holds : tie.Need-loop-holds Inv-loop μ-loop
 loop-holds c = ((omega arith, omega arith, omega arith, omega arith, omega arith), (refl, refl, refl))
 
--- src/lib.rt:382:9
 turn-requires : tie.Need-turn-requires Inv-loop μ-loop
 turn-requires c κs = ((omega arith, omega arith), ((omega arith, omega arith), omega arith))
 
--- src/lib.rt:383:9
 sub-turns : tie.Need-sub-turns Inv-loop μ-loop
 sub-turns c = search needs
 
--- src/lib.rt:381:5
 loop-less : tie.Need-loop-less Inv-loop μ-loop
 loop-less c = search needs
 
--- src/lib.rt:381:5
 loop-again : tie.Need-loop-again Inv-loop μ-loop
 loop-again c = ((omega arith, omega arith, omega arith, omega arith, omega arith), (omega arith, omega arith, omega arith))
 
--- src/lib.rt:364:1
 same-length : tie.Need-same-length Inv-loop μ-loop
 same-length c = omega arith
 
--- src/lib.rt:364:1
 same-length-2 : tie.Need-same-length-2 Inv-loop μ-loop
 same-length-2 c = omega arith
 
--- src/lib.rt:364:1
 same-length-3 : tie.Need-same-length-3 Inv-loop μ-loop
 same-length-3 c = omega arith
 
--- src/lib.rt:364:1
 returns : tie.Need-returns Inv-loop μ-loop
 returns c = search needs
 
--- src/lib.rt:364:1
 same-length-4 : tie.Need-same-length-4 Inv-loop μ-loop
 same-length-4 c = omega arith
 
--- src/lib.rt:364:1
 same-length-5 : tie.Need-same-length-5 Inv-loop μ-loop
 same-length-5 c = omega arith
 
--- src/lib.rt:364:1
 same-length-6 : tie.Need-same-length-6 Inv-loop μ-loop
 same-length-6 c = omega arith
 
--- src/lib.rt:364:1
 returns-2 : tie.Need-returns-2 Inv-loop μ-loop
 returns-2 c = search needs
 

@@ -16,43 +16,33 @@ Inv-loop chunk₀ from to n i₀ chunk i = (i ≤ n) × Moved chunk₀ from i ch
 abbrev μ-loop : tie.MeasureT-loop
 μ-loop chunk₀ from to n i₀ chunk i = n - i
 
--- src/lib.rt:55:13
 sub-n : tie.Need-sub-n Inv-loop μ-loop
 sub-n c = search needs
 
--- src/lib.rt:57:5
 loop-holds : tie.Need-loop-holds Inv-loop μ-loop
 loop-holds c = (omega arith, none-moved _ _)
 
--- src/lib.rt:58:26
 add-chunk : tie.Need-add-chunk Inv-loop μ-loop
 add-chunk c = search needs
 
--- src/lib.rt:58:20
 slice-read-chunk : tie.Need-slice-read-chunk Inv-loop μ-loop
 slice-read-chunk c = search needs
 
--- src/lib.rt:58:9
 slice-write-chunk : tie.Need-slice-write-chunk Inv-loop μ-loop
 slice-write-chunk c = search needs
 
--- src/lib.rt:59:9
 add-i : tie.Need-add-i Inv-loop μ-loop
 add-i c = search needs
 
--- src/lib.rt:57:5
 loop-less : tie.Need-loop-less Inv-loop μ-loop
 loop-less c = search needs
 
--- src/lib.rt:57:5
 loop-again : tie.Need-loop-again Inv-loop μ-loop
 loop-again c = (omega arith, one-moved _ _ _ _ (c .before .before .loop .inv .1) (omega arith))
 
--- src/lib.rt:51:1
 same-length : tie.Need-same-length Inv-loop μ-loop
 same-length c = c .before .loop .inv .1 .long
 
--- src/lib.rt:51:1
 returns : tie.Need-returns Inv-loop μ-loop
 returns c = (omega arith, c .before .loop .inv .1 .front)
 

@@ -11,15 +11,12 @@ use Rattle.gather.proofs.grow.Reads as grow-reads
 use Rattle.gather.proofs.is_inside.Reads as is-inside-reads
 use Rattle.records.proofs.push.Reads as push-reads
 
--- src/lib.rt:94:8
 is-inside-requires : tie.Need-is-inside-requires
 is-inside-requires c κs = search needs
 
--- src/lib.rt:95:9
 grow-requires : tie.Need-grow-requires
 grow-requires c κs = (sym (c .before .is-inside .ensures) ∙ c .if1 .taken, c .before .before .before .pre)
 
--- src/lib.rt:95:9
 returns : tie.Need-returns
 returns c =
     let p = c .before in
@@ -27,15 +24,12 @@ returns c =
     let a = s .args in
     advance-body (a .f) (now (a .bytes)) (a .from) _ _ (s .pre) (sym (p .before .is-inside .ensures) ∙ p .if1 .taken) (c .grow .ensures .0) (c .grow .ensures .1)
 
--- src/lib.rt:98:33
 shared-slice-read-push : tie.Need-shared-slice-read-push
 shared-slice-read-push c = search needs
 
--- src/lib.rt:98:16
 push-requires : tie.Need-push-requires
 push-requires c κs = search needs
 
--- src/lib.rt:90:1
 returns-2 : tie.Need-returns-2
 returns-2 c =
     let p = c .before .before in

@@ -9,19 +9,15 @@ use Rattle.gather.proofs.fed_on.Tie as tie
 use Rattle.gather.proofs.fed_on.Reads as reads
 use Rattle.gather.proofs.fed_on.Lts as lts
 
--- src/lib.rt:47:14
 sub-if1 : tie.Need-sub-if1
 sub-if1 c = search needs
 
--- src/lib.rt:47:32
 add-result : tie.Need-add-result
 add-result c = search needs
 
--- src/lib.rt:43:1
 returns : tie.Need-returns
 returns c = sym (capped-small _ (omega arith))
 
--- src/lib.rt:43:1
 returns-2 : tie.Need-returns-2
 returns-2 c = capped-full _ (omega arith)
 

@@ -17,42 +17,33 @@ Inv-loop have bytes from n filled₀ k₀ filled k = (k ≤ n) × (filled ≡ se
 abbrev μ-loop : tie.MeasureT-loop
 μ-loop have bytes from n filled₀ k₀ filled k = n - k
 
--- src/lib.rt:57:5
 loop-holds : tie.Need-loop-holds Inv-loop μ-loop
 loop-holds c = (omega arith, refl)
 
--- src/lib.rt:58:34
 add-filled : tie.Need-add-filled Inv-loop μ-loop
 add-filled c = omega (arith, c .before .before .pre .1)
 
--- src/lib.rt:58:28
 shared-slice-read-filled : tie.Need-shared-slice-read-filled Inv-loop μ-loop
 shared-slice-read-filled c = omega (arith, c .before .before .before .pre .1)
 
--- src/lib.rt:58:16
 add-filled-2 : tie.Need-add-filled-2 Inv-loop μ-loop
 add-filled-2 c = omega (arith, c .before .before .before .pre .0)
 
--- src/lib.rt:58:9
 array-write-filled : tie.Need-array-write-filled Inv-loop μ-loop
 array-write-filled c = omega (arith, c .before .before .before .pre .0)
 
--- src/lib.rt:59:9
 add-k : tie.Need-add-k Inv-loop μ-loop
 add-k c = omega arith
 
--- src/lib.rt:57:5
 loop-less : tie.Need-loop-less Inv-loop μ-loop
 loop-less c = omega arith
 
--- src/lib.rt:57:5
 loop-again : tie.Need-loop-again Inv-loop μ-loop
 loop-again c =
     let p = c .before .before in
     let a = p .before .args in
     (omega arith, rw (p .loop .inv .1) (sets-more (now (a .bytes)) _ _ (a .from) (p .loop .k) (omega (arith, p .before .pre .1))))
 
--- src/lib.rt:51:1
 returns : tie.Need-returns Inv-loop μ-loop
 returns c =
     let p = c .before in

@@ -13,38 +13,30 @@ use Rattle.gather.proofs.least.Reads as least-reads
 use Rattle.records.proofs.kind_of.Reads as kind-of-reads
 use Rattle.records.proofs.stage_at.Reads as stage-at-reads
 
--- src/lib.rt:73:9
 kind-of-requires : tie.Need-kind-of-requires
 kind-of-requires c κs = search needs
 
--- src/lib.rt:74:19
 sub-least : tie.Need-sub-least
 sub-least c =
     let s = c .before .before .before .before in
     let w = wants (s .args .f) _ (s .pre .0) (c .before .kind-of .ensures) in
     omega (arith, w .0)
 
--- src/lib.rt:74:37
 sub-least-2 : tie.Need-sub-least-2
 sub-least-2 c = search needs
 
--- src/lib.rt:74:9
 least-requires : tie.Need-least-requires
 least-requires c κs = search needs
 
--- src/lib.rt:77:38
 add-stage-at : tie.Need-add-stage-at
 add-stage-at c = search needs
 
--- src/lib.rt:77:20
 stage-at-requires : tie.Need-stage-at-requires
 stage-at-requires c κs = search needs
 
--- src/lib.rt:80:19
 add-t11 : tie.Need-add-t11
 add-t11 c = search needs
 
--- src/lib.rt:81:19
 fill-requires : tie.Need-fill-requires
 fill-requires c κs =
     let q = c .before .before .before in
@@ -53,11 +45,9 @@ fill-requires c κs =
     let n = c .before .least .ensures in
     (omega (arith, w .0, w .1, n), omega (arith, n, s .pre .1))
 
--- src/lib.rt:83:18
 fed-on-requires : tie.Need-fed-on-requires
 fed-on-requires c κs = search needs
 
--- src/lib.rt:65:1
 returns : tie.Need-returns
 returns c =
     let p = c .before .before .before in

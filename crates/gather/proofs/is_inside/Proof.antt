@@ -6,39 +6,30 @@ use Rattle.gather.proofs.is_inside.Reads as reads
 use Rattle.gather.proofs.is_inside.Lts as lts
 use Rattle.records.proofs.kind_of.Reads as kind-of-reads
 
--- src/lib.rt:26:9
 kind-of-requires : tie.Need-kind-of-requires
 kind-of-requires c κs = search needs
 
--- src/lib.rt:29:25
 enum-told : tie.Need-enum-told
 enum-told c = search needs
 
--- src/lib.rt:30:24
 enum-told-2 : tie.Need-enum-told-2
 enum-told-2 c = search needs
 
--- src/lib.rt:31:25
 enum-told-3 : tie.Need-enum-told-3
 enum-told-3 c = search needs
 
--- src/lib.rt:32:23
 enum-told-4 : tie.Need-enum-told-4
 enum-told-4 c = search needs
 
--- src/lib.rt:23:1
 returns : tie.Need-returns
 returns c = search needs
 
--- src/lib.rt:23:1
 returns-2 : tie.Need-returns-2
 returns-2 c = simp (c .before .before .enum-told2 .given .1, c .before .before .before .before .kind-of .ensures)
 
--- src/lib.rt:23:1
 returns-3 : tie.Need-returns-3
 returns-3 c = search needs
 
--- src/lib.rt:23:1
 returns-4 : tie.Need-returns-4
 returns-4 c = search needs
 

@@ -1,3 +1,4 @@
+-- `begin`: a kind byte, by whether its record may stand there.
 use Rattle.records.specs.Frames.{begun}
 use mathlib.Core.Path.{_≡_, refl, sym, ap, _∙_}
 use native.Mathlib.Omega.{arith}
@@ -13,36 +14,28 @@ use Rattle.records.proofs.kind_of.Reads as kind-of-reads
 use Rattle.records.proofs.may_stand.Reads as may-stand-reads
 use Rattle.records.proofs.stage_at.Reads as stage-at-reads
 
--- src/lib.rt:175:9
 kind-of-requires : tie.Need-kind-of-requires
 kind-of-requires c κs = search needs
 
--- src/lib.rt:177:9
 may-stand-requires : tie.Need-may-stand-requires
 may-stand-requires c κs = search needs
 
--- src/lib.rt:185:18
 counted-requires : tie.Need-counted-requires
 counted-requires c κs = search needs
 
--- src/lib.rt:178:9
 returns : tie.Need-returns
 unfolding begun
 returns c = simp (sym (c .before .before .before .kind-of .ensures), sym (c .before .before .may-stand .ensures) ∙ not-true _ (c .before .if1 .taken), c .counted .ensures)
 
--- src/lib.rt:189:16
 stage-at-requires : tie.Need-stage-at-requires
 stage-at-requires c κs = search needs
 
--- src/lib.rt:190:16
 after-requires : tie.Need-after-requires
 after-requires c κs = search needs
 
--- src/lib.rt:195:14
 counted-requires-2 : tie.Need-counted-requires-2
 counted-requires-2 c κs = search needs
 
--- src/lib.rt:170:1
 returns-2 : tie.Need-returns-2
 unfolding begun
 returns-2 c =

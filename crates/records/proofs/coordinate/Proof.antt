@@ -1,3 +1,4 @@
+-- `coordinate`: two bytes as a signed number of 16 bits.
 use Rattle.records.proofs.Halves.{low, high, high-fits, both}
 use mathlib.Core.Path.{_≡_, refl, sym, ap, _∙_}
 use native.Mathlib.Omega.{arith}
@@ -8,31 +9,24 @@ use Rattle.records.proofs.coordinate.Tie as tie
 use Rattle.records.proofs.coordinate.Reads as reads
 use Rattle.records.proofs.coordinate.Lts as lts
 
--- src/lib.rt:247:25
 mul-v : tie.Need-mul-v
 mul-v c = search needs
 
--- src/lib.rt:247:13
 add-v : tie.Need-add-v
 add-v c = search needs
 
--- src/lib.rt:249:9
 cast-result : tie.Need-cast-result
 cast-result c = search needs
 
--- src/lib.rt:251:9
 cast-result-2 : tie.Need-cast-result-2
 cast-result-2 c = search needs
 
--- src/lib.rt:251:9
 sub-result : tie.Need-sub-result
 sub-result c = high-fits (c .before .args .lo) (c .before .args .hi) (search needs) (search needs)
 
--- src/lib.rt:244:1
 returns : tie.Need-returns
 returns c = both _ _ (search needs) (search needs) _ (low _ _ (search needs) (search needs) (c .if1 .taken))
 
--- src/lib.rt:244:1
 returns-2 : tie.Need-returns-2
 returns-2 c = both _ _ (search needs) (search needs) _ (high _ _ (search needs) (search needs) (c .if1 .left))
 

@@ -1,3 +1,4 @@
+-- `counted`: one more, which stays at the end of 64 bits.
 use Rattle.records.proofs.Counts.{capped-small, capped-last}
 use Rattle.records.specs.Frames.{capped}
 use mathlib.Core.Path.{_≡_, refl, sym, ap, _∙_}
@@ -9,15 +10,12 @@ use Rattle.records.proofs.counted.Tie as tie
 use Rattle.records.proofs.counted.Reads as reads
 use Rattle.records.proofs.counted.Lts as lts
 
--- src/lib.rt:141:23
 add-result : tie.Need-add-result
 add-result c = search needs
 
--- src/lib.rt:138:1
 returns : tie.Need-returns
 returns c = sym (capped-small _ (omega arith))
 
--- src/lib.rt:138:1
 returns-2 : tie.Need-returns-2
 returns-2 c = capped-last _ (omega arith) (omega arith)
 

@@ -1,3 +1,4 @@
+-- `grow`: one byte more in the body.
 use Rattle.records.specs.Frames.{grown}
 use mathlib.Core.Path.{_≡_, refl, sym, ap, _∙_}
 use native.Mathlib.Omega.{arith}
@@ -11,36 +12,28 @@ use Rattle.records.proofs.counted.Reads as counted-reads
 use Rattle.records.proofs.kind_of.Reads as kind-of-reads
 use Rattle.records.proofs.stage_at.Reads as stage-at-reads
 
--- src/lib.rt:207:9
 returns : tie.Need-returns
 unfolding grown
 returns c = simp (le-leb _ _ (c .if1 .taken))
 
--- src/lib.rt:217:5
 array-write-body : tie.Need-array-write-body
 array-write-body c = search needs
 
--- src/lib.rt:218:9
 kind-of-requires : tie.Need-kind-of-requires
 kind-of-requires c κs = search needs
 
--- src/lib.rt:220:25
 add-stage-at : tie.Need-add-stage-at
 add-stage-at c = search needs
 
--- src/lib.rt:220:16
 stage-at-requires : tie.Need-stage-at-requires
 stage-at-requires c κs = search needs
 
--- src/lib.rt:223:15
 add-t14 : tie.Need-add-t14
 add-t14 c = search needs
 
--- src/lib.rt:226:14
 counted-requires : tie.Need-counted-requires
 counted-requires c κs = search needs
 
--- src/lib.rt:200:1
 returns-2 : tie.Need-returns-2
 unfolding grown
 returns-2 c = simp (lt-leb _ _ (c .before .before .before .if1 .left), c .before .stage-at .ensures, c .before .before .kind-of .ensures, c .counted .ensures)

@@ -1,3 +1,4 @@
+-- `kind_of`: the table of kinds, row by row.
 use Rattle.records.specs.Kinds.{kindOf}
 use mathlib.Core.Path.{_≡_, refl, sym, ap, _∙_}
 use native.Mathlib.Omega.{arith}
@@ -7,27 +8,22 @@ use Rattle.records.proofs.kind_of.Tie as tie
 use Rattle.records.proofs.kind_of.Reads as reads
 use Rattle.records.proofs.kind_of.Lts as lts
 
--- src/lib.rt:61:9
 returns : tie.Need-returns
 unfolding kindOf
 returns c = simp (eq-eqb _ _ (c .if1 .taken))
 
--- src/lib.rt:67:9
 returns-2 : tie.Need-returns-2
 unfolding kindOf
 returns-2 c = simp (ne-eqb _ _ (c .before .if1 .left), eq-eqb _ _ (c .if2 .taken))
 
--- src/lib.rt:73:9
 returns-3 : tie.Need-returns-3
 unfolding kindOf
 returns-3 c = simp (ne-eqb _ _ (c .before .before .if1 .left), ne-eqb _ _ (c .before .if2 .left), eq-eqb _ _ (c .if3 .taken))
 
--- src/lib.rt:79:9
 returns-4 : tie.Need-returns-4
 unfolding kindOf
 returns-4 c = simp (ne-eqb _ _ (c .before .before .before .if1 .left), ne-eqb _ _ (c .before .before .if2 .left), ne-eqb _ _ (c .before .if3 .left), eq-eqb _ _ (c .if4 .taken))
 
--- src/lib.rt:57:1
 returns-5 : tie.Need-returns-5
 unfolding kindOf
 returns-5 c = simp (ne-eqb _ _ (c .before .before .before .if1 .left), ne-eqb _ _ (c .before .before .if2 .left), ne-eqb _ _ (c .before .if3 .left), ne-eqb _ _ (c .if4 .left))

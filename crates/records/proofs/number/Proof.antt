@@ -1,3 +1,4 @@
+-- `number`: four bytes as a number of 32 bits, the lowest first.
 use Rattle.records.specs.Values.{numberOf}
 use mathlib.Core.Path.{_≡_, refl, sym, ap, _∙_}
 use native.Mathlib.Omega.{arith}
@@ -8,31 +9,24 @@ use Rattle.records.proofs.number.Tie as tie
 use Rattle.records.proofs.number.Reads as reads
 use Rattle.records.proofs.number.Lts as lts
 
--- src/lib.rt:259:16
 mul-result : tie.Need-mul-result
 mul-result c = search needs
 
--- src/lib.rt:259:5
 add-result : tie.Need-add-result
 add-result c = search needs
 
--- src/lib.rt:259:33
 mul-result-2 : tie.Need-mul-result-2
 mul-result-2 c = search needs
 
--- src/lib.rt:259:5
 add-result-2 : tie.Need-add-result-2
 add-result-2 c = search needs
 
--- src/lib.rt:259:52
 mul-result-3 : tie.Need-mul-result-3
 mul-result-3 c = search needs
 
--- src/lib.rt:259:5
 add-result-3 : tie.Need-add-result-3
 add-result-3 c = search needs
 
--- src/lib.rt:256:1
 returns : tie.Need-returns
 unfolding numberOf
 returns c = refl

@@ -1,3 +1,4 @@
+-- `push`: a kind byte, or one more byte of a body.
 use Rattle.records.specs.Frames.{pushed}
 use mathlib.Core.Path.{_≡_, refl, sym, ap, _∙_}
 use native.Mathlib.Omega.{arith}
@@ -10,50 +11,39 @@ use Rattle.records.proofs.push.Lts as lts
 use Rattle.records.proofs.begin.Reads as begin-reads
 use Rattle.records.proofs.grow.Reads as grow-reads
 
--- src/lib.rt:236:25
 enum-told : tie.Need-enum-told
 enum-told c = search needs
 
--- src/lib.rt:236:25
 begin-requires : tie.Need-begin-requires
 begin-requires c κs = search needs
 
--- src/lib.rt:237:24
 enum-told-2 : tie.Need-enum-told-2
 enum-told-2 c = search needs
 
--- src/lib.rt:237:24
 grow-requires : tie.Need-grow-requires
 grow-requires c κs = search needs
 
--- src/lib.rt:238:25
 enum-told-3 : tie.Need-enum-told-3
 enum-told-3 c = search needs
 
--- src/lib.rt:238:25
 begin-requires-2 : tie.Need-begin-requires-2
 begin-requires-2 c κs = search needs
 
--- src/lib.rt:239:23
 enum-told-4 : tie.Need-enum-told-4
 enum-told-4 c = search needs
 
--- src/lib.rt:231:1
 returns : tie.Need-returns
 unfolding pushed
 returns c = simp (c .before .enum-told .given .1, c .begin .ensures)
 
--- src/lib.rt:231:1
 returns-2 : tie.Need-returns-2
 unfolding pushed
 returns-2 c = simp (c .before .enum-told2 .given .1, c .grow .ensures)
 
--- src/lib.rt:231:1
 returns-3 : tie.Need-returns-3
 unfolding pushed
 returns-3 c = simp (c .before .enum-told3 .given .1, c .begin2 .ensures)
 
--- src/lib.rt:231:1
 returns-4 : tie.Need-returns-4
 unfolding pushed
 returns-4 c = simp (c .enum-told4 .given .1)

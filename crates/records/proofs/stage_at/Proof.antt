@@ -1,3 +1,4 @@
+-- `stage_at`: whole when all bytes of the body are there.
 use mathlib.Core.Path.{_≡_, refl, sym, ap, _∙_}
 use native.Mathlib.Omega.{arith}
 use borrow.Author.Tests.{not-true, not-false, eq-eqb, ne-eqb, lt-ltb, le-ltb, le-leb, lt-leb}
@@ -6,11 +7,9 @@ use Rattle.records.proofs.stage_at.Tie as tie
 use Rattle.records.proofs.stage_at.Reads as reads
 use Rattle.records.proofs.stage_at.Lts as lts
 
--- src/lib.rt:144:1
 returns : tie.Need-returns
 returns c = simp (lt-ltb _ _ (c .if1 .taken))
 
--- src/lib.rt:144:1
 returns-2 : tie.Need-returns-2
 returns-2 c = simp (le-ltb _ _ (c .if1 .left))
 

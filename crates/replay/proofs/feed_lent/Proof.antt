@@ -22,7 +22,6 @@ Inv-loop bytes sums₀ planes₀ picks₀ due₀ f₀ j₀ i₀ sums planes pick
 abbrev μ-loop : tie.MeasureT-loop
 μ-loop bytes sums₀ planes₀ picks₀ due₀ f₀ j₀ i₀ sums planes picks due f j i = length bytes - i
 
--- src/lib.rt:101:5
 loop-holds : tie.Need-loop-holds Inv-loop μ-loop
 loop-holds c = (omega arith, refl, refl)
 
@@ -58,11 +57,9 @@ loop-again c =
       again _ _ _ _ _ _ _ _ _ _ _ _ _ _ _ _ (l .inv .2) (p .advance .ensures) (c .before .before .before .settle .ensures),
     )
 
--- src/lib.rt:87:1
 same-length : tie.Need-same-length Inv-loop μ-loop
 same-length c = c .before .loop .inv .1
 
--- src/lib.rt:87:1
 returns : tie.Need-returns Inv-loop μ-loop
 returns c = sym (c .before .loop .inv .2 ∙ done _ _ _ (c .loop-test .left))
 

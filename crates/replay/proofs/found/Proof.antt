@@ -1,3 +1,4 @@
+-- `found`: a frame that is malformed, or a verdict other than agreement.
 use Rattle.replay.proofs.Feeds.{found-fault, found-bad}
 use mathlib.Core.Path.{_≡_, refl, sym, ap, _∙_}
 use native.Mathlib.Omega.{arith}
@@ -10,19 +11,15 @@ use Rattle.replay.proofs.found.Lts as lts
 use Rattle.replay.proofs.is_agreed.Reads as is-agreed-reads
 use Rattle.replay.proofs.is_bad.Reads as is-bad-reads
 
--- src/lib.rt:115:9
 is-agreed-requires : tie.Need-is-agreed-requires
 is-agreed-requires c κs = search needs
 
--- src/lib.rt:116:9
 returns : tie.Need-returns
 returns c = found-fault _ _ (sym (c .before .is-agreed .ensures) ∙ not-true _ (c .if1 .taken))
 
--- src/lib.rt:118:5
 is-bad-requires : tie.Need-is-bad-requires
 is-bad-requires c κs = search needs
 
--- src/lib.rt:110:1
 returns-2 : tie.Need-returns-2
 returns-2 c = found-bad _ _ _ (sym (c .before .before .is-agreed .ensures) ∙ not-false _ (c .before .if1 .left)) (c .is-bad .ensures)
 

@@ -1,3 +1,4 @@
+-- `settle`: the judge takes a record that has just become whole, and nothing else.
 use Rattle.replay.proofs.Feeds.{settle-no, settle-yes}
 use mathlib.Core.Path.{_≡_, refl, sym, ap, _∙_}
 use native.Mathlib.Omega.{arith}
@@ -10,23 +11,18 @@ use Rattle.replay.proofs.settle.Lts as lts
 use Rattle.replay.proofs.is_whole.Reads as is-whole-reads
 use Rattle.replay_take.proofs.take.Reads as take-reads
 
--- src/lib.rt:79:9
 is-whole-requires : tie.Need-is-whole-requires
 is-whole-requires c κs = search needs
 
--- src/lib.rt:80:9
 returns : tie.Need-returns
 returns c = settle-no _ _ _ (sym (c .before .is-whole .ensures) ∙ not-true _ (c .if1 .taken))
 
--- src/lib.rt:83:5
 take-requires : tie.Need-take-requires
 take-requires c κs = search needs
 
--- src/lib.rt:68:1
 same-length : tie.Need-same-length
 same-length c = search needs
 
--- src/lib.rt:68:1
 returns-2 : tie.Need-returns-2
 returns-2 c =
     let p = c .before .before in

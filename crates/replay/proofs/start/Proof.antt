@@ -1,3 +1,4 @@
+-- `start`: a fresh frame, a fresh judge and empty lists.
 use mathlib.Core.Path.{_≡_, refl, sym, ap, _∙_}
 use native.Mathlib.Omega.{arith}
 use borrow.Author.Tests.{not-true, not-false, eq-eqb, ne-eqb, lt-ltb, le-ltb, le-leb, lt-leb}
@@ -9,15 +10,12 @@ use Rattle.replay.proofs.start.Lts as lts
 use Rattle.openings.proofs.closed_receiver.Reads as closed-receiver-reads
 use Rattle.records.proofs.start.Reads as start-reads
 
--- src/lib.rt:144:9
 closed-receiver-requires : tie.Need-closed-receiver-requires
 closed-receiver-requires c κs = search needs
 
--- src/lib.rt:150:16
 start-requires : tie.Need-start-requires
 start-requires c κs = search needs
 
--- src/lib.rt:141:1
 returns : tie.Need-returns
 returns c = simp (c .start .ensures, c .before .before .before .before .before .closed-receiver .ensures)
 

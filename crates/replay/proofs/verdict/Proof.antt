@@ -1,3 +1,4 @@
+-- `verdict`: what was found, a record that is cut, words that are due, or agreement.
 use Rattle.replay.proofs.Feeds.{ended-fault, ended-cut, ended-due, ended-agree}
 use mathlib.Core.Path.{_≡_, refl, sym, ap, _∙_}
 use native.Mathlib.Omega.{arith}
@@ -11,35 +12,27 @@ use Rattle.replay.proofs.is_agreed.Reads as is-agreed-reads
 use Rattle.replay.proofs.is_whole.Reads as is-whole-reads
 use Rattle.replay_step.proofs.next_due.Reads as next-due-reads
 
--- src/lib.rt:127:9
 is-agreed-requires : tie.Need-is-agreed-requires
 is-agreed-requires c κs = search needs
 
--- src/lib.rt:128:9
 returns : tie.Need-returns
 returns c = ended-fault _ _ _ (sym (c .before .is-agreed .ensures) ∙ not-true _ (c .if1 .taken))
 
--- src/lib.rt:130:9
 is-whole-requires : tie.Need-is-whole-requires
 is-whole-requires c κs = search needs
 
--- src/lib.rt:131:9
 returns-2 : tie.Need-returns-2
 returns-2 c = ended-cut _ _ _ (sym (c .before .before .before .is-agreed .ensures) ∙ not-false _ (c .before .before .if1 .left)) (sym (c .before .is-whole .ensures) ∙ not-true _ (c .if2 .taken))
 
--- src/lib.rt:133:9
 next-due-requires : tie.Need-next-due-requires
 next-due-requires c κs = search needs
 
--- src/lib.rt:135:22
 enum-told : tie.Need-enum-told
 enum-told c = search needs
 
--- src/lib.rt:136:19
 enum-known-d : tie.Need-enum-known-d
 enum-known-d c = search needs
 
--- src/lib.rt:122:1
 returns-3 : tie.Need-returns-3
 returns-3 c =
     let p = c .before .before .before in
@@ -47,7 +40,6 @@ returns-3 c =
     ended-agree _ _ _ (sym (q .before .is-agreed .ensures) ∙ not-false _ (q .if1 .left)) (sym (p .before .is-whole .ensures) ∙ not-false _ (p .if2 .left))
     (sym (c .before .before .next-due .ensures) ∙ c .enum-told .given .1)
 
--- src/lib.rt:122:1
 returns-4 : tie.Need-returns-4
 returns-4 c =
     let p = c .before .before .before .before in

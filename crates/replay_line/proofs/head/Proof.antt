@@ -1,3 +1,4 @@
+-- `head`: a text, a number and a text, one after the other.
 use Rattle.replay_line.specs.Says.{lineOf}
 use Rattle.phrases.proofs.Phrases.{says-number, decimal-short}
 use Rattle.page.proofs.Pages.{joined}
@@ -13,23 +14,18 @@ use Rattle.replay_line.proofs.head.Lts as lts
 use Rattle.page.proofs.put_number.Reads as put-number-reads
 use Rattle.page.proofs.put_text.Reads as put-text-reads
 
--- src/lib.rt:32:9
 put-text-requires : tie.Need-put-text-requires
 put-text-requires c κs = search needs
 
--- src/lib.rt:33:9
 put-number-requires : tie.Need-put-number-requires
 put-number-requires c κs = search needs
 
--- src/lib.rt:34:5
 put-text-requires-2 : tie.Need-put-text-requires-2
 put-text-requires-2 c κs = search needs
 
--- src/lib.rt:28:1
 same-length : tie.Need-same-length
 same-length c = search needs
 
--- src/lib.rt:28:1
 returns : tie.Need-returns
 returns c =
     let p = c .before .before .before .before .before .before in

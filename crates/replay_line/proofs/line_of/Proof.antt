@@ -1,3 +1,4 @@
+-- `line_of`: the verdict's line at the front of its text.
 use Rattle.text.specs.Bytes.{bytes}
 use Rattle.replay_line.specs.Says.{lineOf}
 use Rattle.phrases.proofs.Phrases.{says-number, decimal-short}
@@ -13,15 +14,12 @@ use Rattle.replay_line.proofs.line_of.Reads as reads
 use Rattle.replay_line.proofs.line_of.Lts as lts
 use Rattle.replay_line.proofs.put_line.Reads as put-line-reads
 
--- src/lib.rt:97:28
 slice-aggregate-put-line : tie.Need-slice-aggregate-put-line
 slice-aggregate-put-line c = search needs
 
--- src/lib.rt:97:9
 put-line-requires : tie.Need-put-line-requires
 put-line-requires c κs = search needs
 
--- src/lib.rt:93:1
 returns : tie.Need-returns
 returns c = (line-is _ (c .before .put-line .ensures), omega (arith, c .before .put-line .ensures .next, line-short (c .before .before .before .args .v)))
 

@@ -1,3 +1,4 @@
+-- `put_hex`: eight digits, the highest first.
 use Rattle.text.specs.Bytes.{bytes}
 use Rattle.replay_line.specs.Says.{lineOf}
 use Rattle.phrases.proofs.Phrases.{says-number, decimal-short}
@@ -14,27 +15,21 @@ use Rattle.replay_line.proofs.put_hex.Lts as lts
 use Rattle.io.proofs.hex.Reads as hex-reads
 use Rattle.page.proofs.put_text.Reads as put-text-reads
 
--- src/lib.rt:23:9
 hex-requires : tie.Need-hex-requires
 hex-requires c κs = search needs
 
--- src/lib.rt:24:30
 array-share-prefix-digits : tie.Need-array-share-prefix-digits
 array-share-prefix-digits c = search needs
 
--- src/lib.rt:24:30
 slice-aggregate-put-text : tie.Need-slice-aggregate-put-text
 slice-aggregate-put-text c = search needs
 
--- src/lib.rt:24:5
 put-text-requires : tie.Need-put-text-requires
 put-text-requires c κs = omega (arith, hex-few (omega arith) (c .before .before .hex .ensures .1 .0), c .before .before .hex .ensures .0 .1)
 
--- src/lib.rt:18:1
 same-length : tie.Need-same-length
 same-length c = search needs
 
--- src/lib.rt:18:1
 returns : tie.Need-returns
 returns c =
     let p = c .before .before .before .before .before in

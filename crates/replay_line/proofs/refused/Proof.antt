@@ -1,3 +1,4 @@
+-- `refused`: the line of a refused symbol or opening.
 use Rattle.text.specs.Bytes.{bytes}
 use Rattle.replay_line.specs.Says.{lineOf}
 use Rattle.phrases.proofs.Phrases.{says-number, decimal-short}
@@ -14,27 +15,21 @@ use Rattle.replay_line.proofs.refused.Lts as lts
 use Rattle.page.proofs.put_number.Reads as put-number-reads
 use Rattle.replay_line.proofs.head.Reads as head-reads
 
--- src/lib.rt:75:24
 slice-aggregate-head : tie.Need-slice-aggregate-head
 slice-aggregate-head c = search needs
 
--- src/lib.rt:75:39
 slice-aggregate-head-2 : tie.Need-slice-aggregate-head-2
 slice-aggregate-head-2 c = search needs
 
--- src/lib.rt:75:9
 head-requires : tie.Need-head-requires
 head-requires c κs = search needs
 
--- src/lib.rt:76:5
 put-number-requires : tie.Need-put-number-requires
 put-number-requires c κs = omega (arith, head-near (bytes "record ") _ (bytes " refused ") (c .before .before .before .head .ensures), c .before .before .page .given)
 
--- src/lib.rt:71:1
 same-length : tie.Need-same-length
 same-length c = search needs
 
--- src/lib.rt:71:1
 returns : tie.Need-returns
 unfolding lineOf
 returns c =

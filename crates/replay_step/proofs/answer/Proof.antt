@@ -12,29 +12,23 @@ use Rattle.reasons.proofs.number.Reads as number-reads
 use Rattle.records.proofs.counted.Reads as counted-reads
 use Rattle.replay_step.proofs.rule.Reads as rule-reads
 
--- src/lib.rt:70:9
 is-done-requires : tie.Need-is-done-requires
 is-done-requires c κs = search needs
 
--- src/lib.rt:71:52
 number-requires : tie.Need-number-requires
 number-requires c κs = search needs
 
--- src/lib.rt:71:9
 rule-requires : tie.Need-rule-requires
 rule-requires c κs = search needs
 
--- src/lib.rt:71:9
 returns : tie.Need-returns
 returns c =
     let p = c .before .before in
     answer-refused _ _ _ _ _ _ _ (sym (p .before .is-done .ensures) ∙ not-true _ (p .if1 .taken)) (c .before .number .ensures) (c .rule .ensures)
 
--- src/lib.rt:79:18
 counted-requires : tie.Need-counted-requires
 counted-requires c κs = search needs
 
--- src/lib.rt:67:1
 returns-2 : tie.Need-returns-2
 returns-2 c =
     let p = c .before in

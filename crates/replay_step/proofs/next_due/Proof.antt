@@ -1,3 +1,4 @@
+-- `next_due`: the first of the words that are due.
 use Rattle.replay_step.proofs.Dues.{none-given, none-there, some-left}
 use mathlib.Core.Path.{_≡_, refl, sym, ap, _∙_}
 use native.Mathlib.Omega.{arith}
@@ -8,23 +9,18 @@ use Rattle.replay_step.proofs.next_due.Tie as tie
 use Rattle.replay_step.proofs.next_due.Reads as reads
 use Rattle.replay_step.proofs.next_due.Lts as lts
 
--- src/lib.rt:44:9
 returns : tie.Need-returns
 returns c = none-given _ _ _ (c .if1 .taken)
 
--- src/lib.rt:47:9
 returns-2 : tie.Need-returns-2
 returns-2 c = none-there _ (c .before .before .before .args .j .given) (c .before .before .before .args .due .now) (c .if2 .taken)
 
--- src/lib.rt:49:15
 mul-t5 : tie.Need-mul-t5
 mul-t5 c = search needs
 
--- src/lib.rt:49:15
 shared-slice-read-t7 : tie.Need-shared-slice-read-t7
 shared-slice-read-t7 c = search needs
 
--- src/lib.rt:39:1
 returns-3 : tie.Need-returns-3
 returns-3 c = some-left _ _ _ (c .before .before .if1 .left) (c .before .if2 .left)
 

@@ -1,3 +1,4 @@
+-- `take_word`: no word is due, another is, or this one.
 use Rattle.replay_step.proofs.Dues.{word-none, word-other, word-same, due-below}
 use mathlib.Core.Path.{_≡_, refl, sym, ap, _∙_}
 use native.Mathlib.Omega.{arith}
@@ -11,51 +12,40 @@ use Rattle.records.proofs.counted.Reads as counted-reads
 use Rattle.replay_step.proofs.next_due.Reads as next-due-reads
 use Rattle.replay_step.proofs.rule.Reads as rule-reads
 
--- src/lib.rt:121:9
 next-due-requires : tie.Need-next-due-requires
 next-due-requires c κs = search needs
 
--- src/lib.rt:122:19
 enum-known-d : tie.Need-enum-known-d
 enum-known-d c = search needs
 
--- src/lib.rt:123:24
 enum-told : tie.Need-enum-told
 enum-told c = search needs
 
--- src/lib.rt:123:9
 rule-requires : tie.Need-rule-requires
 rule-requires c κs = search needs
 
--- src/lib.rt:123:9
 returns : tie.Need-returns
 returns c = word-none _ _ _ _ _ (sym (c .before .before .before .next-due .ensures) ∙ c .before .enum-told .given .1) (c .rule .ensures)
 
--- src/lib.rt:126:9
 rule-requires-2 : tie.Need-rule-requires-2
 rule-requires-2 c κs = search needs
 
--- src/lib.rt:126:9
 returns-2 : tie.Need-returns-2
 returns-2 c =
     let p = c .before .before .before in
     word-other _ _ _ _ _ _ (sym (p .before .before .next-due .ensures) ∙ p .d .given .1) (c .before .if1 .taken) (c .rule2 .ensures)
 
--- src/lib.rt:133:16
 add-t11 : tie.Need-add-t11
 add-t11 c =
     let p = c .before .before .before .before in
     omega (arith, due-below _ _ _ _ (sym (p .before .before .next-due .ensures) ∙ p .d .given .1), p .before .before .before .before .fits)
 
--- src/lib.rt:134:18
 counted-requires : tie.Need-counted-requires
 counted-requires c κs = search needs
 
--- src/lib.rt:135:33
 counted-requires-2 : tie.Need-counted-requires-2
 counted-requires-2 c κs = search needs
 
--- src/lib.rt:118:1
 returns-3 : tie.Need-returns-3
 returns-3 c =
     let p = c .before .before .before .before in

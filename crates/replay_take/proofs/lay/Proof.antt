@@ -9,15 +9,12 @@ use Rattle.replay_take.proofs.lay.Reads as reads
 use Rattle.replay_take.proofs.lay.Lts as lts
 use Rattle.reasons.proofs.is_done.Reads as is-done-reads
 
--- src/lib.rt:21:9
 is-done-requires : tie.Need-is-done-requires
 is-done-requires c κs = search needs
 
--- src/lib.rt:22:9
 returns : tie.Need-returns
 returns c = laid-refused _ _ _ _ _ (sym (c .before .is-done .ensures) ∙ not-true _ (c .if1 .taken))
 
--- src/lib.rt:18:1
 returns-2 : tie.Need-returns-2
 returns-2 c =
     let p = c .before .before .before in

@@ -7,55 +7,42 @@ use Rattle.replay_take.proofs.piece_of.Reads as reads
 use Rattle.replay_take.proofs.piece_of.Lts as lts
 use Rattle.records.proofs.coordinate.Reads as coordinate-reads
 
--- src/lib.rt:56:29
 array-read-coordinate : tie.Need-array-read-coordinate
 array-read-coordinate c = search needs
 
--- src/lib.rt:56:38
 array-read-coordinate-2 : tie.Need-array-read-coordinate-2
 array-read-coordinate-2 c = search needs
 
--- src/lib.rt:56:9
 coordinate-requires : tie.Need-coordinate-requires
 coordinate-requires c κs = search needs
 
--- src/lib.rt:57:29
 array-read-coordinate-3 : tie.Need-array-read-coordinate-3
 array-read-coordinate-3 c = search needs
 
--- src/lib.rt:57:38
 array-read-coordinate-4 : tie.Need-array-read-coordinate-4
 array-read-coordinate-4 c = search needs
 
--- src/lib.rt:57:9
 coordinate-requires-2 : tie.Need-coordinate-requires-2
 coordinate-requires-2 c κs = search needs
 
--- src/lib.rt:58:29
 array-read-coordinate-5 : tie.Need-array-read-coordinate-5
 array-read-coordinate-5 c = search needs
 
--- src/lib.rt:58:38
 array-read-coordinate-6 : tie.Need-array-read-coordinate-6
 array-read-coordinate-6 c = search needs
 
--- src/lib.rt:58:9
 coordinate-requires-3 : tie.Need-coordinate-requires-3
 coordinate-requires-3 c κs = search needs
 
--- src/lib.rt:59:29
 array-read-coordinate-7 : tie.Need-array-read-coordinate-7
 array-read-coordinate-7 c = search needs
 
--- src/lib.rt:59:38
 array-read-coordinate-8 : tie.Need-array-read-coordinate-8
 array-read-coordinate-8 c = search needs
 
--- src/lib.rt:59:9
 coordinate-requires-4 : tie.Need-coordinate-requires-4
 coordinate-requires-4 c κs = search needs
 
--- src/lib.rt:52:1
 returns : tie.Need-returns
 returns c =
     four _ _ _ _ _ _ _ _ (c .before .before .before .coordinate .ensures) (c .before .before .coordinate2 .ensures) (c .before .coordinate3 .ensures)

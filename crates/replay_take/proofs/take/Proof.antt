@@ -10,61 +10,47 @@ use Rattle.replay_take.proofs.take.Reads as reads
 use Rattle.replay_take.proofs.take.Lts as lts
 use Rattle.replay_take.proofs.take_kind.Reads as take-kind-reads
 
--- src/lib.rt:261:24
 enum-known-verdict : tie.Need-enum-known-verdict
 enum-known-verdict c = search needs
 
--- src/lib.rt:261:34
 take-kind-requires : tie.Need-take-kind-requires
 take-kind-requires c κs = search needs
 
--- src/lib.rt:262:38
 enum-told : tie.Need-enum-told
 enum-told c = search needs
 
--- src/lib.rt:263:33
 enum-told-2 : tie.Need-enum-told-2
 enum-told-2 c = search needs
 
--- src/lib.rt:264:35
 enum-told-3 : tie.Need-enum-told-3
 enum-told-3 c = search needs
 
--- src/lib.rt:265:35
 enum-told-4 : tie.Need-enum-told-4
 enum-told-4 c = search needs
 
--- src/lib.rt:266:34
 enum-told-5 : tie.Need-enum-told-5
 enum-told-5 c = search needs
 
--- src/lib.rt:248:1
 same-length : tie.Need-same-length
 same-length c = search needs
 
--- src/lib.rt:248:1
 returns : tie.Need-returns
 returns c =
     let p = c .before .before in
     p .take-kind .ensures ∙ took-agree _ _ _ (p .before .before .before .before .before .before .verdict .given .1)
 
--- src/lib.rt:248:1
 returns-2 : tie.Need-returns-2
 returns-2 c = took-still _ _ _ (c .enum-told .given .1) refl
 
--- src/lib.rt:248:1
 returns-3 : tie.Need-returns-3
 returns-3 c = took-still _ _ _ (c .enum-told2 .given .1) refl
 
--- src/lib.rt:248:1
 returns-4 : tie.Need-returns-4
 returns-4 c = took-still _ _ _ (c .enum-told3 .given .1) refl
 
--- src/lib.rt:248:1
 returns-5 : tie.Need-returns-5
 returns-5 c = took-still _ _ _ (c .enum-told4 .given .1) refl
 
--- src/lib.rt:248:1
 returns-6 : tie.Need-returns-6
 returns-6 c = took-still _ _ _ (c .enum-told5 .given .1) refl
 

@@ -9,23 +9,18 @@ use Rattle.receiver.proofs.finish.Reads as finish-reads
 use Rattle.replay_step.proofs.answer.Reads as answer-reads
 use Rattle.replay_take.proofs.lay.Reads as lay-reads
 
--- src/lib.rt:101:9
 finish-requires : tie.Need-finish-requires
 finish-requires c κs = search needs
 
--- src/lib.rt:104:5
 lay-requires : tie.Need-lay-requires
 lay-requires c κs = search needs
 
--- src/lib.rt:106:5
 answer-requires : tie.Need-answer-requires
 answer-requires c κs = search needs
 
--- src/lib.rt:83:1
 same-length : tie.Need-same-length
 same-length c = search needs
 
--- src/lib.rt:83:1
 returns : tie.Need-returns
 returns c =
     let p = c .before .before in

@@ -11,106 +11,83 @@ use Rattle.replay_step.proofs.take_word.Reads as take-word-reads
 use Rattle.replay_take.proofs.take_open.Reads as take-open-reads
 use Rattle.replay_take.proofs.take_undue.Reads as take-undue-reads
 
--- src/lib.rt:146:9
 kind-of-requires : tie.Need-kind-of-requires
 kind-of-requires c κs = search needs
 
--- src/lib.rt:149:36
 enum-told : tie.Need-enum-told
 enum-told c = search needs
 
--- src/lib.rt:149:23
 take-open-requires : tie.Need-take-open-requires
 take-open-requires c κs = search needs
 
--- src/lib.rt:150:46
 enum-told-2 : tie.Need-enum-told-2
 enum-told-2 c = search needs
 
--- src/lib.rt:150:25
 take-undue-requires : tie.Need-take-undue-requires
 take-undue-requires c κs = search needs
 
--- src/lib.rt:152:37
 enum-told-3 : tie.Need-enum-told-3
 enum-told-3 c = search needs
 
--- src/lib.rt:152:37
 array-read-number : tie.Need-array-read-number
 array-read-number c = search needs
 
--- src/lib.rt:152:46
 array-read-number-2 : tie.Need-array-read-number-2
 array-read-number-2 c = search needs
 
--- src/lib.rt:152:55
 array-read-number-3 : tie.Need-array-read-number-3
 array-read-number-3 c = search needs
 
--- src/lib.rt:152:64
 array-read-number-4 : tie.Need-array-read-number-4
 array-read-number-4 c = search needs
 
--- src/lib.rt:152:17
 number-requires : tie.Need-number-requires
 number-requires c κs = search needs
 
--- src/lib.rt:153:13
 take-word-requires : tie.Need-take-word-requires
 take-word-requires c κs = search needs
 
--- src/lib.rt:155:45
 enum-told-4 : tie.Need-enum-told-4
 enum-told-4 c = search needs
 
--- src/lib.rt:155:25
 take-undue-requires-2 : tie.Need-take-undue-requires-2
 take-undue-requires-2 c κs = search needs
 
--- src/lib.rt:156:26
 enum-told-5 : tie.Need-enum-told-5
 enum-told-5 c = search needs
 
--- src/lib.rt:133:1
 returns : tie.Need-returns
 returns c =
     let p = c .before .before .before .before in
     rw (role-is (p .before .before .kind-of .ensures) (p .enum-told .given .1)) (c .take-open .ensures _)
 
--- src/lib.rt:133:1
 same-length : tie.Need-same-length
 same-length c = search needs
 
--- src/lib.rt:133:1
 returns-2 : tie.Need-returns-2
 returns-2 c =
     let p = c .before .before in
     let q = p .before .before .before .before .before in
     symbol-role _ _ _ _ (role-is (q .before .before .kind-of .ensures) (q .enum-told2 .given .1)) (p .take-undue .ensures)
 
--- src/lib.rt:133:1
 same-length-2 : tie.Need-same-length-2
 same-length-2 c = search needs
 
--- src/lib.rt:133:1
 returns-3 : tie.Need-returns-3
 returns-3 c =
     let p = c .before .before .before in
     rw (role-is (p .before .before .kind-of .ensures) (p .enum-told3 .given .1))
     (word-state _ _ _ _ _ _ _ _ _ _ (c .before .before .number .ensures) (c .take-word .ensures))
 
--- src/lib.rt:133:1
 same-length-3 : tie.Need-same-length-3
 same-length-3 c = search needs
 
--- src/lib.rt:133:1
 returns-4 : tie.Need-returns-4
 returns-4 c =
     let p = c .before .before in
     let q = p .before .before .before .before .before in
     finish-role _ _ _ _ (role-is (q .before .before .kind-of .ensures) (q .enum-told4 .given .1)) (p .take-undue2 .ensures)
 
--- src/lib.rt:133:1
 returns-5 : tie.Need-returns-5
 returns-5 c = rw (role-is (c .before .before .kind-of .ensures) (c .enum-told5 .given .1))
 

@@ -12,23 +12,18 @@ use Rattle.receiver.proofs.hear_lent.Reads as hear-lent-reads
 use Rattle.replay_step.proofs.answer.Reads as answer-reads
 use Rattle.replay_take.proofs.piece_of.Reads as piece-of-reads
 
--- src/lib.rt:75:17
 piece-of-requires : tie.Need-piece-of-requires
 piece-of-requires c κs = search needs
 
--- src/lib.rt:77:47
 slice-aggregate-hear-lent : tie.Need-slice-aggregate-hear-lent
 slice-aggregate-hear-lent c = search needs
 
--- src/lib.rt:77:9
 hear-lent-requires : tie.Need-hear-lent-requires
 hear-lent-requires c κs = search needs
 
--- src/lib.rt:80:5
 answer-requires : tie.Need-answer-requires
 answer-requires c κs = search needs
 
--- src/lib.rt:63:1
 same-length : tie.Need-same-length
 same-length c = search needs
 
@@ -36,7 +31,6 @@ same-length c = search needs
 long : (c : tie.After-lent) → length (now (c .before .before .before .before .args .picks)) ≡ 72
 long c = search needs
 
--- src/lib.rt:63:1
 returns : tie.Need-returns
 returns c =
     let p = c .before .before .before .before in

@@ -11,23 +11,18 @@ use Rattle.replay_step.proofs.rule.Reads as rule-reads
 use Rattle.replay_take.proofs.take_finish.Reads as take-finish-reads
 use Rattle.replay_take.proofs.take_symbol.Reads as take-symbol-reads
 
--- src/lib.rt:122:9
 next-due-requires : tie.Need-next-due-requires
 next-due-requires c κs = search needs
 
--- src/lib.rt:123:22
 enum-known-d : tie.Need-enum-known-d
 enum-known-d c = search needs
 
--- src/lib.rt:124:9
 rule-requires : tie.Need-rule-requires
 rule-requires c κs = search needs
 
--- src/lib.rt:124:9
 same-length : tie.Need-same-length
 same-length c = search needs
 
--- src/lib.rt:124:9
 returns : tie.Need-returns
 returns c =
     let p = c .before .before in
@@ -36,15 +31,12 @@ returns c =
 enum-told : tie.Need-enum-told
 enum-told c = search needs
 
--- src/lib.rt:127:9
 take-finish-requires : tie.Need-take-finish-requires
 take-finish-requires c κs = search needs
 
--- src/lib.rt:127:9
 same-length-2 : tie.Need-same-length-2
 same-length-2 c = search needs
 
--- src/lib.rt:127:9
 returns-2 : tie.Need-returns-2
 returns-2 c =
     let p = c .before .before in
@@ -52,15 +44,12 @@ returns-2 c =
     let d = q .before in
     undue-ends _ _ _ _ _ _ _ (sym (d .before .before .next-due .ensures) ∙ d .enum-told .given .1) _ (q .if1 .taken) (p .take-finish .ensures)
 
--- src/lib.rt:129:5
 take-symbol-requires : tie.Need-take-symbol-requires
 take-symbol-requires c κs = search needs
 
--- src/lib.rt:110:1
 same-length-3 : tie.Need-same-length-3
 same-length-3 c = search needs
 
--- src/lib.rt:110:1
 returns-3 : tie.Need-returns-3
 returns-3 c =
     let p = c .before .before in

@@ -3,7 +3,7 @@
 --   restOf p at bs     the reading of bs in phase p from the offset `at` on; rest-none, rest-bad, rest-cut, rest-record: by the first byte
 --   Taken, Stays, Ended, Says   what a front says of the reading of bs and of all that comes after
 --   look-passes        THE LAW: a whole record, the end and a malformed place are told as the reading has them
-use mathlib.Core.Path.{_≡_, refl, sym, ap, subst, _∙_}
+use mathlib.Core.Path.{_≡_, refl, sym}
 use mathlib.Core.Bool.{Bool, true, false, cond}
 use mathlib.Core.List.{List, [], _∷_, _++_, append-nil}
 use Prim.Native.Nat.{ℕ, zero, suc, _+_, _≤_, _<_}

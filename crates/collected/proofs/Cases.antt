@@ -4,7 +4,7 @@
 --   feed-short, feed-none, feed-after, feed-on, feed-says   a lump: 8; 9; after a fault; no fault yet; the fault
 --   end-short, end-none, end-after, end-says   the end
 use mathlib.Core.Path.{_≡_, refl, sym, ap, _∙_}
-use mathlib.Core.Bool.{Bool, true, false, cond, _||_}
+use mathlib.Core.Bool.{Bool, true, false, _||_}
 use mathlib.Core.List.{List, _++_}
 use Prim.Native.Nat.{ℕ, _≤_, _<_}
 use native.Mathlib.Omega.{arith}
@@ -13,7 +13,7 @@ use lib.Dec.{ltb}
 use lib.ListN.{length, drop, set}
 use Rattle.replay_step.specs.declared.Verdict.{Verdict}
 use Rattle.replay.specs.declared.Replay.{Replay}
-use Rattle.replay.specs.Course.{Course, feedings, found, replayOf, freshReplay}
+use Rattle.replay.specs.Course.{Course, feedings, replayOf, freshReplay}
 use Rattle.replay_line.specs.Says.{lineOf}
 use Rattle.course_layout.specs.Table.{replayLength}
 use Rattle.course_words.specs.Words.{holdsReplay, courseIn, CourseStored}

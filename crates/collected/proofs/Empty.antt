@@ -1,11 +1,11 @@
 -- A list with no place, and a text put at the front of a list.
 --   empty-set     a write to a list with no place
 --   line-put      a line that was given by value, in its place
-use mathlib.Core.Path.{_≡_, refl, sym, ap, _∙_}
+use mathlib.Core.Path.{_≡_, refl, ap, _∙_}
 use mathlib.Core.List.{List, [], _∷_, _++_}
-use Prim.Native.Nat.{ℕ, _+_, _≤_}
+use Prim.Native.Nat.{ℕ, _≤_}
 use native.Mathlib.Omega.{arith}
-use lib.ListN.{length, take, drop, set}
+use lib.ListN.{length, drop, set}
 use Rattle.page.specs.Page.{Puts}
 
 pub empty-set : (l : List ℕ) → length l ≤ 0 → l ≡ set l 0 0

@@ -6,12 +6,12 @@
 --   feed-settled, end-settled, start-settled   any two results that a promise allows are equal
 use mathlib.Core.Path.{_≡_, refl, sym, ap, subst, _∙_}
 use mathlib.Core.Bool.{Bool, true, false, cond, _&&_}
-use mathlib.Core.List.{List, [], _∷_, _++_}
+use mathlib.Core.List.{List, [], _++_}
 use Prim.Native.Nat.{ℕ, _≤_}
 use native.Mathlib.Omega.{arith}
 use borrow.Author.Tests.{ne-eqb}
 use lib.Dec.{leb}
-use lib.ListN.{getD, length, take, drop, set}
+use lib.ListN.{length, take, drop, set}
 use lib.Seq.{take-at, getD-set-same}
 use Rattle.replay_step.specs.declared.Verdict.{Verdict}
 use Rattle.replay.specs.Meaning.{verdictOf}

@@ -1,10 +1,9 @@
 -- The loops of `form` and `next`: what is left of them after one turn more.
-use mathlib.Core.Path.{_≡_, refl, sym, ap, subst, _∙_}
-use mathlib.Core.Bool.{Bool, true, false, cond}
+use mathlib.Core.Path.{_≡_, refl, sym}
+use mathlib.Core.Bool.{Bool, true, false}
 use mathlib.Core.List.{List}
-use Prim.Native.Nat.{ℕ, zero, suc, _+_, _-_, _≤_, _<_}
+use Prim.Native.Nat.{ℕ, zero, suc, _-_, _≤_, _<_}
 use native.Mathlib.Omega.{arith}
-use lib.ListN.{length}
 use Rattle.compared.specs.declared.Formed.{Formed}
 use Rattle.compared.specs.declared.Pass.{Pass}
 use Rattle.compared.specs.Passing.{isRecord, isSame, formStep, formFrom, pairStep, passFrom}

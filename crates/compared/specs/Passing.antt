@@ -15,7 +15,6 @@ use Rattle.ahead.specs.declared.Sign.the-variants as sign
 use Rattle.ahead.specs.declared.Front.{Front}
 use Rattle.records.specs.Frames.{capped}
 use Rattle.ahead.specs.Fronts.{frontOf}
-use Rattle.compared.specs.declared.Line.{Line}
 use Rattle.compared.specs.declared.Line.the-variants.{Differs, OnlyFirst, OnlySecond, Differences}
 use Rattle.compared.specs.declared.Event.{Event}
 use Rattle.compared.specs.declared.Event.the-variants.{Same, Said, Last, Wait, Broken}

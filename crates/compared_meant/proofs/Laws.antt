@@ -2,19 +2,18 @@
 --   self-compared     a well-formed capture against itself: `differences 0`, and no other line
 --   exchange          exchanging the two captures exchanges `first` and `second`, if not both are malformed
 --   last-counts       K is the number of lines before the last
-use mathlib.Core.Path.{_≡_, refl, sym, ap, subst, _∙_}
+use mathlib.Core.Path.{_≡_, refl, sym, ap, _∙_}
 use mathlib.Core.Bool.{Bool, true, false, cond}
 use mathlib.Core.List.{List, [], _∷_, _++_, map, map-append}
-use Prim.Native.Nat.{ℕ, zero, suc, _+_, _≤_}
-use native.Mathlib.Omega.{arith}
+use Prim.Native.Nat.{ℕ, suc, _+_}
 use borrow.Author.Tests.{eq-eqb, ne-eqb, eqb-true, eqb-false}
 use lib.Dec.{eqb}
 use lib.ListN.{length}
 use Rattle.text.specs.Token.{sameBytes}
 use Rattle.records.specs.Values.{Entry}
-use Rattle.records.specs.Reading.{Ending, clean, malformed, Reading, readingOf}
+use Rattle.records.specs.Reading.{Ending, clean, malformed, readingOf}
 use Rattle.compared.specs.declared.Line.{Line}
-use Rattle.compared.specs.declared.Line.the-variants.{Differs, OnlyFirst, OnlySecond, Differences, FirstMalformed, SecondMalformed}
+use Rattle.compared.specs.declared.Line.the-variants.{Differs, OnlyFirst, OnlySecond, Differences}
 use Rattle.compared.specs.Differences.{same, differencesFrom, counted, judged, comparisonOf, comparedOf, exchanged}
 
 -- ---- a capture against itself

@@ -9,7 +9,7 @@
 use mathlib.Core.Path.{_≡_, refl, sym, ap, subst, _∙_}
 use mathlib.Core.Bool.{Bool, true, false, cond}
 use mathlib.Core.List.{List, [], _∷_, _++_, map, map-append, append-assoc}
-use Prim.Native.Nat.{ℕ, zero, suc, _+_, _≤_, _<_}
+use Prim.Native.Nat.{ℕ, zero, suc, _+_, _≤_}
 use native.Mathlib.Omega.{arith}
 use lib.ListN.{length, take, drop, length-append, length-drop, take-append-drop}
 use lib.Seq.{drop-drop, drop-append-le}
@@ -25,7 +25,7 @@ use Rattle.records.specs.Frames.{capped}
 use Rattle.records.proofs.Counts.{capped-more}
 use Rattle.ahead.proofs.Fronts.{restOf, rest-whole, Taken, Ended, Says, look-passes, front-within}
 use Rattle.compared.specs.declared.Line.{Line}
-use Rattle.compared.specs.declared.Line.the-variants.{Differs, OnlyFirst, OnlySecond, Differences, FirstMalformed, SecondMalformed}
+use Rattle.compared.specs.declared.Line.the-variants.{Differs, OnlyFirst, OnlySecond, Differences}
 use Rattle.compared.specs.declared.Event.{Event}
 use Rattle.compared.specs.declared.Event.the-variants.{Same, Said, Last, Wait, Broken}
 use Rattle.compared.specs.declared.Pass.{Pass}

@@ -1,10 +1,9 @@
 -- 02's own case, computed: "The capture of Wish 2 against the same with its last byte 01 prints `record 3 differs`, then `differences 1`".
 use mathlib.Core.Path.{_≡_, refl}
-use mathlib.Core.List.{List, [], _∷_, _++_}
+use mathlib.Core.List.{List, [], _∷_}
 use Prim.Native.Nat.{ℕ}
 use Rattle.records.specs.Kinds.{kindOf}
 use Rattle.records.specs.Reading.{readingFrom, readingOf}
-use Rattle.compared.specs.declared.Line.{Line}
 use Rattle.compared.specs.declared.Line.the-variants.{Differs, OnlySecond, Differences, SecondMalformed}
 use Rattle.compared.specs.Differences.{differencesFrom, comparisonOf, comparedOf}
 

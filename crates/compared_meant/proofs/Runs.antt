@@ -12,16 +12,15 @@ use lib.Dec.{leb}
 use lib.ListN.{length, take, drop, length-drop}
 use lib.Seq.{drop-drop, drop-length, take-length}
 use Rattle.records.specs.declared.Phase.{Phase}
-use Rattle.records.specs.declared.Phase.the-variants.{Start}
 use Rattle.ahead.specs.declared.Sign.{Sign}
 use Rattle.ahead.specs.declared.Sign.the-variants as sign
 use Rattle.ahead.specs.declared.Front.{Front}
 use Rattle.records.specs.Kinds.{kindOf, mayStand, afterRole, begins}
-use Rattle.records.specs.Reading.{Ending, clean, malformed, Reading, readingOf}
+use Rattle.records.specs.Reading.{clean, malformed, Reading, readingOf}
 use Rattle.ahead.specs.Fronts.{stopped, cutOf, frontOf}
 use Rattle.ahead.proofs.Fronts.{restOf, rest-whole, Taken, Ended, Says, look-passes, front-within}
 use Rattle.compared.specs.declared.Line.{Line}
-use Rattle.compared.specs.declared.Line.the-variants.{Differs, OnlyFirst, OnlySecond, Differences}
+use Rattle.compared.specs.declared.Line.the-variants.{Differs, OnlyFirst, OnlySecond}
 use Rattle.compared.specs.declared.Event.{Event}
 use Rattle.compared.specs.declared.Event.the-variants.{Same, Said, Last, Wait, Broken}
 use Rattle.compared.specs.declared.Pass.{Pass}

@@ -3,7 +3,7 @@
 --   within-at                         what is known of words within their limits
 --   few                               as many words, each at most its limit
 --   small-all, all-small              small at each place
-use mathlib.Core.Path.{_≡_, refl, sym, ap, _∙_}
+use mathlib.Core.Path.{_≡_, refl}
 use mathlib.Core.Bool.{Bool, true, false, _&&_}
 use mathlib.Core.List.{List, [], _∷_}
 use Prim.Native.Nat.{ℕ, zero, suc, _+_, _≤_, _<_}

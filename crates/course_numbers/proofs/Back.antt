@@ -1,7 +1,7 @@
 -- The numbers of a frame and a judge read as them.
 --   frame-back, judge-back    the laws; a frame's body has eight bytes
 --   fit                       the first eighteen numbers within their limits
-use mathlib.Core.Path.{_≡_, refl, sym, ap, _∙_}
+use mathlib.Core.Path.{_≡_, refl}
 use mathlib.Core.Bool.{Bool, true, false}
 use mathlib.Core.List.{List, [], _∷_}
 use Prim.Native.Nat.{ℕ, _≤_}
@@ -9,7 +9,6 @@ use native.Mathlib.Omega.{arith}
 use borrow.Author.Tests.{le-leb}
 use lib.Dec.{eqb}
 use lib.ListN.{getD, length}
-use Rattle.machine.specs.declared.Core.{Core}
 use Rattle.records.specs.declared.Stage.{Stage}
 use Rattle.records.specs.declared.Stage.the-variants.{Fresh, Part, Whole, Bad}
 use Rattle.records.specs.declared.Phase.{Phase}

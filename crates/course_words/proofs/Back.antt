@@ -4,7 +4,7 @@
 --   grown, put-back, filled, got      parts put one after the other, and read
 --   lists-put, all-put                the parts of a replay
 --   CourseFits, course-stored    a replay's numbers and words fit, and its lists have their lengths: then its words read as it
-use mathlib.Core.Path.{_≡_, refl, sym, ap, subst, _∙_}
+use mathlib.Core.Path.{_≡_, refl, sym, ap, _∙_}
 use mathlib.Core.Bool.{Bool, true, false, _&&_}
 use mathlib.Core.List.{List, [], _∷_, _++_, append-assoc, append-nil}
 use Prim.Native.Nat.{ℕ, _+_, _-_, _≤_, _<_}
@@ -15,14 +15,13 @@ use lib.ListN.{getD, length, take, drop, length-append, length-drop, drop-of-len
 use lib.Seq.{take-at, drop-at, drop-drop, length-take-le}
 use Rattle.replay_step.specs.declared.Judge.{Judge}
 use Rattle.replay_step.specs.Judging.{State}
-use Rattle.records.specs.declared.Frame.{Frame}
 use Rattle.replay.specs.Course.{Course, courseOf}
-use Rattle.course_layout.specs.Table.{half, replayTag, replayLength, sumsAt, planesAt, picksAt, dueAt, limits, dueLimits, within, Small}
+use Rattle.course_layout.specs.Table.{replayTag, replayLength, sumsAt, planesAt, picksAt, dueAt, limits, dueLimits, within, Small}
 use Rattle.layout.proofs.Lent.{lent, back}
 use Rattle.course_layout.proofs.Limits.{few}
 use Rattle.course_numbers.specs.Numbers.{frameIn, judgeIn, numbersOf}
 use Rattle.course_numbers.proofs.Back.{frame-back, judge-back}
-use Rattle.course_words.specs.Words.{numbersIn, dueIn, holdsReplay, courseIn, judgeOf, wordsOf, ListsPut, CourseStored}
+use Rattle.course_words.specs.Words.{numbersIn, dueIn, holdsReplay, courseIn, judgeOf, wordsOf, CourseStored}
 
 module _ (ws : List ℕ) where
   pub holds-short : length ws < replayLength → false ≡ holdsReplay ws

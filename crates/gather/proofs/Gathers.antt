@@ -8,12 +8,11 @@
 --   advances-settled    any two results are equal
 use mathlib.Core.Path.{_≡_, refl, sym, ap, _∙_}
 use mathlib.Core.Bool.{Bool, true, false, cond}
-use mathlib.Core.List.{List, [], _∷_, _++_, append-nil}
+use mathlib.Core.List.{List, [], _∷_, append-nil}
 use Prim.Native.Nat.{ℕ, zero, suc, _+_, _-_, _≤_, _<_, min}
 use native.Mathlib.Omega.{arith}
 use native.Mathlib.Numerals.{add-one}
 use borrow.Author.Tests.{lt-ltb, lt-leb, ltb-true, le-ltb}
-use lib.Dec.{ltb}
 use lib.ListN.{length, take, drop, set, getD, length-take, length-drop}
 use lib.Seq.{sets, drop-cons, getD-drop}
 use Rattle.records.specs.declared.Kind.{Kind}
@@ -21,8 +20,7 @@ use Rattle.records.specs.declared.Stage.{Stage}
 use Rattle.records.specs.declared.Stage.the-variants.{Fresh, Part, Whole, Bad}
 use Rattle.records.specs.declared.Frame.{Frame}
 use Rattle.records.specs.Kinds.{kindOf}
-use Rattle.records.specs.Values.{Entry}
-use Rattle.records.specs.Frames.{capped, stageAt, grown, pushed, Read, ended, before, following}
+use Rattle.records.specs.Frames.{capped, grown, pushed, Read, ended, before, following}
 use Rattle.records.proofs.Counts.{capped-more}
 use Rattle.records.proofs.Steps.{size-fits}
 use Rattle.gather.specs.Runs.{insideAt, inside, gathered, runOf, Advances}

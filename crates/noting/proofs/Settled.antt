@@ -1,9 +1,7 @@
 -- Settled: any two results that the promise of a line allows are equal, the bytes and the page too.
 use Prim.Native.Nat.{ℕ}
 use mathlib.Core.Path.{_≡_, sym, _∙_}
-use mathlib.Core.Bool.{Bool}
 use mathlib.Core.List.{List}
-use Rattle.machine.specs.declared.Receiver.{Receiver}
 use Rattle.page.proofs.Pages.{one-result}
 use Rattle.noting.specs.declared.Noted.{Noted}
 use Rattle.noting.specs.Note.{Note, Notes}

@@ -3,7 +3,7 @@
 -- is 02's verdict on the bytes of a capture.
 --   agrees         without a finish
 --   ended-agrees   with one
-use mathlib.Core.Path.{_≡_, refl, sym, ap, ap₂, subst, _∙_}
+use mathlib.Core.Path.{_≡_, refl, sym, ap, ap₂, _∙_}
 use mathlib.Core.Bool.{Bool, true, false, cond, _&&_, _||_}
 use mathlib.Core.List.{List, [], _∷_, _++_, append-nil}
 use Prim.Native.Nat.{ℕ, _+_, _-_}
@@ -28,7 +28,7 @@ use Rattle.pieces.proofs.Symbols.{symbol-judged}
 use Rattle.records.specs.declared.Phase.{Phase}
 use Rattle.records.specs.declared.Phase.the-variants.{Start}
 use Rattle.records.specs.Values.{Entry, openEntry, bytesOf}
-use Rattle.records.specs.Reading.{WellFormed, clean, readingOf}
+use Rattle.records.specs.Reading.{WellFormed, clean}
 use Rattle.records.proofs.Back.{read-back}
 use Rattle.tape.specs.Front.{symbolRecords, finishRecords, spaceOf}
 use Rattle.tape.proofs.Fronts.{bytes-append}
@@ -37,7 +37,6 @@ use Rattle.recorder.specs.Recorded.{judgeRecorded, Walked, stopsBefore, goesOn,
 use Rattle.recorder.specs.Recorded.{PieceRecorded, pieceRecorded, FinishRecorded, finishRecorded, openingRecorded}
 use Rattle.recorder.specs.Promise.{Pays, EndPays}
 use Rattle.recorder.proofs.Opens.{open-space}
-use Rattle.replay_step.specs.declared.Verdict.{Verdict}
 use Rattle.replay_step.specs.declared.Verdict.the-variants.{Agree}
 use Rattle.replay.specs.Meaning.{Line, closed, told, Seen, nothingSeen, takings, closing, verdictOf}
 use Rattle.recorded.specs.Recording.{Recording, opens, hears, refuses, Ended, ends}

@@ -2,7 +2,7 @@
 --   Formed p rs, phaseAfter p rs   records that may stand from the phase p on, and the phase after them
 --   Ready p                        a symbol and a finish may stand there
 --   symbol-formed, finish-formed   the records of a symbol and of a finish
-use mathlib.Core.Path.{_≡_, refl, sym, ap, subst, _∙_}
+use mathlib.Core.Path.{_≡_, refl, sym, ap, subst}
 use mathlib.Core.Bool.{true}
 use mathlib.Core.List.{List, [], _∷_, _++_}
 use Prim.Native.Nat.{ℕ}

@@ -13,14 +13,12 @@ use lib.Dec.{eqb, ltb}
 use lib.IntN.{ℤ}
 use lib.ListN.{length, getD, take, drop}
 use Rattle.points.specs.declared.Accord.{Accord}
-use Rattle.machine.specs.declared.Receiver.{Receiver}
 use Rattle.reasons.specs.Reason.{givenOf}
 use Rattle.openings.specs.declared.Start.the-variants.{Free}
 use Rattle.openings.specs.Given.{plainWindow, startAt}
 use Rattle.openings.specs.Opening.{opening}
 use Rattle.openings.proofs.Openings.{opening-opens}
 use Rattle.told.specs.Piece.{pieceOf}
-use Rattle.records.specs.Values.{bytesOf}
 use Rattle.tape.specs.Front.{spaceOf}
 use Rattle.taping.specs.Taping.{Ran}
 use Rattle.recorder.specs.declared.Taped.{Taped}

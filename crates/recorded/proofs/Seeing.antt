@@ -1,29 +1,28 @@
 -- What replay sees of a recorder's records: each symbol is taken again, and each word is the one that is due.
 --   seen              what is seen, as long as no fault is found
 --   words-seen, symbol-seen, open-seen, finish-seen    after some words, a symbol with its words, an open, a finish with its words
-use mathlib.Core.Path.{_≡_, refl, sym, ap, ap₂, subst, _∙_}
+use mathlib.Core.Path.{_≡_, refl, sym, ap, ap₂, _∙_}
 use mathlib.Core.Bool.{Bool, true, false, cond}
 use mathlib.Core.List.{List, [], _∷_, _++_, append-nil}
-use Prim.Native.Nat.{ℕ, suc, _+_, _*_, _^_, _<_, _≤_}
+use Prim.Native.Nat.{ℕ, _+_, _*_, _^_, _<_, _≤_}
 use native.Mathlib.Nat.{add-zero}
 use native.Mathlib.Omega.{arith}
 use borrow.Author.Tests.{eq-eqb, le-ltb, leb-true}
-use lib.Dec.{eqb, leb, ltb}
-use lib.IntN.{ℤ, natAbs}
+use lib.Dec.{leb, ltb}
+use lib.IntN.{ℤ}
 use lib.ListN.{length}
 use lib.Pow.{pow-mono}
 use Rattle.calls.specs.Calls.{walk, fresh, rest}
 use Rattle.trellis.specs.Measure.{Two}
 use Rattle.trellis.specs.Lists.{Every}
 use Rattle.nearest.specs.declared.Received.{Received}
-use Rattle.nearest.specs.Line.{BothInRange}
 use Rattle.points.specs.declared.Accord.{Accord}
 use Rattle.machine.proofs.Owed.{fresh-most, rest-most}
 use Rattle.reasons.specs.Reason.{Reason, reason}
 use Rattle.openings.specs.Given.{startAt}
 use Rattle.openings.specs.Given as given
 use Rattle.openings.specs.Opening.{openingOwed}
-use Rattle.told.specs.Told.{Told, withHeard, speakerOf, pendingAfter, faultOf, judgeSymbol, judgeOf, Fine}
+use Rattle.told.specs.Told.{Told, withHeard, speakerOf, pendingAfter, faultOf, judgeSymbol, Fine}
 use Rattle.told.specs.Piece.{symbolFrom, pieceOf}
 use Rattle.told.specs.Owed.{Owed, pieceOwed, FinishOwed, finishOwed}
 use Rattle.told.proofs.Telling.{telling-judge}

@@ -5,7 +5,7 @@
 --   finish-closed, finish-short, finish-refused, finish-written, finish-done   a finish
 use mathlib.Core.Path.{_≡_, refl, sym, ap, subst, _∙_}
 use mathlib.Core.Bool.{Bool, true, false, cond}
-use mathlib.Core.List.{List, [], _++_}
+use mathlib.Core.List.{List, []}
 use Prim.Native.Nat.{ℕ, _+_, _*_, _<_, _≤_}
 use native.Mathlib.Omega.{arith}
 use borrow.Author.Tests.{lt-ltb, le-ltb}
@@ -25,7 +25,7 @@ use Rattle.told.specs.Piece.{Piece}
 use Rattle.receiver.specs.declared.Answer.{Answer}
 use Rattle.receiver.specs.Doors as doors
 use Rattle.receiver.specs.Promise as receives
-use Rattle.receiver.specs.Promise.{partsOf, lentLive}
+use Rattle.receiver.specs.Promise.{partsOf}
 use Rattle.receiver.proofs.Doors.{lent-live}
 use Rattle.receiver.proofs.Left.{finishes-left}
 use Rattle.records.specs.Values.{bytesOf}

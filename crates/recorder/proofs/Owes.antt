@@ -5,7 +5,7 @@
 use mathlib.Core.Path.{_≡_, refl, sym, ap, subst, _∙_}
 use mathlib.Core.Bool.{Bool, true, false, cond, _&&_, _||_}
 use mathlib.Core.List.{List, [], _∷_, _++_, append-assoc, append-nil}
-use Prim.Native.Nat.{ℕ, suc, _+_, _-_}
+use Prim.Native.Nat.{ℕ, _+_, _-_}
 use native.Mathlib.Nat.{sub-zero}
 use native.Mathlib.Omega.{arith}
 use borrow.Author.Tests.{eqb-true}
@@ -15,9 +15,9 @@ use Rattle.calls.specs.Calls.{fresh, rest}
 use Rattle.trellis.specs.Measure.{Two}
 use Rattle.nearest.specs.declared.Received.{Received}
 use Rattle.machine.specs.declared.Receiver.{Receiver}
-use Rattle.machine.specs.Machine.{Outcome, refused, shut, sound, machineOf, machineAfter}
+use Rattle.machine.specs.Machine.{Outcome, refused, shut, machineOf, machineAfter}
 use Rattle.machine.proofs.Owed.{machine-same, sound-told}
-use Rattle.reasons.specs.declared.Why.the-variants.{Done, NoRoom, Closed, Uneven}
+use Rattle.reasons.specs.declared.Why.the-variants.{Done, NoRoom, Uneven}
 use Rattle.reasons.specs.Reason.{Reason, reason, givenOf, isDone}
 use Rattle.told.specs.Told.{Told, speakerOf, judgeSymbol, Fine, withHeard}
 use Rattle.told.specs.Piece.{Piece}

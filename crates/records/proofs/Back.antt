@@ -18,7 +18,7 @@ use Rattle.records.specs.declared.Phase.{Phase}
 use Rattle.records.specs.declared.Phase.the-variants.{Start}
 use Rattle.records.specs.Kinds.{kindOf, mayStand, afterRole, begins}
 use Rattle.records.specs.Values.{Entry, entry, numberOf, coordinateOf, halfOf, bytesOf}
-use Rattle.records.specs.Reading.{Ending, clean, malformed, Reading, stopsAt, followedBy, nothingMore, readingFrom, readingOf, WellFormed}
+use Rattle.records.specs.Reading.{clean, malformed, Reading, stopsAt, followedBy, nothingMore, readingFrom, readingOf, WellFormed}
 
 -- ---- values
 

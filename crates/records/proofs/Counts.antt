@@ -1,7 +1,7 @@
 -- Counts at the end of 64 bits.
 --   capped-small, capped-last   a count that has room, and one that has none
 --   capped-more                 a capped count and some more is the count and some more, capped
-use mathlib.Core.Path.{_≡_, refl, sym, ap, _∙_}
+use mathlib.Core.Path.{_≡_, refl}
 use mathlib.Core.Bool.{Bool, true, false, cond}
 use Prim.Native.Nat.{ℕ, _+_, _≤_}
 use native.Mathlib.Omega.{arith}

@@ -1,7 +1,7 @@
 -- Coordinates of 16 bits in the machine's 32.
 --   low, high, high-fits   what the code computes of two bytes is the coordinate that they stand for
 --   both                   and it is no larger than 32768
-use mathlib.Core.Path.{_≡_, refl, sym, ap, _∙_}
+use mathlib.Core.Path.{_≡_, refl, _∙_}
 use mathlib.Core.Bool.{Bool, true, false, cond}
 use Prim.Native.Nat.{ℕ, suc, _+_, _-_, _*_, _≤_, _<_}
 use native.Mathlib.Omega.{arith}

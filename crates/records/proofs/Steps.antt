@@ -8,26 +8,25 @@
 --   following-append   bytes in two lumps
 use mathlib.Core.Path.{_≡_, refl, sym, ap, subst, _∙_}
 use mathlib.Core.Bool.{Bool, true, false, cond}
-use mathlib.Core.List.{List, [], _∷_, _++_, append-assoc, append-nil}
+use mathlib.Core.List.{List, [], _∷_, _++_, append-assoc}
 use Prim.Native.Nat.{ℕ, zero, suc, _+_, _≤_, _<_}
 use native.Mathlib.Omega.{arith}
 use native.Mathlib.Numerals.{add-one}
-use borrow.Author.Tests.{lt-ltb, le-ltb, le-leb, lt-leb, leb-true, leb-false, eq-eqb}
-use lib.Dec.{eqb, leb, ltb}
+use borrow.Author.Tests.{lt-ltb, le-ltb, le-leb, lt-leb, leb-true, leb-false}
+use lib.Dec.{eqb, leb}
 use lib.ListN.{length, take, drop, set, length-set, length-append, length-drop}
 use lib.Seq.{take-suc-set}
-use Rattle.records.specs.declared.Kind.{Kind}
 use Rattle.records.specs.declared.Role.{Role}
 use Rattle.records.specs.declared.Role.the-variants.{Open, Symbol, Word, Finish, Unknown}
 use Rattle.records.specs.declared.Phase.{Phase}
 use Rattle.records.specs.declared.Phase.the-variants.{Start, Opened, Running, Over}
 use Rattle.records.specs.declared.Stage.{Stage}
-use Rattle.records.specs.declared.Stage.the-variants.{Fresh, Part, Whole, Bad}
+use Rattle.records.specs.declared.Stage.the-variants.{Part, Whole, Bad}
 use Rattle.records.specs.declared.Frame.{Frame}
 use Rattle.records.specs.Kinds.{kindOf, mayStand, afterRole, begins, row}
 use Rattle.records.specs.Values.{Entry, entry}
-use Rattle.records.specs.Reading.{Ending, clean, malformed, Reading, stopsAt, followedBy, nothingMore, readingFrom, readingOf}
-use Rattle.records.specs.Frames.{capped, stageAt, fresh, begun, grown, pushed, entryOf, Read, ended, before, following, endingOf, cappedEnding}
+use Rattle.records.specs.Reading.{clean, malformed, Reading, stopsAt, followedBy, nothingMore, readingFrom, readingOf}
+use Rattle.records.specs.Frames.{capped, stageAt, fresh, begun, grown, pushed, Read, ended, before, following, endingOf, cappedEnding}
 use Rattle.records.proofs.Counts.{capped-more}
 
 -- ---- the table

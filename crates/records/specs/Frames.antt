@@ -7,11 +7,10 @@
 --   endingOf f       what the end of input says of a frame
 --   cappedEnding e   an ending, its offset at the end of 64 bits
 use Prim.Native.Nat.{ℕ, _+_}
-use mathlib.Core.Bool.{true, false, cond}
+use mathlib.Core.Bool.{cond}
 use mathlib.Core.List.{List, [], _∷_, _++_}
 use lib.Dec.{ltb, leb}
 use lib.ListN.{take, set, replicate}
-use Rattle.records.specs.declared.Kind.{Kind}
 use Rattle.records.specs.declared.Phase.the-variants.{Start}
 use Rattle.records.specs.declared.Stage.{Stage}
 use Rattle.records.specs.declared.Stage.the-variants.{Fresh, Part, Whole, Bad}

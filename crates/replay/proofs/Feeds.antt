@@ -6,7 +6,7 @@
 --   ended-fault, ended-cut, ended-due, ended-agree   the verdict by the code's tests
 --   found-fault, found-bad   whether a fault is found
 use mathlib.Core.Path.{_≡_, refl, sym, ap, _∙_}
-use mathlib.Core.Bool.{Bool, true, false, cond}
+use mathlib.Core.Bool.{Bool, true, false}
 use mathlib.Core.List.{List, [], _∷_, _++_}
 use Prim.Native.Nat.{ℕ, _+_, _≤_, _<_}
 use native.Mathlib.Omega.{arith}
@@ -21,7 +21,7 @@ use Rattle.records.specs.Frames.{pushed, entryOf, Read, following, ended as who
 use Rattle.gather.specs.Runs.{Advances}
 use Rattle.gather.proofs.Gathers.{run-some, run-most}
 use Rattle.replay_step.specs.declared.Verdict.{Verdict}
-use Rattle.replay_step.specs.declared.Verdict.the-variants.{Agree, Missing, Malformed}
+use Rattle.replay_step.specs.declared.Verdict.the-variants.{Missing, Malformed}
 use Rattle.replay_step.specs.declared.Judge.{Judge}
 use Rattle.replay_step.specs.declared.Due.the-variants.{None, Word as Next}
 use Rattle.replay_step.specs.Judging.{State, stateOf, left, firstDue, took}

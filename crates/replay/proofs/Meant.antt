@@ -7,18 +7,16 @@
 use mathlib.Core.Path.{_≡_, refl, sym, ap, subst, _∙_}
 use mathlib.Core.Bool.{Bool, true, false, cond}
 use mathlib.Core.List.{List, [], _∷_, _++_}
-use Prim.Native.Nat.{ℕ, suc, _+_, _≤_, _<_}
+use Prim.Native.Nat.{ℕ, _+_, _≤_}
 use native.Mathlib.Omega.{arith}
-use native.Mathlib.Numerals.{add-one}
 use borrow.Author.Tests.{eqb-true}
 use lib.Dec.{eqb, ltb}
 use lib.ListN.{length, take, drop, replicate, length-append, length-drop}
 use lib.Seq.{take-at, drop-drop}
-use Rattle.points.specs.declared.Accord.{Accord}
 use Rattle.machine.specs.declared.Receiver.{Receiver}
 use Rattle.machine.specs.Machine.{shut, machineOf}
 use Rattle.reasons.specs.declared.Why.{Why}
-use Rattle.reasons.specs.Reason.{Reason, reason, givenOf, isDone}
+use Rattle.reasons.specs.Reason.{Reason, reason, givenOf}
 use Rattle.calls.specs.Calls.{rest}
 use Rattle.told.specs.Told.{Told, Fine, FineList, speakerOf, pendingAfter}
 use Rattle.told.specs.Piece.{Piece, pieceOf}
@@ -43,9 +41,8 @@ use Rattle.records.proofs.Counts.{capped-more}
 use Rattle.records.proofs.Steps.{following-reads}
 use Rattle.replay_step.specs.declared.Verdict.{Verdict}
 use Rattle.replay_step.specs.declared.Verdict.the-variants.{Agree, Differs, Extra, Missing, Refused, Malformed}
-use Rattle.replay_step.specs.declared.Judge.{Judge}
 use Rattle.replay_step.specs.Judging as code
-use Rattle.replay_step.specs.Judging.{State, stateOf, left, leftOf, took}
+use Rattle.replay_step.specs.Judging.{State, left, leftOf, took}
 use Rattle.replay.specs.declared.Replay.{Replay}
 use Rattle.replay.specs.Meaning.{Line, closed, told, Seen, nothingSeen, fault, went, answered, room, opened, opens, hears, ends}
 use Rattle.replay.specs.Meaning.{unlessDue, says, byRole, upon, taking, takings, atEnd, closingAt, closing, verdictOf}

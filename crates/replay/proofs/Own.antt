@@ -1,12 +1,12 @@
 -- A record's values stand in its own bytes: what lies behind them in the frame makes no difference.
 --   took-own    a record taken with the frame's eight bytes, and with as many as its kind has
-use mathlib.Core.Path.{_≡_, refl, sym, ap, _∙_}
+use mathlib.Core.Path.{_≡_, refl, sym}
 use mathlib.Core.Bool.{Bool, true, false, cond}
-use mathlib.Core.List.{List, [], _∷_}
-use Prim.Native.Nat.{ℕ, _<_}
+use mathlib.Core.List.{List}
+use Prim.Native.Nat.{ℕ}
 use native.Mathlib.Omega.{arith}
 use lib.Dec.{eqb}
-use lib.ListN.{length, take, getD}
+use lib.ListN.{take}
 use lib.Seq.{getD-take}
 use Rattle.records.specs.declared.Kind.{Kind}
 use Rattle.records.specs.declared.Role.the-variants.{Open, Symbol, Word, Finish, Unknown}
@@ -14,7 +14,7 @@ use Rattle.records.specs.Kinds.{kindOf, row}
 use Rattle.records.specs.Values.{entry}
 use Rattle.replay_step.specs.declared.Verdict.{Verdict}
 use Rattle.replay_step.specs.declared.Verdict.the-variants.{Agree, Differs, Extra, Missing, Refused, Malformed}
-use Rattle.replay_step.specs.Judging.{State, byRole, upon, took, opened, heard}
+use Rattle.replay_step.specs.Judging.{State, byRole, upon, took, heard}
 
 module _ (s : State) (n : ℕ) (b : List ℕ) where
   Own : Kind → Type 0

@@ -10,7 +10,6 @@ use Prim.Native.Nat.{ℕ, _+_}
 use mathlib.Core.Bool.{cond}
 use mathlib.Core.List.{List, [], _∷_}
 use lib.Dec.{eqb}
-use Rattle.points.specs.declared.Accord.{Accord}
 use Rattle.told.specs.Told.{Told}
 use Rattle.told.specs.Piece.{pieceOf}
 use Rattle.told.specs.Owed.{pieceOwed, finishOwed}

@@ -4,19 +4,17 @@
 --   line-short          no line is longer than 64 bytes
 --   line-is             what is put at the front of a page stands there
 --   line-settled        any two lines that the promise allows say the same
-use Prim.Native.Nat.{ℕ, zero, suc, _+_, _-_, _^_, _≤_, _<_, min, max}
+use Prim.Native.Nat.{ℕ, _+_, _-_, _^_, _≤_, _<_}
 use mathlib.Core.Path.{_≡_, refl, sym, ap, subst, _∙_}
 use mathlib.Core.Bool.{Bool, true, false}
-use mathlib.Core.List.{List, [], _∷_, _++_}
+use mathlib.Core.List.{List, _++_}
 use native.Mathlib.Omega.{arith}
 use native.Mathlib.Nat.{pow-le-pow-right}
 use borrow.Author.Tests.{leb-true, leb-false}
 use lib.Dec.{leb}
 use lib.ListN.{length, take, drop, length-append}
 use lib.Seq.{take-at}
-use Rattle.io.specs.Counts.{Counts}
 use Rattle.io.specs.Digits.{digits, Fewest}
-use Rattle.text.specs.Bytes.{bytes}
 use Rattle.page.specs.Page.{Puts}
 use Rattle.phrases.specs.Phrase.{decimal}
 use Rattle.phrases.proofs.Phrases.{decimal-short}

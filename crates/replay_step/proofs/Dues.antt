@@ -4,20 +4,19 @@
 --   answer-refused, answer-took         what the receiver's answer does
 --   missing-is, nothing-due             what is due before a symbol or a finish
 use mathlib.Core.Path.{_≡_, refl, sym, ap, _∙_}
-use mathlib.Core.Bool.{Bool, true, false, cond}
+use mathlib.Core.Bool.{Bool, true, false}
 use mathlib.Core.List.{List, [], _∷_}
 use Prim.Native.Nat.{ℕ, _+_, _≤_, _<_}
 use native.Mathlib.Omega.{arith}
 use borrow.Author.Tests.{eq-eqb, ne-eqb, ltb-true, ltb-false}
-use lib.Dec.{eqb, ltb}
-use lib.ListN.{length, take, drop, getD, length-take, drop-of-length-le}
+use lib.Dec.{ltb}
+use lib.ListN.{length, take, getD, length-take, drop-of-length-le}
 use lib.Seq.{drop-cons, getD-take}
 use Rattle.machine.specs.declared.Core.{Core}
 use Rattle.reasons.specs.declared.Why.{Why}
 use Rattle.reasons.specs.Reason.{givenOf, isDone}
 use Rattle.records.specs.Frames.{capped}
 use Rattle.replay_step.specs.declared.Judge.{Judge}
-use Rattle.replay_step.specs.declared.Due.{Due}
 use Rattle.replay_step.specs.declared.Due.the-variants.{None, Word as Next}
 use Rattle.replay_step.specs.declared.Verdict.the-variants.{Differs, Extra, Missing, Refused}
 use Rattle.replay_step.specs.Judging.{State, left, firstDue, ruled, showed, answeredBy, tookWord, faulted, unlessDue}

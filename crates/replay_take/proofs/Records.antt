@@ -9,7 +9,7 @@
 use mathlib.Core.Path.{_≡_, refl, sym, ap, subst, _∙_}
 use mathlib.Core.Bool.{Bool, true, false, cond}
 use mathlib.Core.List.{List, [], _∷_, _++_}
-use Prim.Native.Nat.{ℕ, _+_, _-_, _≤_}
+use Prim.Native.Nat.{ℕ, _-_, _≤_}
 use native.Mathlib.Omega.{arith}
 use lib.Dec.{eqb}
 use lib.IntN.{ℤ, natAbs}
@@ -17,7 +17,6 @@ use lib.ListN.{length, drop}
 use mir.Syntax.{w32}
 use mir.Val.{toZ, ofZ}
 use Rattle.points.proofs.Signed.{reads}
-use Rattle.points.specs.declared.Accord.{Accord}
 use Rattle.machine.specs.declared.Core.{Core}
 use Rattle.machine.specs.declared.Receiver.{Receiver}
 use Rattle.machine.specs.Machine.{sound, Outcome}
@@ -44,7 +43,7 @@ use Rattle.replay_step.specs.declared.Verdict.{Verdict}
 use Rattle.replay_step.specs.declared.Verdict.the-variants.{Agree, Differs, Missing}
 use Rattle.replay_step.specs.declared.Judge.{Judge}
 use Rattle.replay_step.specs.declared.Due.the-variants.{None, Word as Next}
-use Rattle.replay_step.specs.Judging.{State, stateOf, left, leftOf, firstDue, ruled, showed, answeredBy, tookWord}
+use Rattle.replay_step.specs.Judging.{State, stateOf, leftOf, firstDue, ruled, showed, answeredBy, tookWord}
 use Rattle.replay_step.specs.Judging.{opened, answered, hears, finishes, heard, finished, worded, byRole, upon, took}
 use Rattle.replay_step.proofs.Dues.{missing-is, nothing-due}
 use Rattle.replay_take.specs.Lent.{Laid, undue}

@@ -8,7 +8,7 @@
 --   isWhole s         a record has just become whole
 use Prim.Native.Nat.{ℕ}
 use mathlib.Core.Bool.{Bool, true, false, cond}
-use mathlib.Core.List.{List, [], _++_, map}
+use mathlib.Core.List.{List, _++_, map}
 use lib.Dec.{eqb}
 use Rattle.text.specs.Bytes.{bytes}
 use Rattle.phrases.specs.Phrase.{decimal, whole, afterSpaces}

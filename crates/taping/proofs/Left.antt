@@ -1,9 +1,9 @@
 -- What one recorded symbol leaves: refused, nothing written and the receiver as it was; taken, a receiver that is sound again.
-use mathlib.Core.Path.{_≡_, refl, subst}
+use mathlib.Core.Path.{_≡_, refl}
 use mathlib.Core.Bool.{Bool, true, false, cond, _&&_}
 use mathlib.Core.List.{[]}
 use Prim.Native.Nat.{ℕ}
-use lib.Dec.{T, ltb}
+use lib.Dec.{ltb}
 use Rattle.trellis.specs.Measure.{Two}
 use Rattle.nearest.specs.declared.Received.{Received}
 use Rattle.machine.specs.declared.Receiver.{Receiver}

@@ -11,7 +11,7 @@ use Prim.Native.Nat.{ℕ, zero, suc, _+_, _-_, _*_, _/_, _<_, _≤_, min}
 use native.Mathlib.Nat.{sub-zero}
 use native.Mathlib.Omega.{arith}
 use lib.Dec.{T, ltb}
-use lib.IntN.{ℤ, pos, natAbs}
+use lib.IntN.{ℤ}
 use lib.ListN.{length, take, drop, length-append, length-drop, take-append-drop}
 use lib.Seq.{length-take-le}
 use Rattle.trellis.specs.Measure.{Two}
@@ -35,7 +35,6 @@ use Rattle.pieces.proofs.Kept.{symbol-refused}
 use Rattle.records.specs.Values.{bytesOf}
 use Rattle.tape.specs.Front.{symbolIn, symbolSpace, symbolRecords, Fronted, Small}
 use Rattle.tape.proofs.Fronts.{symbol-space}
-use Rattle.taping.specs.declared.Step.{Step}
 use Rattle.taping.specs.Taping.{tapedAt}
 use Rattle.taping.specs.Lent.{Refuses, StepOf, StepIs}
 use Rattle.taping.proofs.Prefix.{few, back, front}

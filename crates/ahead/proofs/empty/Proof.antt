@@ -1,12 +1,9 @@
 -- `empty`: whether the capture has ended, and where that may be.
-use mathlib.Core.Path.{_≡_, refl, sym, ap, _∙_}
+use mathlib.Core.Path.{sym, _∙_}
 use borrow.Author.Tests.{not-true, not-false}
 use borrow.Author.Needs.{needs}
 use Rattle.ahead.proofs.empty.Statement.{statement}
 use Rattle.ahead.proofs.empty.Tie as tie
-use Rattle.ahead.proofs.empty.Reads as reads
-use Rattle.ahead.proofs.empty.Lts as lts
-use Rattle.ahead.proofs.begins.Reads as begins-reads
 
 returns : tie.Need-returns
 returns c = simp (not-true (c .before .args .ends) (c .if1 .taken))

@@ -1,18 +1,11 @@
 -- `look`: by the first byte, and whether the record it begins lies there whole.
-use mathlib.Core.Path.{_≡_, refl, sym, ap, _∙_}
+use mathlib.Core.Path.{sym, _∙_}
 use native.Mathlib.Omega.{arith}
 use borrow.Author.Tests.{not-true, not-false}
 use borrow.Author.Needs.{needs}
 use Rattle.ahead.proofs.Fronts.{front-none, front-bad, front-cut, front-whole}
 use Rattle.ahead.proofs.look.Statement.{statement}
 use Rattle.ahead.proofs.look.Tie as tie
-use Rattle.ahead.proofs.look.Reads as reads
-use Rattle.ahead.proofs.look.Lts as lts
-use Rattle.records.proofs.after.Reads as after-reads
-use Rattle.ahead.proofs.cut.Reads as cut-reads
-use Rattle.ahead.proofs.empty.Reads as empty-reads
-use Rattle.records.proofs.kind_of.Reads as kind-of-reads
-use Rattle.records.proofs.may_stand.Reads as may-stand-reads
 
 empty-requires : tie.Need-empty-requires
 empty-requires c κs = search needs

@@ -1,7 +1,6 @@
 -- `quiet`: a list with no place stays as it is.
 use mathlib.Core.Path.{refl}
 use denote.Ref.{now}
-use native.Mathlib.Omega.{arith}
 use Rattle.collected.proofs.Empty.{empty-set}
 use borrow.Author.Needs.{needs}
 use Rattle.collected.proofs.quiet.Statement.{statement}

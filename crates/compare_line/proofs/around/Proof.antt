@@ -5,10 +5,6 @@ use Rattle.phrases.proofs.Phrases.{says-number}
 use borrow.Author.Needs.{needs}
 use Rattle.compare_line.proofs.around.Statement.{statement}
 use Rattle.compare_line.proofs.around.Tie as tie
-use Rattle.compare_line.proofs.around.Reads as reads
-use Rattle.compare_line.proofs.around.Lts as lts
-use Rattle.page.proofs.put_number.Reads as put-number-reads
-use Rattle.page.proofs.put_text.Reads as put-text-reads
 
 put-text-requires : tie.Need-put-text-requires
 put-text-requires c κs = search needs

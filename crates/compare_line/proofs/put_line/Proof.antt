@@ -4,9 +4,6 @@ use Rattle.compare_line.specs.Says.{lineText}
 use borrow.Author.Needs.{needs}
 use Rattle.compare_line.proofs.put_line.Statement.{statement}
 use Rattle.compare_line.proofs.put_line.Tie as tie
-use Rattle.compare_line.proofs.put_line.Reads as reads
-use Rattle.compare_line.proofs.put_line.Lts as lts
-use Rattle.compare_line.proofs.around.Reads as around-reads
 
 enum-known-line : tie.Need-enum-known-line
 enum-known-line c = search needs

@@ -1,6 +1,6 @@
 -- `form`: as many looks are left as the loop may still take.
 use Prim.Native.Nat.{_≤_}
-use mathlib.Core.Path.{_≡_, refl, sym, ap, subst, _∙_}
+use mathlib.Core.Path.{_≡_, refl, sym, _∙_}
 use native.Mathlib.Omega.{arith}
 use borrow.Author.Tests.{not-true, not-false}
 use borrow.Author.Needs.{needs}
@@ -9,10 +9,6 @@ use Rattle.compared.specs.Passing.{formFrom}
 use Rattle.compared.proofs.Loops.{form-ends, form-goes, form-last}
 use Rattle.compared.proofs.form.Statement.{statement}
 use Rattle.compared.proofs.form.Tie as tie
-use Rattle.compared.proofs.form.Reads as reads
-use Rattle.compared.proofs.form.Lts as lts
-use Rattle.compared.proofs.form_step.Reads as form-step-reads
-use Rattle.compared.proofs.is_record.Reads as is-record-reads
 
 abbrev Inv-loop : tie.InvT-loop
 Inv-loop at bytes ends f₀ left₀ f left = (f .used ≤ length bytes) × (formFrom left₀ f₀ bytes ends ≡ formFrom left f bytes ends)

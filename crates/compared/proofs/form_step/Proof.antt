@@ -1,15 +1,9 @@
 -- `form_step`: what stands at the front of the bytes left, and the place after it.
-use mathlib.Core.Path.{_≡_, refl, sym, ap, subst, _∙_}
 use native.Mathlib.Omega.{arith}
-use borrow.Author.Tests.{not-true, not-false}
 use Rattle.compared.proofs.Bounds.{looked-within, form-stepped}
 use borrow.Author.Needs.{needs}
 use Rattle.compared.proofs.form_step.Statement.{statement}
 use Rattle.compared.proofs.form_step.Tie as tie
-use Rattle.compared.proofs.form_step.Reads as reads
-use Rattle.compared.proofs.form_step.Lts as lts
-use Rattle.compared.proofs.further.Reads as further-reads
-use Rattle.ahead.proofs.look.Reads as look-reads
 
 sub-look : tie.Need-sub-look
 sub-look c = search needs

@@ -1,14 +1,11 @@
 -- `further`: an offset so many bytes further, which stays at the end of 64 bits.
-use mathlib.Core.Path.{_≡_, refl, sym, ap, subst, _∙_}
+use mathlib.Core.Path.{sym}
 use native.Mathlib.Omega.{arith}
-use borrow.Author.Tests.{not-true, not-false}
 use Rattle.records.proofs.Counts.{capped-small}
 use Rattle.compared.proofs.Bounds.{capped-large}
 use borrow.Author.Needs.{needs}
 use Rattle.compared.proofs.further.Statement.{statement}
 use Rattle.compared.proofs.further.Tie as tie
-use Rattle.compared.proofs.further.Reads as reads
-use Rattle.compared.proofs.further.Lts as lts
 
 sub-room : tie.Need-sub-room
 sub-room c = search needs

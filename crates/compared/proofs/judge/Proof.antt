@@ -1,12 +1,7 @@
 -- `judge`: by the sign on each side, and whether the two records are the same.
-use mathlib.Core.Path.{_≡_, refl, sym, ap, subst, _∙_}
-use native.Mathlib.Omega.{arith}
-use borrow.Author.Tests.{not-true, not-false}
 use borrow.Author.Needs.{needs}
 use Rattle.compared.proofs.judge.Statement.{statement}
 use Rattle.compared.proofs.judge.Tie as tie
-use Rattle.compared.proofs.judge.Reads as reads
-use Rattle.compared.proofs.judge.Lts as lts
 
 enum-told : tie.Need-enum-told
 enum-told c = search needs

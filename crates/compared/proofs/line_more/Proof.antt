@@ -1,13 +1,7 @@
 -- `line_more`: how many lines there are with that of an event.
-use mathlib.Core.Path.{_≡_, refl, sym, ap, subst, _∙_}
-use native.Mathlib.Omega.{arith}
-use borrow.Author.Tests.{not-true, not-false}
 use borrow.Author.Needs.{needs}
 use Rattle.compared.proofs.line_more.Statement.{statement}
 use Rattle.compared.proofs.line_more.Tie as tie
-use Rattle.compared.proofs.line_more.Reads as reads
-use Rattle.compared.proofs.line_more.Lts as lts
-use Rattle.records.proofs.counted.Reads as counted-reads
 
 enum-told : tie.Need-enum-told
 enum-told c = search needs

@@ -1,6 +1,6 @@
 -- `next`: as many pairs are left as the loop may still take.
 use Prim.Native.Nat.{_≤_}
-use mathlib.Core.Path.{_≡_, refl, sym, ap, subst, _∙_}
+use mathlib.Core.Path.{_≡_, refl, sym, _∙_}
 use native.Mathlib.Omega.{arith}
 use borrow.Author.Tests.{not-true, not-false}
 use borrow.Author.Needs.{needs}
@@ -9,10 +9,6 @@ use Rattle.compared.specs.Passing.{passFrom}
 use Rattle.compared.proofs.Loops.{pass-ends, pass-goes, pass-last}
 use Rattle.compared.proofs.next.Statement.{statement}
 use Rattle.compared.proofs.next.Tie as tie
-use Rattle.compared.proofs.next.Reads as reads
-use Rattle.compared.proofs.next.Lts as lts
-use Rattle.compared.proofs.is_same.Reads as is-same-reads
-use Rattle.compared.proofs.pair.Reads as pair-reads
 
 abbrev Inv-loop : tie.InvT-loop
 Inv-loop xs ys ends closes now₀ left₀ now left = ((now .here ≤ length xs) × (now .there ≤ length ys)) × (passFrom left₀ now₀ xs ys ends closes ≡ passFrom left now xs ys ends closes)

@@ -1,19 +1,11 @@
 -- `pair`: what the two fronts tell, and how far it goes.
-use mathlib.Core.Path.{_≡_, refl, sym, ap, subst, _∙_}
+use mathlib.Core.Path.{sym, _∙_}
 use native.Mathlib.Omega.{arith}
 use borrow.Author.Tests.{not-true, not-false}
 use Rattle.compared.proofs.Bounds.{looked-within, pair-halts, pair-moves}
 use borrow.Author.Needs.{needs}
 use Rattle.compared.proofs.pair.Statement.{statement}
 use Rattle.compared.proofs.pair.Tie as tie
-use Rattle.compared.proofs.pair.Reads as reads
-use Rattle.compared.proofs.pair.Lts as lts
-use Rattle.compared.proofs.judge.Reads as judge-reads
-use Rattle.compared.proofs.line_more.Reads as line-more-reads
-use Rattle.compared.proofs.takes.Reads as takes-reads
-use Rattle.ahead.proofs.look.Reads as look-reads
-use Rattle.records.proofs.counted.Reads as counted-reads
-use Rattle.text.proofs.token.same.Reads as same-reads
 
 sub-look : tie.Need-sub-look
 sub-look c = search needs

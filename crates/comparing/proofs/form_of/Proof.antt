@@ -6,10 +6,6 @@ use borrow.Author.Needs.{needs}
 use lib.ListN.{length}
 use Rattle.comparing.proofs.form_of.Statement.{statement}
 use Rattle.comparing.proofs.form_of.Tie as tie
-use Rattle.comparing.proofs.form_of.Reads as reads
-use Rattle.comparing.proofs.form_of.Lts as lts
-use Rattle.comparing.proofs.fresh.Reads as fresh-reads
-use Rattle.comparing.proofs.read_form.Reads as read-form-reads
 
 abbrev Inv-loop : tie.InvT-loop
 Inv-loop fd chunk₀ now₀ turns₀ chunk now turns = (now .side .from ≤ now .side .to) × (now .side .to ≤ length chunk) × (length chunk ≡ length chunk₀)

@@ -3,12 +3,6 @@ use native.Mathlib.Omega.{arith}
 use borrow.Author.Needs.{needs}
 use Rattle.comparing.proofs.look_on.Statement.{statement}
 use Rattle.comparing.proofs.look_on.Tie as tie
-use Rattle.comparing.proofs.look_on.Reads as reads
-use Rattle.comparing.proofs.look_on.Lts as lts
-use Rattle.comparing.proofs.goes.Reads as goes-reads
-use Rattle.comparing.proofs.heed.Reads as heed-reads
-use Rattle.comparing.proofs.passed.Reads as passed-reads
-use Rattle.comparing.proofs.told_by.Reads as told-by-reads
 
 told-by-requires : tie.Need-told-by-requires
 told-by-requires c κs = search needs

@@ -6,11 +6,6 @@ use Rattle.comparing.proofs.Moves.{still-there}
 use borrow.Author.Needs.{needs}
 use Rattle.comparing.proofs.refill.Statement.{statement}
 use Rattle.comparing.proofs.refill.Tie as tie
-use Rattle.comparing.proofs.refill.Reads as reads
-use Rattle.comparing.proofs.refill.Lts as lts
-use Rattle.comparing.proofs.to_front.Reads as to-front-reads
-use Rattle.io.proofs.count.Reads as count-reads
-use Rattle.libc.proofs.read.Reads as read-reads
 
 to-front-requires : tie.Need-to-front-requires
 to-front-requires c κs = search needs

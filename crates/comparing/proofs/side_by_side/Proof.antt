@@ -6,11 +6,6 @@ use borrow.Author.Needs.{needs}
 use lib.ListN.{length}
 use Rattle.comparing.proofs.side_by_side.Statement.{statement}
 use Rattle.comparing.proofs.side_by_side.Tie as tie
-use Rattle.comparing.proofs.side_by_side.Reads as reads
-use Rattle.comparing.proofs.side_by_side.Lts as lts
-use Rattle.compared.proofs.start.Reads as start-reads
-use Rattle.comparing.proofs.fresh.Reads as fresh-reads
-use Rattle.comparing.proofs.turn.Reads as turn-reads
 
 abbrev Inv-loop : tie.InvT-loop
 Inv-loop first second one₀ two₀ page₀ now₀ turns₀ one two page now turns =

@@ -1,14 +1,10 @@
 -- `to_front`: after i turns the first i bytes are moved.
 use Prim.Native.Nat.{_-_, _≤_}
-use mathlib.Core.Path.{_≡_, refl, sym, ap, subst, _∙_}
 use native.Mathlib.Omega.{arith}
 use borrow.Author.Needs.{needs}
-use lib.ListN.{length}
 use Rattle.comparing.proofs.Moves.{Moved, none-moved, one-moved}
 use Rattle.comparing.proofs.to_front.Statement.{statement}
 use Rattle.comparing.proofs.to_front.Tie as tie
-use Rattle.comparing.proofs.to_front.Reads as reads
-use Rattle.comparing.proofs.to_front.Lts as lts
 
 abbrev Inv-loop : tie.InvT-loop
 Inv-loop chunk₀ from to n i₀ chunk i = (i ≤ n) × Moved chunk₀ from i chunk

@@ -7,7 +7,7 @@ use denote.Ref.{now}
 use lib.ListN.{getD, take, drop, length}
 use lib.Seq.{take-all}
 use Rattle.layout.proofs.Lent.{copied-more, copied-length}
-use Rattle.course_layout.specs.Table.{half, Small}
+use Rattle.course_layout.specs.Table.{half}
 use Rattle.course_layout.proofs.Limits.{small-all}
 use Rattle.course_layout.proofs.widen.Statement.{statement}
 use Rattle.course_layout.proofs.widen.Tie as tie

@@ -5,11 +5,6 @@ use Rattle.gather.proofs.Gathers.{advance-one, advance-body}
 use borrow.Author.Needs.{needs}
 use Rattle.gather.proofs.advance.Statement.{statement}
 use Rattle.gather.proofs.advance.Tie as tie
-use Rattle.gather.proofs.advance.Reads as reads
-use Rattle.gather.proofs.advance.Lts as lts
-use Rattle.gather.proofs.grow.Reads as grow-reads
-use Rattle.gather.proofs.is_inside.Reads as is-inside-reads
-use Rattle.records.proofs.push.Reads as push-reads
 
 is-inside-requires : tie.Need-is-inside-requires
 is-inside-requires c κs = search needs

@@ -6,8 +6,6 @@ use Rattle.gather.proofs.Gathers.{capped-full}
 use borrow.Author.Needs.{needs}
 use Rattle.gather.proofs.fed_on.Statement.{statement}
 use Rattle.gather.proofs.fed_on.Tie as tie
-use Rattle.gather.proofs.fed_on.Reads as reads
-use Rattle.gather.proofs.fed_on.Lts as lts
 
 sub-if1 : tie.Need-sub-if1
 sub-if1 c = search needs

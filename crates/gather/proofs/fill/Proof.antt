@@ -8,8 +8,6 @@ use lib.Seq.{sets}
 use Rattle.gather.proofs.Gathers.{sets-more}
 use Rattle.gather.proofs.fill.Statement.{statement}
 use Rattle.gather.proofs.fill.Tie as tie
-use Rattle.gather.proofs.fill.Reads as reads
-use Rattle.gather.proofs.fill.Lts as lts
 
 abbrev Inv-loop : tie.InvT-loop
 Inv-loop have bytes from n filled₀ k₀ filled k = (k ≤ n) × (filled ≡ sets filled₀ have (take k (drop from bytes)))

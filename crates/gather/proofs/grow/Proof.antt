@@ -5,13 +5,6 @@ use Rattle.gather.proofs.Gathers.{wants}
 use borrow.Author.Needs.{needs}
 use Rattle.gather.proofs.grow.Statement.{statement}
 use Rattle.gather.proofs.grow.Tie as tie
-use Rattle.gather.proofs.grow.Reads as reads
-use Rattle.gather.proofs.grow.Lts as lts
-use Rattle.gather.proofs.fed_on.Reads as fed-on-reads
-use Rattle.gather.proofs.fill.Reads as fill-reads
-use Rattle.gather.proofs.least.Reads as least-reads
-use Rattle.records.proofs.kind_of.Reads as kind-of-reads
-use Rattle.records.proofs.stage_at.Reads as stage-at-reads
 
 kind-of-requires : tie.Need-kind-of-requires
 kind-of-requires c κs = search needs

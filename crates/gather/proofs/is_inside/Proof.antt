@@ -2,9 +2,6 @@
 use borrow.Author.Needs.{needs}
 use Rattle.gather.proofs.is_inside.Statement.{statement}
 use Rattle.gather.proofs.is_inside.Tie as tie
-use Rattle.gather.proofs.is_inside.Reads as reads
-use Rattle.gather.proofs.is_inside.Lts as lts
-use Rattle.records.proofs.kind_of.Reads as kind-of-reads
 
 kind-of-requires : tie.Need-kind-of-requires
 kind-of-requires c κs = search needs

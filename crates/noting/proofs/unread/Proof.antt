@@ -1,5 +1,4 @@
 -- `unread`: an answer alone.
-use Prim.Native.Nat.{_≤_}
 use mathlib.Core.Path.{_≡_}
 use native.Mathlib.Omega.{arith}
 use Rattle.noting.proofs.Notings.{idles}

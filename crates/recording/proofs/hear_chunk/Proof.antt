@@ -1,13 +1,10 @@
 -- `hear_chunk`: byte by byte, the line so far always in the list lent for it.
-use mathlib.Core.Path.{_≡_, sym}
+use mathlib.Core.Path.{_≡_}
 use Prim.Native.Nat.{_≤_, _-_}
 use lib.ListN.{length}
 use borrow.Author.Needs.{needs}
 use Rattle.recording.proofs.hear_chunk.Statement.{statement}
 use Rattle.recording.proofs.hear_chunk.Tie as tie
-use Rattle.recording.proofs.hear_chunk.Reads as reads
-use Rattle.recording.proofs.hear_chunk.Lts as lts
-use Rattle.recording.proofs.byte.Reads as byte-reads
 
 abbrev Inv-loop : tie.InvT-loop
 Inv-loop chunk line₀ coordinates₀ words₀ bytes₀ page₀ now₀ i₀ line coordinates words bytes page now i =

@@ -1,15 +1,10 @@
 -- `run`: the lists keep their lengths, and the turns are counted down.
-use mathlib.Core.Path.{_≡_, sym}
-use Prim.Native.Nat.{_≤_, _-_}
+use mathlib.Core.Path.{_≡_}
+use Prim.Native.Nat.{_≤_}
 use lib.ListN.{length}
 use borrow.Author.Needs.{needs}
 use Rattle.recording.proofs.run.Statement.{statement}
 use Rattle.recording.proofs.run.Tie as tie
-use Rattle.recording.proofs.run.Reads as reads
-use Rattle.recording.proofs.run.Lts as lts
-use Rattle.recording.proofs.read_once.Reads as read-once-reads
-use Rattle.lines.proofs.fresh.Reads as fresh-reads
-use Rattle.openings.proofs.closed_receiver.Reads as closed-receiver-reads
 
 abbrev Inv-loop : tie.InvT-loop
 Inv-loop chunk₀ line₀ coordinates₀ words₀ bytes₀ page₀ now₀ turns₀ chunk line coordinates words bytes page now turns =

@@ -1,13 +1,10 @@
 -- `write_front`: a part of the text that is there.
 use lib.Seq.{length-take-le}
-use mathlib.Core.Path.{_≡_, refl, sym, ap, _∙_}
+use mathlib.Core.Path.{sym}
 use native.Mathlib.Omega.{arith}
 use borrow.Author.Needs.{needs}
 use Rattle.recording.proofs.write_front.Statement.{statement}
 use Rattle.recording.proofs.write_front.Tie as tie
-use Rattle.recording.proofs.write_front.Reads as reads
-use Rattle.recording.proofs.write_front.Lts as lts
-use Rattle.io.proofs.write_all.Reads as write-all-reads
 
 returns : tie.Need-returns
 returns c = search needs

@@ -1,18 +1,10 @@
 -- `begin`: a kind byte, by whether its record may stand there.
 use Rattle.records.specs.Frames.{begun}
-use mathlib.Core.Path.{_≡_, refl, sym, ap, _∙_}
-use native.Mathlib.Omega.{arith}
-use borrow.Author.Tests.{not-true, not-false, eq-eqb, ne-eqb, lt-ltb, le-ltb, le-leb, lt-leb}
+use mathlib.Core.Path.{sym, _∙_}
+use borrow.Author.Tests.{not-true, not-false}
 use borrow.Author.Needs.{needs}
 use Rattle.records.proofs.begin.Statement.{statement}
 use Rattle.records.proofs.begin.Tie as tie
-use Rattle.records.proofs.begin.Reads as reads
-use Rattle.records.proofs.begin.Lts as lts
-use Rattle.records.proofs.after.Reads as after-reads
-use Rattle.records.proofs.counted.Reads as counted-reads
-use Rattle.records.proofs.kind_of.Reads as kind-of-reads
-use Rattle.records.proofs.may_stand.Reads as may-stand-reads
-use Rattle.records.proofs.stage_at.Reads as stage-at-reads
 
 kind-of-requires : tie.Need-kind-of-requires
 kind-of-requires c κs = search needs

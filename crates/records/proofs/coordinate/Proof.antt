@@ -1,13 +1,8 @@
 -- `coordinate`: two bytes as a signed number of 16 bits.
 use Rattle.records.proofs.Halves.{low, high, high-fits, both}
-use mathlib.Core.Path.{_≡_, refl, sym, ap, _∙_}
-use native.Mathlib.Omega.{arith}
-use borrow.Author.Tests.{not-true, not-false, eq-eqb, ne-eqb, lt-ltb, le-ltb, le-leb, lt-leb}
 use borrow.Author.Needs.{needs}
 use Rattle.records.proofs.coordinate.Statement.{statement}
 use Rattle.records.proofs.coordinate.Tie as tie
-use Rattle.records.proofs.coordinate.Reads as reads
-use Rattle.records.proofs.coordinate.Lts as lts
 
 mul-v : tie.Need-mul-v
 mul-v c = search needs

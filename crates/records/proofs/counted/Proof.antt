@@ -1,14 +1,10 @@
 -- `counted`: one more, which stays at the end of 64 bits.
 use Rattle.records.proofs.Counts.{capped-small, capped-last}
-use Rattle.records.specs.Frames.{capped}
-use mathlib.Core.Path.{_≡_, refl, sym, ap, _∙_}
+use mathlib.Core.Path.{sym}
 use native.Mathlib.Omega.{arith}
-use borrow.Author.Tests.{not-true, not-false, eq-eqb, ne-eqb, lt-ltb, le-ltb, le-leb, lt-leb}
 use borrow.Author.Needs.{needs}
 use Rattle.records.proofs.counted.Statement.{statement}
 use Rattle.records.proofs.counted.Tie as tie
-use Rattle.records.proofs.counted.Reads as reads
-use Rattle.records.proofs.counted.Lts as lts
 
 add-result : tie.Need-add-result
 add-result c = search needs

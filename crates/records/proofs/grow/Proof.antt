@@ -1,16 +1,9 @@
 -- `grow`: one byte more in the body.
 use Rattle.records.specs.Frames.{grown}
-use mathlib.Core.Path.{_≡_, refl, sym, ap, _∙_}
-use native.Mathlib.Omega.{arith}
-use borrow.Author.Tests.{not-true, not-false, eq-eqb, ne-eqb, lt-ltb, le-ltb, le-leb, lt-leb}
+use borrow.Author.Tests.{le-leb, lt-leb}
 use borrow.Author.Needs.{needs}
 use Rattle.records.proofs.grow.Statement.{statement}
 use Rattle.records.proofs.grow.Tie as tie
-use Rattle.records.proofs.grow.Reads as reads
-use Rattle.records.proofs.grow.Lts as lts
-use Rattle.records.proofs.counted.Reads as counted-reads
-use Rattle.records.proofs.kind_of.Reads as kind-of-reads
-use Rattle.records.proofs.stage_at.Reads as stage-at-reads
 
 returns : tie.Need-returns
 unfolding grown

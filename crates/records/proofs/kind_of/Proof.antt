@@ -1,12 +1,8 @@
 -- `kind_of`: the table of kinds, row by row.
 use Rattle.records.specs.Kinds.{kindOf}
-use mathlib.Core.Path.{_≡_, refl, sym, ap, _∙_}
-use native.Mathlib.Omega.{arith}
-use borrow.Author.Tests.{not-true, not-false, eq-eqb, ne-eqb, lt-ltb, le-ltb, le-leb, lt-leb}
+use borrow.Author.Tests.{eq-eqb, ne-eqb}
 use Rattle.records.proofs.kind_of.Statement.{statement}
 use Rattle.records.proofs.kind_of.Tie as tie
-use Rattle.records.proofs.kind_of.Reads as reads
-use Rattle.records.proofs.kind_of.Lts as lts
 
 returns : tie.Need-returns
 unfolding kindOf

@@ -1,13 +1,9 @@
 -- `number`: four bytes as a number of 32 bits, the lowest first.
 use Rattle.records.specs.Values.{numberOf}
-use mathlib.Core.Path.{_≡_, refl, sym, ap, _∙_}
-use native.Mathlib.Omega.{arith}
-use borrow.Author.Tests.{not-true, not-false, eq-eqb, ne-eqb, lt-ltb, le-ltb, le-leb, lt-leb}
+use mathlib.Core.Path.{refl}
 use borrow.Author.Needs.{needs}
 use Rattle.records.proofs.number.Statement.{statement}
 use Rattle.records.proofs.number.Tie as tie
-use Rattle.records.proofs.number.Reads as reads
-use Rattle.records.proofs.number.Lts as lts
 
 mul-result : tie.Need-mul-result
 mul-result c = search needs

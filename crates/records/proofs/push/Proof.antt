@@ -1,15 +1,8 @@
 -- `push`: a kind byte, or one more byte of a body.
 use Rattle.records.specs.Frames.{pushed}
-use mathlib.Core.Path.{_≡_, refl, sym, ap, _∙_}
-use native.Mathlib.Omega.{arith}
-use borrow.Author.Tests.{not-true, not-false, eq-eqb, ne-eqb, lt-ltb, le-ltb, le-leb, lt-leb}
 use borrow.Author.Needs.{needs}
 use Rattle.records.proofs.push.Statement.{statement}
 use Rattle.records.proofs.push.Tie as tie
-use Rattle.records.proofs.push.Reads as reads
-use Rattle.records.proofs.push.Lts as lts
-use Rattle.records.proofs.begin.Reads as begin-reads
-use Rattle.records.proofs.grow.Reads as grow-reads
 
 enum-told : tie.Need-enum-told
 enum-told c = search needs

@@ -1,8 +1,7 @@
 -- `feed_lent`: a run of bytes a round.
-use borrow.Author.Tests.{not-true, not-false, eq-eqb, ne-eqb, lt-ltb, le-ltb, le-leb, lt-leb}
 use borrow.Author.Needs.{needs}
 use native.Mathlib.Omega.{arith}
-use mathlib.Core.Path.{_≡_, refl, sym, ap, _∙_}
+use mathlib.Core.Path.{_≡_, refl, sym, _∙_}
 use Prim.Native.Nat.{_≤_, _<_, _-_, _+_}
 use denote.Ref.{now}
 use lib.ListN.{length, drop}
@@ -10,10 +9,6 @@ use Rattle.replay.specs.Course.{courseOf, feedings}
 use Rattle.replay.proofs.Feeds.{again, runs, done}
 use Rattle.replay.proofs.feed_lent.Statement.{statement}
 use Rattle.replay.proofs.feed_lent.Tie as tie
-use Rattle.replay.proofs.feed_lent.Reads as reads
-use Rattle.replay.proofs.feed_lent.Lts as lts
-use Rattle.gather.proofs.advance.Reads as advance-reads
-use Rattle.replay.proofs.settle.Reads as settle-reads
 
 abbrev Inv-loop : tie.InvT-loop
 Inv-loop bytes sums₀ planes₀ picks₀ due₀ f₀ j₀ i₀ sums planes picks due f j i =

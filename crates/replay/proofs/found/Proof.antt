@@ -1,15 +1,10 @@
 -- `found`: a frame that is malformed, or a verdict other than agreement.
 use Rattle.replay.proofs.Feeds.{found-fault, found-bad}
-use mathlib.Core.Path.{_≡_, refl, sym, ap, _∙_}
-use native.Mathlib.Omega.{arith}
-use borrow.Author.Tests.{not-true, not-false, eq-eqb, ne-eqb, lt-ltb, le-ltb, le-leb, lt-leb}
+use mathlib.Core.Path.{sym, _∙_}
+use borrow.Author.Tests.{not-true, not-false}
 use borrow.Author.Needs.{needs}
 use Rattle.replay.proofs.found.Statement.{statement}
 use Rattle.replay.proofs.found.Tie as tie
-use Rattle.replay.proofs.found.Reads as reads
-use Rattle.replay.proofs.found.Lts as lts
-use Rattle.replay.proofs.is_agreed.Reads as is-agreed-reads
-use Rattle.replay.proofs.is_bad.Reads as is-bad-reads
 
 is-agreed-requires : tie.Need-is-agreed-requires
 is-agreed-requires c κs = search needs

@@ -1,15 +1,10 @@
 -- `settle`: the judge takes a record that has just become whole, and nothing else.
 use Rattle.replay.proofs.Feeds.{settle-no, settle-yes}
-use mathlib.Core.Path.{_≡_, refl, sym, ap, _∙_}
-use native.Mathlib.Omega.{arith}
-use borrow.Author.Tests.{not-true, not-false, eq-eqb, ne-eqb, lt-ltb, le-ltb, le-leb, lt-leb}
+use mathlib.Core.Path.{sym, _∙_}
+use borrow.Author.Tests.{not-true, not-false}
 use borrow.Author.Needs.{needs}
 use Rattle.replay.proofs.settle.Statement.{statement}
 use Rattle.replay.proofs.settle.Tie as tie
-use Rattle.replay.proofs.settle.Reads as reads
-use Rattle.replay.proofs.settle.Lts as lts
-use Rattle.replay.proofs.is_whole.Reads as is-whole-reads
-use Rattle.replay_take.proofs.take.Reads as take-reads
 
 is-whole-requires : tie.Need-is-whole-requires
 is-whole-requires c κs = search needs

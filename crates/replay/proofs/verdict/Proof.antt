@@ -1,16 +1,10 @@
 -- `verdict`: what was found, a record that is cut, words that are due, or agreement.
 use Rattle.replay.proofs.Feeds.{ended-fault, ended-cut, ended-due, ended-agree}
-use mathlib.Core.Path.{_≡_, refl, sym, ap, _∙_}
-use native.Mathlib.Omega.{arith}
-use borrow.Author.Tests.{not-true, not-false, eq-eqb, ne-eqb, lt-ltb, le-ltb, le-leb, lt-leb}
+use mathlib.Core.Path.{sym, _∙_}
+use borrow.Author.Tests.{not-true, not-false}
 use borrow.Author.Needs.{needs}
 use Rattle.replay.proofs.verdict.Statement.{statement}
 use Rattle.replay.proofs.verdict.Tie as tie
-use Rattle.replay.proofs.verdict.Reads as reads
-use Rattle.replay.proofs.verdict.Lts as lts
-use Rattle.replay.proofs.is_agreed.Reads as is-agreed-reads
-use Rattle.replay.proofs.is_whole.Reads as is-whole-reads
-use Rattle.replay_step.proofs.next_due.Reads as next-due-reads
 
 is-agreed-requires : tie.Need-is-agreed-requires
 is-agreed-requires c κs = search needs

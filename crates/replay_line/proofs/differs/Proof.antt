@@ -7,10 +7,6 @@ use Rattle.replay_line.proofs.Lines.{expected-near}
 use borrow.Author.Needs.{needs}
 use Rattle.replay_line.proofs.differs.Statement.{statement}
 use Rattle.replay_line.proofs.differs.Tie as tie
-use Rattle.replay_line.proofs.differs.Reads as reads
-use Rattle.replay_line.proofs.differs.Lts as lts
-use Rattle.replay_line.proofs.expected.Reads as expected-reads
-use Rattle.replay_line.proofs.put_hex.Reads as put-hex-reads
 
 slice-aggregate-expected : tie.Need-slice-aggregate-expected
 slice-aggregate-expected c = search needs

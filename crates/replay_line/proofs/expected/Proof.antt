@@ -5,10 +5,6 @@ use Rattle.replay_line.proofs.Lines.{word-near}
 use borrow.Author.Needs.{needs}
 use Rattle.replay_line.proofs.expected.Statement.{statement}
 use Rattle.replay_line.proofs.expected.Tie as tie
-use Rattle.replay_line.proofs.expected.Reads as reads
-use Rattle.replay_line.proofs.expected.Lts as lts
-use Rattle.page.proofs.put_text.Reads as put-text-reads
-use Rattle.replay_line.proofs.worded.Reads as worded-reads
 
 slice-aggregate-worded : tie.Need-slice-aggregate-worded
 slice-aggregate-worded c = search needs

@@ -1,18 +1,10 @@
 -- `head`: a text, a number and a text, one after the other.
-use Rattle.replay_line.specs.Says.{lineOf}
-use Rattle.phrases.proofs.Phrases.{says-number, decimal-short}
+use Rattle.phrases.proofs.Phrases.{says-number}
 use Rattle.page.proofs.Pages.{joined}
-use Rattle.replay_line.proofs.Lines.{hex-few, hex-put, hex-length, head-near, word-near, line-is}
-use mathlib.Core.Path.{_≡_, refl, sym, ap, _∙_}
 use native.Mathlib.Omega.{arith}
-use borrow.Author.Tests.{not-true, not-false, eq-eqb, ne-eqb, lt-ltb, le-ltb, le-leb, lt-leb}
 use borrow.Author.Needs.{needs}
 use Rattle.replay_line.proofs.head.Statement.{statement}
 use Rattle.replay_line.proofs.head.Tie as tie
-use Rattle.replay_line.proofs.head.Reads as reads
-use Rattle.replay_line.proofs.head.Lts as lts
-use Rattle.page.proofs.put_number.Reads as put-number-reads
-use Rattle.page.proofs.put_text.Reads as put-text-reads
 
 put-text-requires : tie.Need-put-text-requires
 put-text-requires c κs = search needs

@@ -1,19 +1,9 @@
 -- `put_hex`: eight digits, the highest first.
-use Rattle.text.specs.Bytes.{bytes}
-use Rattle.replay_line.specs.Says.{lineOf}
-use Rattle.phrases.proofs.Phrases.{says-number, decimal-short}
-use Rattle.page.proofs.Pages.{joined}
-use Rattle.replay_line.proofs.Lines.{hex-few, hex-put, hex-length, head-near, word-near, line-is}
-use mathlib.Core.Path.{_≡_, refl, sym, ap, _∙_}
+use Rattle.replay_line.proofs.Lines.{hex-few, hex-put}
 use native.Mathlib.Omega.{arith}
-use borrow.Author.Tests.{not-true, not-false, eq-eqb, ne-eqb, lt-ltb, le-ltb, le-leb, lt-leb}
 use borrow.Author.Needs.{needs}
 use Rattle.replay_line.proofs.put_hex.Statement.{statement}
 use Rattle.replay_line.proofs.put_hex.Tie as tie
-use Rattle.replay_line.proofs.put_hex.Reads as reads
-use Rattle.replay_line.proofs.put_hex.Lts as lts
-use Rattle.io.proofs.hex.Reads as hex-reads
-use Rattle.page.proofs.put_text.Reads as put-text-reads
 
 hex-requires : tie.Need-hex-requires
 hex-requires c κs = search needs

@@ -3,13 +3,6 @@ use Rattle.replay_line.specs.Says.{lineOf}
 use borrow.Author.Needs.{needs}
 use Rattle.replay_line.proofs.put_line.Statement.{statement}
 use Rattle.replay_line.proofs.put_line.Tie as tie
-use Rattle.replay_line.proofs.put_line.Reads as reads
-use Rattle.replay_line.proofs.put_line.Lts as lts
-use Rattle.replay_line.proofs.differs.Reads as differs-reads
-use Rattle.replay_line.proofs.expected.Reads as expected-reads
-use Rattle.replay_line.proofs.head.Reads as head-reads
-use Rattle.replay_line.proofs.refused.Reads as refused-reads
-use Rattle.replay_line.proofs.worded.Reads as worded-reads
 
 enum-known-v : tie.Need-enum-known-v
 enum-known-v c = search needs

@@ -1,19 +1,13 @@
 -- `refused`: the line of a refused symbol or opening.
 use Rattle.text.specs.Bytes.{bytes}
 use Rattle.replay_line.specs.Says.{lineOf}
-use Rattle.phrases.proofs.Phrases.{says-number, decimal-short}
+use Rattle.phrases.proofs.Phrases.{says-number}
 use Rattle.page.proofs.Pages.{joined}
-use Rattle.replay_line.proofs.Lines.{hex-few, hex-put, hex-length, head-near, word-near, line-is}
-use mathlib.Core.Path.{_≡_, refl, sym, ap, _∙_}
+use Rattle.replay_line.proofs.Lines.{head-near}
 use native.Mathlib.Omega.{arith}
-use borrow.Author.Tests.{not-true, not-false, eq-eqb, ne-eqb, lt-ltb, le-ltb, le-leb, lt-leb}
 use borrow.Author.Needs.{needs}
 use Rattle.replay_line.proofs.refused.Statement.{statement}
 use Rattle.replay_line.proofs.refused.Tie as tie
-use Rattle.replay_line.proofs.refused.Reads as reads
-use Rattle.replay_line.proofs.refused.Lts as lts
-use Rattle.page.proofs.put_number.Reads as put-number-reads
-use Rattle.replay_line.proofs.head.Reads as head-reads
 
 slice-aggregate-head : tie.Need-slice-aggregate-head
 slice-aggregate-head c = search needs

@@ -6,10 +6,6 @@ use Rattle.replay_line.proofs.Lines.{head-near}
 use borrow.Author.Needs.{needs}
 use Rattle.replay_line.proofs.worded.Statement.{statement}
 use Rattle.replay_line.proofs.worded.Tie as tie
-use Rattle.replay_line.proofs.worded.Reads as reads
-use Rattle.replay_line.proofs.worded.Lts as lts
-use Rattle.replay_line.proofs.head.Reads as head-reads
-use Rattle.replay_line.proofs.put_hex.Reads as put-hex-reads
 
 slice-aggregate-head : tie.Need-slice-aggregate-head
 slice-aggregate-head c = search needs

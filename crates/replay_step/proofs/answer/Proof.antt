@@ -5,12 +5,6 @@ use borrow.Author.Needs.{needs}
 use Rattle.replay_step.proofs.Dues.{answer-refused, answer-took}
 use Rattle.replay_step.proofs.answer.Statement.{statement}
 use Rattle.replay_step.proofs.answer.Tie as tie
-use Rattle.replay_step.proofs.answer.Reads as reads
-use Rattle.replay_step.proofs.answer.Lts as lts
-use Rattle.reasons.proofs.is_done.Reads as is-done-reads
-use Rattle.reasons.proofs.number.Reads as number-reads
-use Rattle.records.proofs.counted.Reads as counted-reads
-use Rattle.replay_step.proofs.rule.Reads as rule-reads
 
 is-done-requires : tie.Need-is-done-requires
 is-done-requires c κs = search needs

@@ -1,13 +1,8 @@
 -- `next_due`: the first of the words that are due.
 use Rattle.replay_step.proofs.Dues.{none-given, none-there, some-left}
-use mathlib.Core.Path.{_≡_, refl, sym, ap, _∙_}
-use native.Mathlib.Omega.{arith}
-use borrow.Author.Tests.{not-true, not-false, eq-eqb, ne-eqb, lt-ltb, le-ltb, le-leb, lt-leb}
 use borrow.Author.Needs.{needs}
 use Rattle.replay_step.proofs.next_due.Statement.{statement}
 use Rattle.replay_step.proofs.next_due.Tie as tie
-use Rattle.replay_step.proofs.next_due.Reads as reads
-use Rattle.replay_step.proofs.next_due.Lts as lts
 
 returns : tie.Need-returns
 returns c = none-given _ _ _ (c .if1 .taken)

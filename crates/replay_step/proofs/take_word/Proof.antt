@@ -1,16 +1,10 @@
 -- `take_word`: no word is due, another is, or this one.
 use Rattle.replay_step.proofs.Dues.{word-none, word-other, word-same, due-below}
-use mathlib.Core.Path.{_≡_, refl, sym, ap, _∙_}
+use mathlib.Core.Path.{sym, _∙_}
 use native.Mathlib.Omega.{arith}
-use borrow.Author.Tests.{not-true, not-false, eq-eqb, ne-eqb, lt-ltb, le-ltb, le-leb, lt-leb}
 use borrow.Author.Needs.{needs}
 use Rattle.replay_step.proofs.take_word.Statement.{statement}
 use Rattle.replay_step.proofs.take_word.Tie as tie
-use Rattle.replay_step.proofs.take_word.Reads as reads
-use Rattle.replay_step.proofs.take_word.Lts as lts
-use Rattle.records.proofs.counted.Reads as counted-reads
-use Rattle.replay_step.proofs.next_due.Reads as next-due-reads
-use Rattle.replay_step.proofs.rule.Reads as rule-reads
 
 next-due-requires : tie.Need-next-due-requires
 next-due-requires c κs = search needs

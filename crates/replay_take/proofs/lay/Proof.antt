@@ -5,9 +5,6 @@ use Rattle.replay_take.proofs.Records.{laid-done, laid-refused}
 use borrow.Author.Needs.{needs}
 use Rattle.replay_take.proofs.lay.Statement.{statement}
 use Rattle.replay_take.proofs.lay.Tie as tie
-use Rattle.replay_take.proofs.lay.Reads as reads
-use Rattle.replay_take.proofs.lay.Lts as lts
-use Rattle.reasons.proofs.is_done.Reads as is-done-reads
 
 is-done-requires : tie.Need-is-done-requires
 is-done-requires c κs = search needs

@@ -3,9 +3,6 @@ use Rattle.replay_take.proofs.Records.{four}
 use borrow.Author.Needs.{needs}
 use Rattle.replay_take.proofs.piece_of.Statement.{statement}
 use Rattle.replay_take.proofs.piece_of.Tie as tie
-use Rattle.replay_take.proofs.piece_of.Reads as reads
-use Rattle.replay_take.proofs.piece_of.Lts as lts
-use Rattle.records.proofs.coordinate.Reads as coordinate-reads
 
 array-read-coordinate : tie.Need-array-read-coordinate
 array-read-coordinate c = search needs

@@ -1,14 +1,9 @@
 -- `take`: a record by the verdict so far.
 use Rattle.replay_take.proofs.Records.{took-agree, took-still}
-use mathlib.Core.Path.{_≡_, refl, sym, ap, _∙_}
-use native.Mathlib.Omega.{arith}
-use borrow.Author.Tests.{not-true, not-false, eq-eqb, ne-eqb, lt-ltb, le-ltb, le-leb, lt-leb}
+use mathlib.Core.Path.{refl, _∙_}
 use borrow.Author.Needs.{needs}
 use Rattle.replay_take.proofs.take.Statement.{statement}
 use Rattle.replay_take.proofs.take.Tie as tie
-use Rattle.replay_take.proofs.take.Reads as reads
-use Rattle.replay_take.proofs.take.Lts as lts
-use Rattle.replay_take.proofs.take_kind.Reads as take-kind-reads
 
 enum-known-verdict : tie.Need-enum-known-verdict
 enum-known-verdict c = search needs

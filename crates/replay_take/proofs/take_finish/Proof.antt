@@ -3,11 +3,6 @@ use Rattle.replay_take.proofs.Records.{finish-is}
 use borrow.Author.Needs.{needs}
 use Rattle.replay_take.proofs.take_finish.Statement.{statement}
 use Rattle.replay_take.proofs.take_finish.Tie as tie
-use Rattle.replay_take.proofs.take_finish.Reads as reads
-use Rattle.replay_take.proofs.take_finish.Lts as lts
-use Rattle.receiver.proofs.finish.Reads as finish-reads
-use Rattle.replay_step.proofs.answer.Reads as answer-reads
-use Rattle.replay_take.proofs.lay.Reads as lay-reads
 
 finish-requires : tie.Need-finish-requires
 finish-requires c κs = search needs

@@ -3,13 +3,6 @@ use Rattle.replay_take.proofs.Records.{role-is, symbol-role, finish-rol
 use borrow.Author.Needs.{needs}
 use Rattle.replay_take.proofs.take_kind.Statement.{statement}
 use Rattle.replay_take.proofs.take_kind.Tie as tie
-use Rattle.replay_take.proofs.take_kind.Reads as reads
-use Rattle.replay_take.proofs.take_kind.Lts as lts
-use Rattle.records.proofs.kind_of.Reads as kind-of-reads
-use Rattle.records.proofs.number.Reads as number-reads
-use Rattle.replay_step.proofs.take_word.Reads as take-word-reads
-use Rattle.replay_take.proofs.take_open.Reads as take-open-reads
-use Rattle.replay_take.proofs.take_undue.Reads as take-undue-reads
 
 kind-of-requires : tie.Need-kind-of-requires
 kind-of-requires c κs = search needs

@@ -3,12 +3,6 @@ use Rattle.replay_take.proofs.Records.{open-is}
 use borrow.Author.Needs.{needs}
 use Rattle.replay_take.proofs.take_open.Statement.{statement}
 use Rattle.replay_take.proofs.take_open.Tie as tie
-use Rattle.replay_take.proofs.take_open.Reads as reads
-use Rattle.replay_take.proofs.take_open.Lts as lts
-use Rattle.openings.proofs.open_receiver.Reads as open-receiver-reads
-use Rattle.openings.proofs.start_at.Reads as start-at-reads
-use Rattle.replay_step.proofs.answer.Reads as answer-reads
-use Rattle.replay_take.proofs.lay.Reads as lay-reads
 
 array-read-start-at : tie.Need-array-read-start-at
 array-read-start-at c = search needs

@@ -6,11 +6,6 @@ use lib.ListN.{length}
 use borrow.Author.Needs.{needs}
 use Rattle.replay_take.proofs.take_symbol.Statement.{statement}
 use Rattle.replay_take.proofs.take_symbol.Tie as tie
-use Rattle.replay_take.proofs.take_symbol.Reads as reads
-use Rattle.replay_take.proofs.take_symbol.Lts as lts
-use Rattle.receiver.proofs.hear_lent.Reads as hear-lent-reads
-use Rattle.replay_step.proofs.answer.Reads as answer-reads
-use Rattle.replay_take.proofs.piece_of.Reads as piece-of-reads
 
 piece-of-requires : tie.Need-piece-of-requires
 piece-of-requires c κs = search needs

@@ -4,12 +4,6 @@ use Rattle.replay_take.proofs.Records.{undue-missing, undue-ends, undue
 use borrow.Author.Needs.{needs}
 use Rattle.replay_take.proofs.take_undue.Statement.{statement}
 use Rattle.replay_take.proofs.take_undue.Tie as tie
-use Rattle.replay_take.proofs.take_undue.Reads as reads
-use Rattle.replay_take.proofs.take_undue.Lts as lts
-use Rattle.replay_step.proofs.next_due.Reads as next-due-reads
-use Rattle.replay_step.proofs.rule.Reads as rule-reads
-use Rattle.replay_take.proofs.take_finish.Reads as take-finish-reads
-use Rattle.replay_take.proofs.take_symbol.Reads as take-symbol-reads
 
 next-due-requires : tie.Need-next-due-requires
 next-due-requires c κs = search needs

@@ -4,12 +4,6 @@ use lib.ListN.{length}
 use borrow.Author.Needs.{needs}
 use Rattle.replaying.proofs.run.Statement.{statement}
 use Rattle.replaying.proofs.run.Tie as tie
-use Rattle.replaying.proofs.run.Reads as reads
-use Rattle.replaying.proofs.run.Lts as lts
-use Rattle.replaying.proofs.print.Reads as print-reads
-use Rattle.replaying.proofs.read_once.Reads as read-once-reads
-use Rattle.replay.proofs.end.Reads as end-reads
-use Rattle.replay.proofs.start.Reads as start-reads
 
 abbrev Inv-loop : tie.InvT-loop
 Inv-loop fd chunk₀ now₀ turns₀ chunk now turns = length chunk ≡ 65536

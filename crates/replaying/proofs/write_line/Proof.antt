@@ -1,15 +1,10 @@
 -- `write_line`: a part of the text that is there.
 use lib.Seq.{length-take-le}
-use mathlib.Core.Path.{_≡_, refl, sym, ap, _∙_}
+use mathlib.Core.Path.{sym}
 use native.Mathlib.Omega.{arith}
-use borrow.Author.Tests.{not-true, not-false, eq-eqb, ne-eqb, lt-ltb, le-ltb, le-leb, lt-leb}
 use borrow.Author.Needs.{needs}
 use Rattle.replaying.proofs.write_line.Statement.{statement}
 use Rattle.replaying.proofs.write_line.Tie as tie
-use Rattle.replaying.proofs.write_line.Reads as reads
-use Rattle.replaying.proofs.write_line.Lts as lts
-use Rattle.io.proofs.write_all.Reads as write-all-reads
-use Rattle.os.proofs.fail.Reads as fail-reads
 
 returns : tie.Need-returns
 returns c = search needs

@@ -1,13 +1,9 @@
 -- `bytes`: byte by byte to the end of what was read.
-use mathlib.Core.Path.{_≡_}
 use Prim.Native.Nat.{_≤_, _-_}
 use lib.ListN.{length}
 use borrow.Author.Needs.{needs}
 use Rattle.showing.proofs.bytes.Statement.{statement}
 use Rattle.showing.proofs.bytes.Tie as tie
-use Rattle.showing.proofs.bytes.Reads as reads
-use Rattle.showing.proofs.bytes.Lts as lts
-use Rattle.showing.proofs.byte.Reads as byte-reads
 
 abbrev Inv-loop : tie.InvT-loop
 Inv-loop chunk now₀ i₀ now i = i ≤ length chunk

@@ -1,15 +1,10 @@
 -- `print_record`: the line fits its list.
 use lib.Seq.{length-take-le}
-use mathlib.Core.Path.{_≡_, refl, sym, ap, _∙_}
+use mathlib.Core.Path.{sym}
 use native.Mathlib.Omega.{arith}
-use borrow.Author.Tests.{not-true, not-false, eq-eqb, ne-eqb, lt-ltb, le-ltb, le-leb, lt-leb}
 use borrow.Author.Needs.{needs}
 use Rattle.showing.proofs.print_record.Statement.{statement}
 use Rattle.showing.proofs.print_record.Tie as tie
-use Rattle.showing.proofs.print_record.Reads as reads
-use Rattle.showing.proofs.print_record.Lts as lts
-use Rattle.shown.proofs.put_record.Reads as put-record-reads
-use Rattle.io.proofs.write_all.Reads as write-all-reads
 
 slice-aggregate-put-record : tie.Need-slice-aggregate-put-record
 slice-aggregate-put-record c = search needs

@@ -1,17 +1,9 @@
 -- `run`: the list keeps its length, and the turns are counted down.
 use mathlib.Core.Path.{_≡_}
-use Prim.Native.Nat.{_≤_, _-_}
 use lib.ListN.{length}
 use borrow.Author.Needs.{needs}
 use Rattle.showing.proofs.run.Statement.{statement}
 use Rattle.showing.proofs.run.Tie as tie
-use Rattle.showing.proofs.run.Reads as reads
-use Rattle.showing.proofs.run.Lts as lts
-use Rattle.shown.proofs.is_whole.Reads as is-whole-reads
-use Rattle.showing.proofs.print_malformed.Reads as print-malformed-reads
-use Rattle.showing.proofs.read_once.Reads as read-once-reads
-use Rattle.os.proofs.fail.Reads as fail-reads
-use Rattle.records.proofs.start.Reads as start-reads
 
 abbrev Inv-loop : tie.InvT-loop
 Inv-loop fd chunk₀ now₀ turns₀ t7 chunk now turns = length chunk ≡ 65536

@@ -1,5 +1,4 @@
 -- `put_coordinate`: the coordinate that the two bytes say, as its bits go to the call.
-use Prim.Native.Nat.{ℕ}
 use mathlib.Core.Path.{ap, _∙_}
 use native.Mathlib.Omega.{arith}
 use mir.Syntax.{w32}

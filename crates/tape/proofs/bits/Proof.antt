@@ -1,5 +1,4 @@
 -- `bits`: below 0, 65536 more.
-use borrow.Author.Tests.{not-true, not-false}
 use Rattle.tape.proofs.Sixteen.{up, up-fits, up-cast, same, same-cast}
 use Rattle.tape.proofs.bits.Statement.{statement}
 use Rattle.tape.proofs.bits.Tie as tie

@@ -1,11 +1,11 @@
 -- `put_taken`: the symbol, and then its words where the rest of the bytes is lent.
-use mathlib.Core.Path.{_≡_, sym, ap, _∙_}
+use mathlib.Core.Path.{sym, ap, _∙_}
 use mathlib.Core.List.{[], _∷_, _++_}
 use native.Mathlib.Omega.{arith}
 use denote.Ref.{now}
 use lib.ListN.{length, drop}
 use Rattle.records.specs.Values.{Entry, bytesOf}
-use Rattle.tape.specs.Front.{symbolIn, symbolRecord, symbolSpace}
+use Rattle.tape.specs.Front.{symbolIn, symbolRecord}
 use Rattle.tape.proofs.Fronts.{small-bits, small-symbol, nine-bytes, then-words}
 use borrow.Author.Needs.{needs}
 use Rattle.tape.proofs.put_taken.Statement.{statement}

@@ -1,7 +1,5 @@
 -- `symbol_space`: a kind and four coordinates of two bytes.
 use mathlib.Core.Path.{sym}
-use denote.Ref.{now}
-use Rattle.tape.specs.Front.{symbolIn}
 use Rattle.tape.proofs.Fronts.{nine-bytes}
 use Rattle.tape.proofs.symbol_space.Statement.{statement}
 use Rattle.tape.proofs.symbol_space.Tie as tie

@@ -1,5 +1,5 @@
 -- `record_symbol`: no room for its own record, refused, or taken and recorded.
-use mathlib.Core.Path.{_≡_, refl, sym}
+use mathlib.Core.Path.{refl, sym}
 use native.Mathlib.Omega.{arith}
 use denote.Ref.{now}
 use lib.Seq.{length-take-le}

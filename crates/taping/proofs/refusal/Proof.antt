@@ -14,7 +14,6 @@ use Rattle.tape.specs.Front.{symbolIn}
 use Rattle.taping.specs.Lent.{Refuses}
 use Rattle.taping.proofs.Prefix.{copied}
 use Rattle.taping.proofs.One.{Asked, refuses-eight, refuses-so}
-use borrow.Author.Needs.{needs}
 use Rattle.taping.proofs.refusal.Statement.{statement}
 use Rattle.taping.proofs.refusal.Tie as tie
 

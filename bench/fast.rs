@@ -140,9 +140,19 @@ fn word(u: u32, subset: usize, i3: bool, number: impl Fn(usize) -> u32) -> u32 {
     (subset >> 1 & 1 | first << 1) as u32 | number(first) << 3 | number(4 + second) << (3 + u)
 }
 
+/// The nearest points to a received point: a missing one is at distance 0 from all.
 #[inline(always)]
-fn choices<S: Search>(u: u32, c: &[i32]) -> Choices {
-    let near = [S::nearest(1 << u, c[0], c[1]), S::nearest(1 << u, c[2], c[3])];
+fn near<S: Search>(points: usize, missing: bool, x: i32, y: i32) -> Near {
+    if missing {
+        [(0, 0); 4]
+    } else {
+        S::nearest(points, x, y)
+    }
+}
+
+#[inline(always)]
+fn choices<S: Search>(u: u32, mark: u8, c: &[i32]) -> Choices {
+    let near = [near::<S>(1 << u, mark & 1 != 0, c[0], c[1]), near::<S>(1 << u, mark & 2 != 0, c[2], c[3])];
     let numbers = std::array::from_fn(|n| near[n / 4][n % 4].1 as u8);
     let mut best = Choices { costs: [0; 8], i3: [false; 8], numbers };
     for subset in 0..8 {
@@ -465,16 +475,18 @@ impl<S: Search, M: Memory> Receiver<S, M> {
         }
     }
 
+    /// Bit 0 of the mark says that the first point is missing, bit 1 that the second is.
     #[inline(always)]
-    fn hear_one(&mut self, c: &[i32], out: &mut [u32]) -> Result<usize, (u32, u64)> {
+    fn hear_one(&mut self, mark: u8, c: &[i32], out: &mut [u32]) -> Result<usize, (u32, u64)> {
         let bad = |c: i32| c.wrapping_add(8192) as u32 > 16384;
-        if bad(c[0]) | bad(c[1]) | bad(c[2]) | bad(c[3]) {
-            return Err((5, c.iter().position(|&c| bad(c)).unwrap_or(0) as u64));
+        let at_fault = |n: usize| mark >> (n / 2) & 1 == 0 && bad(c[n]);
+        if at_fault(0) | at_fault(1) | at_fault(2) | at_fault(3) {
+            return Err((5, (0..4).position(at_fault).unwrap_or(0) as u64));
         }
         if self.taken == u32::MAX {
             return Err((7, 0));
         }
-        let choices = choices::<S>(self.u, c);
+        let choices = choices::<S>(self.u, mark, c);
         // before the select, while what was compared is still at hand
         let pick = M::pick(self.u, &choices);
         let (sums, from) = select(&self.sums, &choices.costs);
@@ -499,17 +511,12 @@ impl<S: Search, M: Memory> Receiver<S, M> {
         Ok(agreed)
     }
 
-    #[inline(never)]
-    pub fn hear(&mut self, piece: &[i32], out: &mut [u32]) -> Answer {
-        if !self.open {
-            return refused(9);
-        }
-        if piece.len() % 4 != 0 {
-            return refused(10);
-        }
+    /// The symbols of a piece, with the mark of each.
+    #[inline(always)]
+    fn hear_all(&mut self, piece: &[i32], mark: impl Fn(usize) -> u8, out: &mut [u32]) -> Answer {
         let mut answer = refused(0);
-        for c in piece.chunks_exact(4) {
-            match self.hear_one(c, &mut out[answer.written as usize..]) {
+        for (n, c) in piece.chunks_exact(4).enumerate() {
+            match self.hear_one(mark(n), c, &mut out[answer.written as usize..]) {
                 Ok(words) => {
                     answer.taken += 1;
                     answer.written += words as u64;
@@ -518,6 +525,28 @@ impl<S: Search, M: Memory> Receiver<S, M> {
             }
         }
         answer
+    }
+
+    #[inline(never)]
+    pub fn hear(&mut self, piece: &[i32], out: &mut [u32]) -> Answer {
+        if !self.open {
+            return refused(9);
+        }
+        if piece.len() % 4 != 0 {
+            return refused(10);
+        }
+        self.hear_all(piece, |_| 0, out)
+    }
+
+    #[inline(never)]
+    pub fn hear_marked(&mut self, piece: &[i32], marks: &[u8], out: &mut [u32]) -> Answer {
+        if !self.open {
+            return refused(9);
+        }
+        if piece.len() != 4 * marks.len() || marks.iter().any(|&m| m > 3) {
+            return refused(10);
+        }
+        self.hear_all(piece, |n| marks[n], out)
     }
 
     #[inline(never)]

@@ -12,6 +12,7 @@
 //! Then sending: words singly through C, and in lists of 1000, beside plain Rust of the same algorithm (`sender.rs`).
 
 #[path = "fast.rs"]
+#[allow(dead_code)]
 mod fast;
 #[path = "../tests/cross/ffi.rs"]
 #[allow(dead_code)]

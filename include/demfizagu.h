@@ -13,6 +13,8 @@
  *
  * The receiver hears whole numbers from -8192 to 8192, where a point's coordinate c stands at 128 * c. A front end that
  * has floats in the unit of the points (1.0 is coordinate 1) gets such numbers from demfizagu_sample or demfizagu_samples.
+ * A point that it never got is marked as missing (demfizagu_hear_marked): it counts for nothing, and the word is read off
+ * what was heard before and after it.
  *
  * A LINE IN SHORT
  *
@@ -43,9 +45,9 @@
  *   - the program is for the kind of machine that the archive was made for: it holds no other code;
  *   - the stack has room: a call takes less than 2.5 kilobytes, a replay's call less than 9, and the first call of a program
  *     some 3 more where the loader resolves memcpy at its first use;
- *   - for demfizagu_sample and demfizagu_samples, the thread's floating-point environment is the default one. They are exact
- *     only there: under another rounding mode they give other numbers, and where exceptions trap a call may raise the
- *     signal. Denormals that are flushed to zero make no difference.
+ *   - for the calls that convert floats, the thread's floating-point environment is the default one. They are exact only
+ *     there: under another rounding mode they give other numbers, and where exceptions trap a call may raise the signal.
+ *     Denormals that are flushed to zero make no difference.
  *
  * The archive has no unwind tables, so a backtrace from inside a call ends there.
  *
@@ -108,7 +110,8 @@ extern "C" {
 #define DEMFIZAGU_ROOM 8u
 /* The end is closed: it was never opened, its opening was refused, or it was finished; open it first. */
 #define DEMFIZAGU_CLOSED 9u
-/* The length of a piece is not a multiple of 4, or of a list of floats not a multiple of 2; nothing was taken. */
+/* The length of a piece is not a multiple of 4, or of a list of floats not a multiple of 2, or marks are not one for each
+ * symbol or sample or are no marks; nothing was taken. */
 #define DEMFIZAGU_LENGTH 10u
 
 /* The start that names no state: the receiver joins a line without knowing the sender's state. */
@@ -181,6 +184,18 @@ uint32_t demfizagu_hear(uint64_t *state, size_t state_len, const int32_t *piece,
                         size_t out_len, uint64_t *told, size_t told_len);
 
 /*
+ * Hears a piece of which some points are missing. marks has one byte for each symbol: 0 both points heard, 1 the first
+ * missing, 2 the second, 3 both. The piece has four coordinates for each symbol all the same; those of a missing point are
+ * not looked at and are never a 5. A missing point adds 0 to every distance.
+ *
+ * All else is as for demfizagu_hear, which is this with no mark. A 10 is also given where marks_len is not piece_len / 4 or
+ * a byte is above 3. After a refusal the marks are to be gone on with at marks + told[0].
+ */
+uint32_t demfizagu_hear_marked(uint64_t *state, size_t state_len, const int32_t *piece, size_t piece_len,
+                               const uint8_t *marks, size_t marks_len, uint32_t *out, size_t out_len, uint64_t *told,
+                               size_t told_len);
+
+/*
  * Finishes: writes the words of all pending symbols as the nearest allowed sequence has them, and closes the receiver.
  * Order: 8 if told is too short (nothing is written), then 9, 8 (out has less places than symbols are pending, at most
  * 64). A refused finish may be tried again.
@@ -192,7 +207,7 @@ uint32_t demfizagu_finish(uint64_t *state, size_t state_len, uint32_t *out, size
  * RECORDING
  *
  * A run may be recorded as a capture: the record of its opening, then of each symbol taken, each followed by the records of the
- * words that it released, then of the finish and its words. What these three functions write, one after the other and whatever
+ * words that it released, then of the finish and its words. What these functions write, one after the other and whatever
  * is refused between, is such a capture, and its replay agrees with it.
  *
  * demfizagu_record_open puts the record of an opening into bytes[0] to bytes[3]; it opens nothing. Order: 8 (bytes has less than
@@ -208,6 +223,14 @@ uint32_t demfizagu_record_open(uint32_t u, uint32_t window, uint32_t start, uint
  */
 uint32_t demfizagu_hear_recorded(uint64_t *state, size_t state_len, const int32_t *piece, size_t piece_len, uint32_t *out,
                                  size_t out_len, uint8_t *bytes, size_t bytes_len, uint64_t *told, size_t told_len);
+
+/*
+ * As demfizagu_hear_marked, and records as demfizagu_hear_recorded does: 10 bytes for a symbol with a mark other than 0, with
+ * zeros in the places of a missing point, whatever stood there. 330 bytes are always enough for one symbol.
+ */
+uint32_t demfizagu_hear_marked_recorded(uint64_t *state, size_t state_len, const int32_t *piece, size_t piece_len,
+                                        const uint8_t *marks, size_t marks_len, uint32_t *out, size_t out_len, uint8_t *bytes,
+                                        size_t bytes_len, uint64_t *told, size_t told_len);
 
 /*
  * As demfizagu_finish, and records the finish and its words: 1 byte and 5 for each pending word, without which it is an 8. told has
@@ -239,12 +262,22 @@ uint32_t demfizagu_samples(const float *floats, size_t floats_len, int32_t *out,
                            size_t told_len);
 
 /*
+ * The same of samples of which some are missing. missing has one byte for each sample, 0 heard, 1 missing: the floats of a
+ * missing one are there and are not looked at, and it goes to out as 0, 0. A 10 is also given where missing_len is not
+ * floats_len / 2 or a byte is above 1. The mark of a symbol, for demfizagu_hear_marked, is the byte of its first sample and
+ * twice that of its second.
+ */
+uint32_t demfizagu_samples_marked(const float *floats, size_t floats_len, const uint8_t *missing, size_t missing_len,
+                                  int32_t *out, size_t out_len, uint64_t *told, size_t told_len);
+
+/*
  * REPLAYS OF CAPTURES
  *
  * A capture is a recorded run of a receiver: records of one byte of kind and a body. Kind 1, open: width, window, start (16
  * is free). Kind 2, symbol taken: four signed 16-bit coordinates, low byte first. Kind 3, word released: 4 bytes, low byte
- * first. Kind 4, finish. Words stand right after the symbol or finish that gave them. A replay runs the receiver and
- * compares; its verdict is one line of text, with no newline:
+ * first. Kind 4, finish. Kind 5, symbol taken of which a point is missing: its mark, 1 to 3, then the coordinates with zeros
+ * for the missing. Words stand right after the symbol or finish that gave them. A replay runs the receiver and compares; its
+ * verdict is one line of text, with no newline:
  *
  *     agree N                          all is well, with N words
  *     record N word G expected H       the word recorded, and the one that belongs there; `expected none` for one too many

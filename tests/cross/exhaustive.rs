@@ -39,7 +39,7 @@ fn offer(place: &mut Option<Sequence>, s: &Sequence) {
 }
 
 /// Goes through every allowed continuation of `so_far` and offers each whole sequence to the state it ends in.
-fn list_all(map: &Map, u: u32, heard: &[(Point, Point)], so_far: &mut Sequence, best: &mut [Option<Sequence>]) {
+fn list_all(map: &Map, u: u32, heard: &[(Received, Received)], so_far: &mut Sequence, best: &mut [Option<Sequence>]) {
     let Some(&y) = heard.get(so_far.symbols.len()) else {
         return offer(&mut best[so_far.last() as usize], so_far);
     };
@@ -50,7 +50,8 @@ fn list_all(map: &Map, u: u32, heard: &[(Point, Point)], so_far: &mut Sequence, 
         let s = symbol(map, from & 1, i1, turn, parts >> 3 & low, parts >> (3 + u) & low);
         so_far.symbols.push(s);
         so_far.states.push(next_state(from, i1, turn % 2));
-        let (d1, d2) = (distance(y.0, s.points.0), distance(y.1, s.points.1));
+        let away = |received: Received, p: Point| received.map_or(0, |heard| distance(heard, p));
+        let (d1, d2) = (away(y.0, s.points.0), away(y.1, s.points.1));
         so_far.ties.push((turn >> 1, (d1, s.w1), (d2, s.w2)));
         so_far.sum = sum + d1.min(CAP) + d2.min(CAP);
         list_all(map, u, heard, so_far, best);
@@ -69,7 +70,7 @@ fn words(u: u32, start: u32, symbols: &[Symbol]) -> Vec<u32> {
 }
 
 /// What is owed for a list: the words of the longest common beginning, and the words of the answer.
-fn owed(map: &Map, u: u32, start: u32, heard: &[(Point, Point)]) -> (Vec<u32>, Vec<u32>) {
+fn owed(map: &Map, u: u32, start: u32, heard: &[(Received, Received)]) -> (Vec<u32>, Vec<u32>) {
     let mut best: Vec<Option<Sequence>> = vec![None; 16];
     for s in (0..16).filter(|&s| start == FREE || start == s) {
         let mut none = Sequence { sum: 0, states: vec![s], symbols: vec![], ties: vec![] };
@@ -110,9 +111,12 @@ pub fn check(map: &Map, seed: u64) -> Result<usize, String> {
             let (mut heard, mut spoken) = (vec![], vec![]);
             for k in 1..=length {
                 let c: Vec<i32> = (0..4).map(|_| coordinate(&mut rng)).collect();
-                heard.push(((c[0], c[1]), (c[2], c[3])));
+                // "A missing point adds 0 to every distance" (02, Wish 4)
+                let mark = if rng.below(3) == 0 { rng.below(4) as u8 } else { 0 };
+                let received = |point: usize| (mark >> point & 1 == 0).then_some((c[2 * point], c[2 * point + 1]));
+                heard.push((received(0), received(1)));
                 let mut out = [0; 64];
-                let answer = receiver.hear(map, &c, &mut out);
+                let answer = receiver.hear_marked(map, &c, &[mark], &mut out);
                 spoken.extend_from_slice(&out[..answer.written as usize]);
                 let mut rest = [0; 64];
                 let last = receiver.clone().finish(&mut rest);

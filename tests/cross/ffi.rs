@@ -35,6 +35,18 @@ mod c {
             told: *mut u64,
             told_len: usize,
         ) -> u32;
+        pub fn demfizagu_hear_marked(
+            state: *mut u64,
+            state_len: usize,
+            piece: *const i32,
+            piece_len: usize,
+            marks: *const u8,
+            marks_len: usize,
+            out: *mut u32,
+            out_len: usize,
+            told: *mut u64,
+            told_len: usize,
+        ) -> u32;
         pub fn demfizagu_finish(
             state: *mut u64,
             state_len: usize,
@@ -56,6 +68,20 @@ mod c {
             told: *mut u64,
             told_len: usize,
         ) -> u32;
+        pub fn demfizagu_hear_marked_recorded(
+            state: *mut u64,
+            state_len: usize,
+            piece: *const i32,
+            piece_len: usize,
+            marks: *const u8,
+            marks_len: usize,
+            out: *mut u32,
+            out_len: usize,
+            bytes: *mut u8,
+            bytes_len: usize,
+            told: *mut u64,
+            told_len: usize,
+        ) -> u32;
         pub fn demfizagu_finish_recorded(
             state: *mut u64,
             state_len: usize,
@@ -70,6 +96,16 @@ mod c {
         pub fn demfizagu_samples(
             floats: *const f32,
             floats_len: usize,
+            out: *mut i32,
+            out_len: usize,
+            told: *mut u64,
+            told_len: usize,
+        ) -> u32;
+        pub fn demfizagu_samples_marked(
+            floats: *const f32,
+            floats_len: usize,
+            missing: *const u8,
+            missing_len: usize,
             out: *mut i32,
             out_len: usize,
             told: *mut u64,
@@ -147,6 +183,23 @@ pub fn hear(state: &mut [u64], piece: &[i32], out: &mut [u32], told: &mut [u64])
     }
 }
 
+pub fn hear_marked(state: &mut [u64], piece: &[i32], marks: &[u8], out: &mut [u32], told: &mut [u64]) -> u32 {
+    unsafe {
+        c::demfizagu_hear_marked(
+            state.as_mut_ptr(),
+            state.len(),
+            piece.as_ptr(),
+            piece.len(),
+            marks.as_ptr(),
+            marks.len(),
+            out.as_mut_ptr(),
+            out.len(),
+            told.as_mut_ptr(),
+            told.len(),
+        )
+    }
+}
+
 pub fn finish(state: &mut [u64], out: &mut [u32], told: &mut [u64]) -> u32 {
     unsafe {
         c::demfizagu_finish(state.as_mut_ptr(), state.len(), out.as_mut_ptr(), out.len(), told.as_mut_ptr(), told.len())
@@ -164,6 +217,32 @@ pub fn hear_recorded(state: &mut [u64], piece: &[i32], out: &mut [u32], bytes: &
             state.len(),
             piece.as_ptr(),
             piece.len(),
+            out.as_mut_ptr(),
+            out.len(),
+            bytes.as_mut_ptr(),
+            bytes.len(),
+            told.as_mut_ptr(),
+            told.len(),
+        )
+    }
+}
+
+pub fn hear_marked_recorded(
+    state: &mut [u64],
+    piece: &[i32],
+    marks: &[u8],
+    out: &mut [u32],
+    bytes: &mut [u8],
+    told: &mut [u64],
+) -> u32 {
+    unsafe {
+        c::demfizagu_hear_marked_recorded(
+            state.as_mut_ptr(),
+            state.len(),
+            piece.as_ptr(),
+            piece.len(),
+            marks.as_ptr(),
+            marks.len(),
             out.as_mut_ptr(),
             out.len(),
             bytes.as_mut_ptr(),
@@ -196,5 +275,20 @@ pub fn sample(x: f32, y: f32, out: &mut [i32]) -> u32 {
 pub fn samples(floats: &[f32], out: &mut [i32], told: &mut [u64]) -> u32 {
     unsafe {
         c::demfizagu_samples(floats.as_ptr(), floats.len(), out.as_mut_ptr(), out.len(), told.as_mut_ptr(), told.len())
+    }
+}
+
+pub fn samples_marked(floats: &[f32], missing: &[u8], out: &mut [i32], told: &mut [u64]) -> u32 {
+    unsafe {
+        c::demfizagu_samples_marked(
+            floats.as_ptr(),
+            floats.len(),
+            missing.as_ptr(),
+            missing.len(),
+            out.as_mut_ptr(),
+            out.len(),
+            told.as_mut_ptr(),
+            told.len(),
+        )
     }
 }

@@ -87,7 +87,7 @@ impl<'m> Session<'m> {
             let u = self.rng.below(9) as u32;
             self.step(Step::Plain { u })?;
             self.step(Step::Sender { u })?;
-            self.step(Step::Piece { room: 64, coordinates: vec![128; 12] })?;
+            self.step(Step::Piece { room: 64, coordinates: vec![128; 12], marks: None })?;
         }
         let r = &mut self.rng;
         let u = if r.once_in(2) { r.pick(&BAD_WIDTHS) } else { r.below(9) as u32 };
@@ -106,7 +106,8 @@ impl<'m> Session<'m> {
     fn call_closed(&mut self) -> Result<(), String> {
         let length = self.rng.below(10) as usize;
         let coordinates = (0..length).map(|_| self.any_coordinate()).collect();
-        self.step(Step::Piece { room: length, coordinates })?;
+        let marks = self.rng.once_in(3).then(|| self.any_marks(length / 4));
+        self.step(Step::Piece { room: length, coordinates, marks })?;
         self.step(Step::Finish { room: 64 })?;
         self.step(Step::Pending)?;
         Ok(())
@@ -119,6 +120,17 @@ impl<'m> Session<'m> {
         } else {
             r.below(16385) as i32 - 8192
         }
+    }
+
+    /// Marks for so many symbols: now and then one too many or too few, or a byte that is no mark.
+    fn any_marks(&mut self, symbols: usize) -> Vec<u8> {
+        let r = &mut self.rng;
+        let count = r.pick(&[symbols, symbols, symbols, symbols + 1, symbols.saturating_sub(1), 0]);
+        let mut marks: Vec<u8> = (0..count).map(|_| r.below(4) as u8).collect();
+        if count > 0 && r.once_in(3) {
+            marks[r.below(count as u64) as usize] = r.pick(&[4, 5, 7, 128, 255]);
+        }
+        marks
     }
 
     fn source(&mut self) -> Source {
@@ -160,7 +172,7 @@ impl<'m> Session<'m> {
             _ => 1000 + self.rng.below(2000),
         } as usize;
         let longest = if long { 1000 } else { self.rng.pick(&[1, 1, 3, 16, 64, 300, 1000]) };
-        let mut waiting: Vec<i32> = vec![];
+        let (mut waiting, mut marks): (Vec<i32>, Vec<u8>) = (vec![], vec![]);
         let mut tries = 0;
         while left > 0 {
             if self.rng.once_in(24) {
@@ -169,22 +181,28 @@ impl<'m> Session<'m> {
             if waiting.is_empty() {
                 let symbols = (1 + self.rng.below(longest) as usize).min(left);
                 for _ in 0..symbols {
-                    waiting.extend(source.next(self)?);
+                    let (symbol, mark) = source.next(self)?;
+                    waiting.extend(symbol);
+                    marks.push(mark);
                 }
             }
-            let room = self.room(&waiting);
-            let given = self.step(Step::Piece { room, coordinates: waiting.clone() })?;
+            let room = self.room(&waiting, &marks);
+            let marked = source.missing > 0 || self.rng.once_in(30);
+            let piece = Step::Piece { room, coordinates: waiting.clone(), marks: marked.then(|| marks.clone()) };
+            let given = self.step(piece)?;
             left -= given.taken.min(left);
-            waiting.drain(..4 * given.taken);
+            let mut gone = given.taken;
             match given.number {
-                5 => drop(waiting.drain(..4)),
+                5 => gone += 1,
                 6 if tries < 3 && self.rng.once_in(4) => {
                     tries += 1;
-                    waiting.drain(..4);
+                    gone += 1;
                 }
                 6 => break,
                 _ => {}
             }
+            waiting.drain(..4 * gone);
+            marks.drain(..gone);
         }
         self.end_line()
     }
@@ -203,14 +221,15 @@ impl<'m> Session<'m> {
     }
 
     /// Mostly room enough; often just enough, one too few, or none.
-    fn room(&mut self, piece: &[i32]) -> usize {
+    fn room(&mut self, piece: &[i32], marks: &[u8]) -> usize {
         let symbols = piece.len() / 4;
         match self.rng.below(12) {
             0 => 0,
             1 => self.rng.below(symbols as u64 + 2) as usize,
             k @ 2..=4 => {
                 let mut out = vec![0; symbols + 64];
-                let needed = self.machine.receiver.clone().hear(self.map, piece, &mut out).written as usize;
+                let mut receiver = self.machine.receiver.clone();
+                let needed = receiver.hear_marked(self.map, piece, marks, &mut out).written as usize;
                 if k == 2 {
                     needed
                 } else {
@@ -223,21 +242,25 @@ impl<'m> Session<'m> {
 
     /// A call beside the line: asked at any time, with anything.
     fn careless(&mut self) -> Result<(), String> {
+        if self.rng.once_in(12) {
+            return self.forged_marks();
+        }
         let r = &mut self.rng;
         let step = match r.below(15) {
             0 => Step::Pending,
-            1 => Step::Piece { room: r.below(5) as usize, coordinates: vec![] },
+            1 => Step::Piece { room: r.below(5) as usize, coordinates: vec![], marks: r.once_in(2).then(Vec::new) },
             2 => {
                 let length = 4 * r.below(9) as usize + 1 + r.below(3) as usize;
                 let coordinates = (0..length).map(|_| r.below(257) as i32 - 128).collect();
-                Step::Piece { room: length, coordinates }
+                Step::Piece { room: length, coordinates, marks: r.once_in(3).then(|| vec![0; length / 4]) }
             }
             3 => Step::Send { word: r.next() as u32 >> r.below(32), room: r.below(7) as usize },
             4 => Step::Sample { x: float(r), y: float(r), extra: r.below(3) as usize },
             5 => {
                 let length = r.below(12) as usize + r.below(2) as usize;
                 let list = (0..length).map(|_| if r.once_in(9) { float(r) } else { near_float(r) }).collect();
-                Step::Samples { list, room: r.pick(&[0, 1, length.saturating_sub(1), length, length + 2]) }
+                let missing = r.once_in(2).then(|| any_flags(r, length / 2));
+                Step::Samples { list, missing, room: r.pick(&[0, 1, length.saturating_sub(1), length, length + 2]) }
             }
             6 => Step::Moved { extra: r.below(4) as usize },
             7 => Step::Short(Short::Told(r.below(3) as usize)),
@@ -260,6 +283,21 @@ impl<'m> Session<'m> {
         };
         self.step(step).map(drop)
     }
+
+    /// A piece beside the line, with marks that seldom fit it.
+    fn forged_marks(&mut self) -> Result<(), String> {
+        let symbols = self.rng.below(5) as usize;
+        let coordinates = (0..4 * symbols).map(|_| self.any_coordinate()).collect();
+        let mut marks = self.any_marks(symbols);
+        marks.push(self.rng.pick(&[0, 3, 4, 255]));
+        self.step(Step::Piece { room: symbols, coordinates, marks: Some(marks) }).map(drop)
+    }
+}
+
+/// A byte for each sample, 1 if it is missing: now and then one too many, or a byte that is none.
+fn any_flags(r: &mut Rng, samples: usize) -> Vec<u8> {
+    let count = if r.once_in(8) { samples + 1 } else { samples };
+    (0..count).map(|_| if r.once_in(40) { r.pick(&[2, 3, 255]) } else { r.below(2) as u8 }).collect()
 }
 
 fn forged_bits(r: &mut Rng) -> u64 {
@@ -298,6 +336,8 @@ struct LineSource {
     burst: u64,
     /// One symbol in so many gets a coordinate that must be refused; 0 for none.
     forged: u64,
+    /// One symbol in so many misses a point or both; 0 for none.
+    missing: u64,
 }
 
 impl LineSource {
@@ -305,17 +345,26 @@ impl LineSource {
         let source = session.source();
         let r = &mut session.rng;
         let (logged, forged) = (r.once_in(4), r.pick(&[0, 0, 0, 200, 20]));
-        LineSource { source, u, sender: Sender::open(u).1, logged, burst: 0, forged }
+        let missing = r.pick(&[0, 0, 0, 1, 4, 30]);
+        LineSource { source, u, sender: Sender::open(u).1, logged, burst: 0, forged, missing }
     }
 
-    fn next(&mut self, session: &mut Session) -> Result<[i32; 4], String> {
+    /// A symbol and its mark. What stands in the places of a missing point is anything.
+    fn next(&mut self, session: &mut Session) -> Result<([i32; 4], u8), String> {
         let mut symbol = self.undamaged(self.source, session)?;
         if self.forged > 0 && session.rng.once_in(self.forged) {
             for _ in 0..1 + session.rng.below(2) {
                 symbol[session.rng.below(4) as usize] = session.rng.pick(&FORGED);
             }
         }
-        Ok(symbol)
+        let drops = self.missing > 0 && session.rng.once_in(self.missing);
+        let mark = if drops { session.rng.below(4) as u8 } else { 0 };
+        for n in (0..4).filter(|n| mark >> (n / 2) & 1 == 1) {
+            if session.rng.once_in(2) {
+                symbol[n] = session.any_coordinate();
+            }
+        }
+        Ok((symbol, mark))
     }
 
     fn undamaged(&mut self, source: Source, session: &mut Session) -> Result<[i32; 4], String> {

@@ -34,6 +34,14 @@ fn coordinate_of(token: &str) -> Option<i32> {
     whole(digits, most).map(|n| (sign * n as i64) as i32)
 }
 
+fn marks_of(token: &str) -> Option<Vec<u8>> {
+    if token == "-" {
+        return Some(vec![]);
+    }
+    let good = (1..=1024).contains(&token.len()) && token.bytes().all(|b| (b'0'..=b'3').contains(&b));
+    good.then(|| token.bytes().map(|b| b - b'0').collect())
+}
+
 fn bits_of(token: &str) -> Option<u32> {
     let good = token.len() == 8 && token.bytes().all(|b| b.is_ascii_hexdigit());
     if good {
@@ -109,11 +117,19 @@ impl Lab {
                 let answer = self.receiver.hear(&self.map, &piece, &mut out);
                 Some(answer_line(&answer, &out[..answer.written as usize]))
             }
+            ["marked", cap, marks, ref coordinates @ ..] if coordinates.len() <= 4096 => {
+                let mut out = vec![0; cap_of(cap)?];
+                let marks = marks_of(marks)?;
+                let piece = coordinates.iter().map(|c| coordinate_of(c)).collect::<Option<Vec<i32>>>()?;
+                let answer = self.receiver.hear_marked(&self.map, &piece, &marks, &mut out);
+                Some(answer_line(&answer, &out[..answer.written as usize]))
+            }
             ["finish", cap] => {
                 let mut out = vec![0; cap_of(cap)?];
                 let answer = self.receiver.finish(&mut out);
                 Some(answer_line(&answer, &out[..answer.written as usize]))
             }
+            ["sample", "missing"] => Some("missing".into()),
             ["sample", x, y] => {
                 let (x, y) = (bits_of(x)?, bits_of(y)?);
                 Some(match sample(x, y) {

@@ -30,6 +30,8 @@ pub enum Step {
     Piece {
         room: usize,
         coordinates: Vec<i32>,
+        /// A mark for each symbol, or none: then nothing is missing.
+        marks: Option<Vec<u8>>,
     },
     Finish {
         room: usize,
@@ -43,6 +45,7 @@ pub enum Step {
     /// What only a caller in C can do.
     Samples {
         list: Vec<u32>,
+        missing: Option<Vec<u8>>,
         room: usize,
     },
     Moved {
@@ -111,10 +114,24 @@ fn floats(bits: &[u32]) -> Vec<f32> {
     bits.iter().map(|&b| f32::from_bits(b)).collect()
 }
 
+/// The call that hears a piece, with marks or without.
+fn call_hear(state: &mut [u64], piece: &[i32], marks: Option<&[u8]>, out: &mut [u32], told: &mut [u64]) -> u32 {
+    match marks {
+        Some(marks) => ffi::hear_marked(state, piece, marks, out, told),
+        None => ffi::hear(state, piece, out, told),
+    }
+}
+
 /// Calls hear and compares everything that it gives and lends with what is expected. The state is the caller's to check.
-fn compare_hear(state: &mut [u64], piece: &[i32], expected: &Answer, words: &[u32]) -> Result<(), String> {
+fn compare_hear(
+    state: &mut [u64],
+    piece: &[i32],
+    marks: Option<&[u8]>,
+    expected: &Answer,
+    words: &[u32],
+) -> Result<(), String> {
     let (mut out, mut told) = (Lent::new(words.len()), Lent::new(3));
-    let number = ffi::hear(state, piece, out.slice(), told.slice());
+    let number = call_hear(state, piece, marks, out.slice(), told.slice());
     compare_answer(expected, words, number, &out, &told)
 }
 
@@ -161,9 +178,11 @@ const CLOSED: Answer = Answer { number: 9, taken: 0, written: 0, place: 0 };
 fn compare_closed_receiver(what: &str, state: &[u64]) -> Result<(), String> {
     let mut lent = Lent::holding(state);
     let named = |e: String| format!("{what}: {e}");
-    compare_hear(lent.slice(), &[0; 8], &CLOSED, &Lent::<u32>::marks(9)).map_err(named)?;
-    compare_hear(lent.slice(), &[0; 5], &CLOSED, &[]).map_err(named)?;
-    compare_hear(lent.slice(), &[], &CLOSED, &[]).map_err(named)?;
+    compare_hear(lent.slice(), &[0; 8], None, &CLOSED, &Lent::<u32>::marks(9)).map_err(named)?;
+    compare_hear(lent.slice(), &[0; 5], None, &CLOSED, &[]).map_err(named)?;
+    compare_hear(lent.slice(), &[], None, &CLOSED, &[]).map_err(named)?;
+    compare_hear(lent.slice(), &[0; 8], Some(&[0, 3]), &CLOSED, &Lent::<u32>::marks(9)).map_err(named)?;
+    compare_hear(lent.slice(), &[0; 8], Some(&[4]), &CLOSED, &[]).map_err(named)?;
     compare_finish(lent.slice(), &CLOSED, &Lent::<u32>::marks(70)).map_err(named)?;
     compare_finish(lent.slice(), &CLOSED, &[]).map_err(named)?;
     same(&format!("{what}: pending"), 0, ffi::pending(lent.seen()))?;
@@ -205,9 +224,18 @@ fn compare_maybe(state: &[u64]) -> Result<(), String> {
 fn maybe_open(state: &[u64]) -> Result<Vec<u64>, String> {
     let mut lent = Lent::holding(state);
     let mut given = vec![];
-    for piece in [&[][..], &[0; 7], &[128; 40], &[-8192, 8192, 0, 1], &[0, 0, 8193, 0]] {
+    let pieces: [(&[i32], Option<&[u8]>); 7] = [
+        (&[], None),
+        (&[0; 7], None),
+        (&[128; 40], None),
+        (&[-8192, 8192, 0, 1], None),
+        (&[0, 0, 8193, 0], None),
+        (&[8193; 8], Some(&[3, 1])),
+        (&[0; 8], Some(&[0, 255])),
+    ];
+    for (piece, marks) in pieces {
         let (mut out, mut told) = (Lent::<u32>::new(20), Lent::<u64>::new(3));
-        let number = ffi::hear(lent.slice(), piece, out.slice(), told.slice());
+        let number = call_hear(lent.slice(), piece, marks, out.slice(), told.slice());
         let t = told.seen().to_vec();
         holds("forged state: more taken than the piece has", t[0] <= piece.len() as u64 / 4)?;
         holds("forged state: more written than there is room", t[1] <= 20)?;
@@ -267,11 +295,11 @@ impl<'m> Machine<'m> {
             Step::List { words, room } => self.send_list(words, *room).map(plain),
             Step::Receiver { u, window, start } => self.open_receiver(*u, Some((*window, *start))).map(plain),
             Step::Plain { u } => self.open_receiver(*u, None).map(plain),
-            Step::Piece { room, coordinates } => self.hear(*room, coordinates),
+            Step::Piece { room, coordinates, marks } => self.hear(*room, coordinates, marks.as_deref()),
             Step::Finish { room } => self.finish(*room).map(plain),
             Step::Pending => self.ask().map(|()| plain(0)),
             Step::Sample { x, y, extra } => self.sample(*x, *y, *extra).map(plain),
-            Step::Samples { list, room } => self.samples(list, *room).map(plain),
+            Step::Samples { list, missing, room } => self.samples(list, missing.as_deref(), *room).map(plain),
             Step::Moved { extra } => Ok(self.moved(*extra)).map(|()| plain(0)),
             Step::Short(short) => self.short(*short).map(|()| plain(0)),
             Step::WrongEnd => self.wrong_end().map(|()| plain(0)),
@@ -356,12 +384,15 @@ impl<'m> Machine<'m> {
         Ok(number)
     }
 
-    fn hear(&mut self, room: usize, coordinates: &[i32]) -> Result<Given, String> {
+    fn hear(&mut self, room: usize, coordinates: &[i32], marks: Option<&[u8]>) -> Result<Given, String> {
         let before = (!self.receiver.is_open()).then(|| self.receiver_state.seen().to_vec());
         let mut words = Lent::<u32>::marks(room);
-        let expected = self.receiver.hear(self.map, coordinates, &mut words);
+        let expected = match marks {
+            Some(marks) => self.receiver.hear_marked(self.map, coordinates, marks, &mut words),
+            None => self.receiver.hear(self.map, coordinates, &mut words),
+        };
         self.symbols += expected.taken;
-        compare_hear(self.receiver_state.slice(), coordinates, &expected, &words)?;
+        compare_hear(self.receiver_state.slice(), coordinates, marks, &expected, &words)?;
         holds("a 9 changed the state", before.is_none_or(|b| b == self.receiver_state.seen()))?;
         self.states_stayed_inside()?;
         Ok(Given { number: expected.number, taken: expected.taken as usize })
@@ -400,11 +431,17 @@ impl<'m> Machine<'m> {
         Ok(number)
     }
 
-    fn samples(&self, list: &[u32], room: usize) -> Result<u32, String> {
+    fn samples(&self, list: &[u32], missing: Option<&[u8]>, room: usize) -> Result<u32, String> {
         let mut written = Lent::<i32>::marks(room);
-        let (number, count, place) = samples(list, &mut written);
         let (mut out, mut told) = (Lent::<i32>::new(room), Lent::<u64>::new(3));
-        same("number", number, ffi::samples(&floats(list), out.slice(), told.slice()))?;
+        let ((number, count, place), given) = match missing {
+            Some(missing) => (
+                samples_marked(list, missing, &mut written),
+                ffi::samples_marked(&floats(list), missing, out.slice(), told.slice()),
+            ),
+            None => (samples(list, &mut written), ffi::samples(&floats(list), out.slice(), told.slice())),
+        };
+        same("number", number, given)?;
         same("told", &[count, count, place][..], told.seen())?;
         same("coordinates", &written[..], out.seen())?;
         holds("places outside the output changed", out.rest_stayed(room) && told.rest_stayed(3))?;
@@ -458,9 +495,15 @@ impl<'m> Machine<'m> {
         let state = self.receiver_state.slice();
         for piece in [&[0; 8][..], &[], &[0; 3], &[9999; 4]] {
             same("hear, told too short", 8, ffi::hear(state, piece, out.slice(), told.slice()))?;
+            for marks in [&[][..], &[0, 3], &[4]] {
+                let given = ffi::hear_marked(state, piece, marks, out.slice(), told.slice());
+                same("a marked piece, told too short", 8, given)?;
+            }
         }
         same("finish, told too short", 8, ffi::finish(state, out.slice(), told.slice()))?;
-        same("samples, told too short", 8, ffi::samples(&[1.0, 2.0, f32::NAN], points.slice(), told.slice()))?;
+        let list = [1.0, 2.0, f32::NAN];
+        same("samples, told too short", 8, ffi::samples(&list, points.slice(), told.slice()))?;
+        same("marked samples, told too short", 8, ffi::samples_marked(&list, &[2], points.slice(), told.slice()))?;
         let stayed = out.rest_stayed(0) && told.rest_stayed(0) && points.rest_stayed(0);
         holds("a call whose told is too short wrote something", stayed)?;
         holds("a call whose told is too short changed the state", before == self.receiver_state.seen())
@@ -523,15 +566,22 @@ impl std::fmt::Display for Step {
             Step::Plain { u } => write!(f, "receiver {u}"),
             Step::Receiver { u, window, start: FREE } => write!(f, "receiver {u} {window} free"),
             Step::Receiver { u, window, start } => write!(f, "receiver {u} {window} at {start}"),
-            Step::Piece { room, coordinates } => {
-                write!(f, "piece {room}")?;
+            Step::Piece { room, coordinates, marks } => {
+                match marks {
+                    None => write!(f, "piece {room}")?,
+                    Some(marks) if marks.iter().all(|&m| m <= 3) => {
+                        write!(f, "marked {room} {}", if marks.is_empty() { "-" } else { "" })?;
+                        marks.iter().try_for_each(|m| write!(f, "{m}"))?;
+                    }
+                    Some(marks) => write!(f, "# in C alone: marked {room} {marks:?}")?,
+                }
                 coordinates.iter().try_for_each(|c| write!(f, " {c}"))
             }
             Step::Finish { room } => write!(f, "finish {room}"),
             Step::Pending => write!(f, "pending"),
             Step::Sample { x, y, .. } => write!(f, "sample {x:08x} {y:08x}"),
-            Step::Samples { list, room } => {
-                write!(f, "# in C alone: samples with room for {room}:")?;
+            Step::Samples { list, missing, room } => {
+                write!(f, "# in C alone: samples with room for {room}, missing {missing:?}:")?;
                 list.iter().try_for_each(|b| write!(f, " {b:08x}"))
             }
             other => write!(f, "# in C alone: {other:?}"),

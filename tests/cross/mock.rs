@@ -309,6 +309,30 @@ pub unsafe extern "C" fn demfizagu_hear(
 }
 
 #[no_mangle]
+pub unsafe extern "C" fn demfizagu_hear_marked(
+    state: *mut u64,
+    state_len: usize,
+    piece: *const i32,
+    piece_len: usize,
+    marks: *const u8,
+    marks_len: usize,
+    out: *mut u32,
+    out_len: usize,
+    told: *mut u64,
+    told_len: usize,
+) -> u32 {
+    let (state, piece) = (from_raw_parts_mut(state, state_len), from_raw_parts(piece, piece_len));
+    let (out, told) = (from_raw_parts_mut(out, out_len), from_raw_parts_mut(told, told_len));
+    if told.len() < 3 {
+        return 8;
+    }
+    let Some(mut held) = load(state) else { return closed(told) };
+    let given = held.hear_marked(piece, from_raw_parts(marks, marks_len), out);
+    store(&held, state);
+    answer(given, told)
+}
+
+#[no_mangle]
 pub unsafe extern "C" fn demfizagu_finish(
     state: *mut u64,
     state_len: usize,
@@ -365,7 +389,43 @@ pub unsafe extern "C" fn demfizagu_hear_recorded(
 ) -> u32 {
     let (state, piece) = (from_raw_parts_mut(state, state_len), from_raw_parts(piece, piece_len));
     let (out, bytes) = (from_raw_parts_mut(out, out_len), from_raw_parts_mut(bytes, bytes_len));
-    let told = from_raw_parts_mut(told, told_len);
+    // a length that is no multiple of 4 has no marks that fit
+    let marks = vec![0; piece.len() / 4];
+    hear_recorded(state, piece, &marks, out, bytes, from_raw_parts_mut(told, told_len))
+}
+
+#[no_mangle]
+pub unsafe extern "C" fn demfizagu_hear_marked_recorded(
+    state: *mut u64,
+    state_len: usize,
+    piece: *const i32,
+    piece_len: usize,
+    marks: *const u8,
+    marks_len: usize,
+    out: *mut u32,
+    out_len: usize,
+    bytes: *mut u8,
+    bytes_len: usize,
+    told: *mut u64,
+    told_len: usize,
+) -> u32 {
+    let (state, piece) = (from_raw_parts_mut(state, state_len), from_raw_parts(piece, piece_len));
+    let (out, bytes) = (from_raw_parts_mut(out, out_len), from_raw_parts_mut(bytes, bytes_len));
+    let marks = from_raw_parts(marks, marks_len);
+    hear_recorded(state, piece, marks, out, bytes, from_raw_parts_mut(told, told_len))
+}
+
+/// Kind 2, or kind 5 with its mark and zeros for what is missing.
+fn symbol_body(mark: u8, c: &[i32]) -> Vec<u8> {
+    let mut body = if mark == 0 { vec![2] } else { vec![5, mark] };
+    for (n, &c) in c.iter().enumerate() {
+        let got = mark >> (n / 2) & 1 == 0;
+        body.extend((if got { c } else { 0 } as i16).to_le_bytes());
+    }
+    body
+}
+
+fn hear_recorded(state: &mut [u64], piece: &[i32], marks: &[u8], out: &mut [u32], bytes: &mut [u8], told: &mut [u64]) -> u32 {
     if told.len() < 4 {
         return 8;
     }
@@ -373,20 +433,19 @@ pub unsafe extern "C" fn demfizagu_hear_recorded(
     if load(state).is_none() {
         return closed(told);
     }
-    if piece.len() % 4 != 0 {
+    if piece.len() != 4 * marks.len() || marks.iter().any(|&m| m > 3) {
         return answer(fast::refused(10), told);
     }
     let (mut taken, mut written, mut recorded) = (0, 0, 0);
     let mut given = (0, 0);
-    for c in piece.chunks(4) {
+    for (c, &mark) in piece.chunks(4).zip(marks) {
         let (mut r, mut words) = (load(state).unwrap(), [0; 65]);
-        let a = r.hear(c, &mut words);
+        let a = r.hear_marked(c, &[mark], &mut words);
         if a.number != 0 {
             given = (a.number, a.place);
             break;
         }
-        let mut body = vec![2];
-        c.iter().for_each(|&c| body.extend((c as i16).to_le_bytes()));
+        let body = symbol_body(mark, c);
         let count = a.written as usize;
         let records = words_recorded(body, &words[..count]);
         if out.len() - written < count || bytes.len() - recorded < records.len() {
@@ -420,16 +479,16 @@ pub unsafe extern "C" fn demfizagu_finish_recorded(
         return 8;
     }
     told[3] = 0;
-    let Some(mut last) = load(state) else { return closed(told) };
-    if bytes.len() < 1 + 5 * last.pending {
+    let Some(mut held) = load(state) else { return closed(told) };
+    if bytes.len() < 1 + 5 * held.pending {
         return answer(fast::refused(8), told);
     }
-    let a = last.finish(out);
+    let a = held.finish(out);
     if a.number == 0 {
         let records = words_recorded(vec![4], &out[..a.written as usize]);
         bytes[..records.len()].copy_from_slice(&records);
         told[3] = records.len() as u64;
-        store(&last, state);
+        store(&held, state);
     }
     answer(a, told)
 }
@@ -458,17 +517,37 @@ pub unsafe extern "C" fn demfizagu_samples(
     told_len: usize,
 ) -> u32 {
     let (floats, out) = (from_raw_parts(floats, floats_len), from_raw_parts_mut(out, out_len));
-    let told = from_raw_parts_mut(told, told_len);
+    let missing = vec![0; floats.len() / 2];
+    samples(floats, &missing, out, from_raw_parts_mut(told, told_len))
+}
+
+#[no_mangle]
+pub unsafe extern "C" fn demfizagu_samples_marked(
+    floats: *const f32,
+    floats_len: usize,
+    missing: *const u8,
+    missing_len: usize,
+    out: *mut i32,
+    out_len: usize,
+    told: *mut u64,
+    told_len: usize,
+) -> u32 {
+    let (floats, missing) = (from_raw_parts(floats, floats_len), from_raw_parts(missing, missing_len));
+    samples(floats, missing, from_raw_parts_mut(out, out_len), from_raw_parts_mut(told, told_len))
+}
+
+fn samples(floats: &[f32], missing: &[u8], out: &mut [i32], told: &mut [u64]) -> u32 {
     if told.len() < 3 {
         return 8;
     }
-    if floats.len() % 2 != 0 {
+    if floats.len() != 2 * missing.len() || missing.iter().any(|&m| m > 1) {
         tell(told, 0, 0, 0);
         return 10;
     }
     let mut done = 0;
-    for pair in floats.chunks(2) {
-        let (number, place) = match sample(pair[0], pair[1]) {
+    for (pair, &gone) in floats.chunks(2).zip(missing) {
+        let heard = if gone == 1 { Ok((0, 0)) } else { sample(pair[0], pair[1]) };
+        let (number, place) = match heard {
             Err(place) => (5, done as u64 + place),
             Ok(_) if out.len() - done < 2 => (8, 0),
             Ok((x, y)) => {

@@ -45,6 +45,19 @@ fn piece(rng: &mut Rng) -> Vec<i32> {
     list
 }
 
+/// Marks of such a piece, now and then one too many or one that is none.
+fn marks_for(rng: &mut Rng, list: &[i32]) -> Vec<u8> {
+    let mut marks: Vec<u8> = (0..list.len() / 4).map(|_| if rng.once_in(2) { rng.below(4) as u8 } else { 0 }).collect();
+    if rng.once_in(20) {
+        marks.push(0);
+    }
+    if !marks.is_empty() && rng.once_in(20) {
+        let at = rng.below(marks.len() as u64) as usize;
+        marks[at] = rng.pick(&[4, 5, 255]);
+    }
+    marks
+}
+
 fn told(what: &str, expected: [u64; 4], given: &Lent<u64>) -> Result<(), String> {
     differs(what, &expected[..], &given.seen()[..4])?;
     differs(&format!("{what} after its four places"), true, given.rest_stayed(4))
@@ -61,17 +74,20 @@ fn run(map: &Map, rng: &mut Rng) -> Result<u64, String> {
     let mut recorded = 0;
     for _ in 0..rng.below(12) {
         let list = piece(rng);
-        let (room, space) = (rng.pick(&[0, 1, 2, 4, 65]), rng.pick(&[0, 5, 8, 9, 13, 14, 19, 40, 400]));
+        let (room, space) = (rng.pick(&[0, 1, 2, 4, 65]), rng.pick(&[0, 5, 8, 9, 10, 13, 14, 15, 19, 20, 40, 400]));
         let (mut out, mut bytes) = (Lent::<u32>::new(room), Lent::<u8>::new(space));
         let (mut words, mut records) = (vec![0; room], vec![0; space]);
         let places = if rng.once_in(20) { 3 } else { 5 };
         let mut tells = Lent::<u64>::new(places);
-        let finish = rng.once_in(8);
-        let what = if finish { "finish_recorded" } else { "hear_recorded" };
-        let number = if finish {
-            ffi::finish_recorded(state.slice(), out.slice(), bytes.slice(), tells.slice())
+        let (finish, marked) = (rng.once_in(8), rng.once_in(2));
+        let marks = marks_for(rng, &list);
+        let (what, number) = if finish {
+            ("finish_recorded", ffi::finish_recorded(state.slice(), out.slice(), bytes.slice(), tells.slice()))
+        } else if marked {
+            let number = ffi::hear_marked_recorded(state.slice(), &list, &marks, out.slice(), bytes.slice(), tells.slice());
+            ("hear_marked_recorded", number)
         } else {
-            ffi::hear_recorded(state.slice(), &list, out.slice(), bytes.slice(), tells.slice())
+            ("hear_recorded", ffi::hear_recorded(state.slice(), &list, out.slice(), bytes.slice(), tells.slice()))
         };
         if places < 4 {
             differs(what, 8, number)?;
@@ -80,6 +96,8 @@ fn run(map: &Map, rng: &mut Rng) -> Result<u64, String> {
         }
         let (a, n) = if finish {
             reference.finish_recorded(&mut words, &mut records)
+        } else if marked {
+            reference.hear_marked_recorded(map, &list, &marks, &mut words, &mut records)
         } else {
             reference.hear_recorded(map, &list, &mut words, &mut records)
         };

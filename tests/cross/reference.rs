@@ -176,12 +176,19 @@ pub fn sample(x: u32, y: u32) -> Result<(i32, i32), u64> {
 /// A list of coordinates, two to a sample. It gives the number, how many coordinates were written and the place for a 5.
 /// A list of odd length is a 10; then sample by sample 5, 8, stopping at the first refusal.
 pub fn samples(list: &[u32], out: &mut [i32]) -> (u32, u64, u64) {
-    if list.len() % 2 != 0 {
+    samples_marked(list, &vec![0; list.len() / 2], out)
+}
+
+/// The same with a byte for each sample, 1 if it is missing (02, Wish 4): it is written as 0, 0 whatever its floats are. Bytes
+/// that are not one for each sample, or another byte than 0 and 1, are a 10.
+pub fn samples_marked(list: &[u32], missing: &[u8], out: &mut [i32]) -> (u32, u64, u64) {
+    if list.len() != 2 * missing.len() || missing.iter().any(|&m| m > 1) {
         return (10, 0, 0);
     }
     let mut written = 0;
-    for pair in list.chunks(2) {
-        let (x, y) = match sample(pair[0], pair[1]) {
+    for (pair, &gone) in list.chunks(2).zip(missing) {
+        let heard = if gone == 1 { Ok((0, 0)) } else { sample(pair[0], pair[1]) };
+        let (x, y) = match heard {
             Ok(both) => both,
             Err(place) => return (5, written as u64, written as u64 + place),
         };
@@ -238,13 +245,17 @@ pub fn distance(heard: Point, p: Point) -> u64 {
     (dx * dx + dy * dy) as u64
 }
 
+/// A point that was never got is none: it is at distance 0 from every point (02, Wish 4).
+pub type Received = Option<Point>;
+
 /// The nearest number of a label, by its true distance, the smaller of equals; with that distance.
-fn nearest(map: &Map, u: u32, label: u32, heard: Point) -> (u64, u32) {
-    (0..1u32 << u).map(|w| (distance(heard, map.point(label, w)), w)).min().unwrap()
+fn nearest(map: &Map, u: u32, label: u32, received: Received) -> (u64, u32) {
+    let away = |w| received.map_or(0, |heard| distance(heard, map.point(label, w)));
+    (0..1u32 << u).map(|w| (away(w), w)).min().unwrap()
 }
 
 /// For each subset 4·Y0 + 2·I1 + I2' the best symbol and the sum of its distances, each counted up to the cap.
-fn best_of_subsets(map: &Map, u: u32, cap: u64, heard: (Point, Point)) -> Vec<(u64, Symbol)> {
+fn best_of_subsets(map: &Map, u: u32, cap: u64, heard: (Received, Received)) -> Vec<(u64, Symbol)> {
     let first: Vec<(u64, u32)> = (0..4).map(|l| nearest(map, u, l, heard.0)).collect();
     let second: Vec<(u64, u32)> = (0..4).map(|l| nearest(map, u, l, heard.1)).collect();
     let of_type = |y0: u32, i1: u32, turn: u32| {
@@ -316,7 +327,7 @@ impl Receiver {
 
     /// The best sequences after one more symbol. A state's predecessors are tried in rising order and a later one must be
     /// strictly better: ties go to the smaller state.
-    fn after(&self, map: &Map, heard: (Point, Point)) -> Vec<Option<Reading>> {
+    fn after(&self, map: &Map, heard: (Received, Received)) -> Vec<Option<Reading>> {
         let choices = best_of_subsets(map, self.u, self.cap, heard);
         let mut found: Vec<Option<(u64, usize, Symbol)>> = vec![None; 16];
         for (before, reading) in self.best.iter().enumerate() {
@@ -347,15 +358,19 @@ impl Receiver {
         }
     }
 
-    /// One symbol: how many words it wrote, or the number and place of its refusal.
-    fn hear_one(&mut self, map: &Map, c: &[i32], out: &mut [u32]) -> Result<usize, (u32, u64)> {
-        if let Some(place) = c.iter().position(|&c| (c as i64) < -REACH || c as i64 > REACH) {
+    /// One symbol: how many words it wrote, or the number and place of its refusal. Bit 0 of the mark says that the first point is
+    /// missing, bit 1 that the second is; what stands in their places is not looked at.
+    fn hear_one(&mut self, map: &Map, mark: u8, c: &[i32], out: &mut [u32]) -> Result<usize, (u32, u64)> {
+        let got = |point: usize| mark >> point & 1 == 0;
+        let far = |c: i32| (c as i64) < -REACH || c as i64 > REACH;
+        if let Some(place) = (0..4).find(|&k| got(k / 2) && far(c[k])) {
             return Err((5, place as u64));
         }
         if self.taken == 4_294_967_295 {
             return Err((7, 0));
         }
-        let mut best = self.after(map, ((c[0], c[1]), (c[2], c[3])));
+        let received = |point: usize| got(point).then_some((c[2 * point], c[2 * point + 1]));
+        let mut best = self.after(map, (received(0), received(1)));
         let released = agreed(&best);
         let kept = self.pending() + 1 - released;
         if kept > self.window as usize {
@@ -372,16 +387,22 @@ impl Receiver {
         Ok(released)
     }
 
+    /// A piece in which nothing is missing.
     pub fn hear(&mut self, map: &Map, piece: &[i32], out: &mut [u32]) -> Answer {
+        self.hear_marked(map, piece, &vec![0; piece.len() / 4], out)
+    }
+
+    /// A piece with a mark for each symbol.
+    pub fn hear_marked(&mut self, map: &Map, piece: &[i32], marks: &[u8], out: &mut [u32]) -> Answer {
         if !self.open {
             return refused(9);
         }
-        if piece.len() % 4 != 0 {
+        if piece.len() != 4 * marks.len() || marks.iter().any(|&m| m > 3) {
             return refused(10);
         }
         let mut answer = refused(0);
-        for c in piece.chunks(4) {
-            match self.hear_one(map, c, &mut out[answer.written as usize..]) {
+        for (c, &mark) in piece.chunks(4).zip(marks) {
+            match self.hear_one(map, mark, c, &mut out[answer.written as usize..]) {
                 Ok(words) => {
                     answer.taken += 1;
                     answer.written += words as u64;
@@ -415,10 +436,15 @@ fn word_record(word: u32) -> Vec<u8> {
     r
 }
 
-/// The record of a symbol, kind 2, and of the words that it released.
-fn symbol_records(c: &[i32], words: &[u32]) -> Vec<u8> {
-    let mut r = vec![2];
-    c.iter().for_each(|&c| r.extend((c as i16).to_le_bytes()));
+/// The record of a symbol, and of the words that it released: kind 2; where a point is missing kind 5 with the mark, and zeros
+/// for the missing (02, Wish 4).
+fn symbol_records(mark: u8, c: &[i32], words: &[u32]) -> Vec<u8> {
+    let mut r = if mark == 0 { vec![2] } else { vec![5, mark] };
+    for point in 0..2 {
+        let missing = mark >> point & 1 == 1;
+        let coordinates = if missing { [0, 0] } else { [c[2 * point], c[2 * point + 1]] };
+        coordinates.iter().for_each(|&c| r.extend((c as i16).to_le_bytes()));
+    }
     words.iter().for_each(|&w| r.extend(word_record(w)));
     r
 }
@@ -436,22 +462,34 @@ pub fn record_open(u: u32, window: u32, start: u32, bytes: &mut [u8]) -> u32 {
 }
 
 impl Receiver {
-    /// A piece that is recorded: the answer, and how many bytes were written. Each symbol is first tried on a copy.
+    /// A piece that is recorded: the answer, and how many bytes were written.
     pub fn hear_recorded(&mut self, map: &Map, piece: &[i32], out: &mut [u32], bytes: &mut [u8]) -> (Answer, u64) {
+        self.hear_marked_recorded(map, piece, &vec![0; piece.len() / 4], out, bytes)
+    }
+
+    /// The same with a mark for each symbol. Each symbol is first tried on a copy.
+    pub fn hear_marked_recorded(
+        &mut self,
+        map: &Map,
+        piece: &[i32],
+        marks: &[u8],
+        out: &mut [u32],
+        bytes: &mut [u8],
+    ) -> (Answer, u64) {
         if !self.open {
             return (refused(9), 0);
         }
-        if piece.len() % 4 != 0 {
+        if piece.len() != 4 * marks.len() || marks.iter().any(|&m| m > 3) {
             return (refused(10), 0);
         }
         let (mut answer, mut recorded) = (refused(0), 0);
-        for c in piece.chunks(4) {
+        for (c, &mark) in piece.chunks(4).zip(marks) {
             let (mut next, mut words) = (self.clone(), [0; 65]);
-            let count = match next.hear_one(map, c, &mut words) {
+            let count = match next.hear_one(map, mark, c, &mut words) {
                 Ok(count) => count,
                 Err((number, place)) => return (Answer { number, place, ..answer }, recorded as u64),
             };
-            let (at, records) = (answer.written as usize, symbol_records(c, &words[..count]));
+            let (at, records) = (answer.written as usize, symbol_records(mark, c, &words[..count]));
             if out.len() - at < count || bytes.len() - recorded < records.len() {
                 return (Answer { number: 8, ..answer }, recorded as u64);
             }

@@ -49,20 +49,21 @@ impl Shrinker<'_> {
         }
     }
 
-    /// Drops runs of symbols from one piece.
+    /// Drops runs of symbols, and of their marks, from one piece.
     fn drop_symbols(&mut self, step: usize) {
         let Some(Step::Piece { coordinates, .. }) = self.steps.get(step) else { return };
         let mut run = coordinates.len() / 8;
         while run > 0 && self.in_time() {
             let mut at = 0;
-            while let Some(Step::Piece { room, coordinates }) = self.steps.get(step) {
-                if at >= coordinates.len() || !self.in_time() {
+            while let Some(Step::Piece { room, coordinates, marks }) = self.steps.get(step) {
+                if 4 * at >= coordinates.len() || !self.in_time() {
                     break;
                 }
-                let end = (at + 4 * run).min(coordinates.len());
-                let fewer = [&coordinates[..at], &coordinates[end..]].concat();
+                let end = at + run;
+                let marks = marks.as_ref().map(|marks| without(marks, at, end));
+                let coordinates = without(coordinates, 4 * at, 4 * end);
                 let mut steps = self.steps.clone();
-                steps[step] = Step::Piece { room: *room, coordinates: fewer };
+                steps[step] = Step::Piece { room: *room, coordinates, marks };
                 if !self.offer(steps) {
                     at = end;
                 }
@@ -70,6 +71,12 @@ impl Shrinker<'_> {
             run /= 2;
         }
     }
+}
+
+/// A list without the places from `at` to `end`.
+fn without<T: Clone>(list: &[T], at: usize, end: usize) -> Vec<T> {
+    let place = |n: usize| n.min(list.len());
+    [&list[..place(at)], &list[place(end)..]].concat()
 }
 
 /// A shorter list that fails, within a few seconds, and what differs at its last step.

@@ -7,12 +7,13 @@ use Prim.Native.Nat.{ℕ, _+_}
 use mathlib.Core.Bool.{Bool, cond}
 use mathlib.Core.List.{List, [], _∷_}
 use lib.Dec.{leb}
-use lib.ListN.{length}
+use lib.ListN.{length, take}
 use Rattle.records.specs.declared.Phase.{Phase}
 use Rattle.ahead.specs.declared.Sign.{Sign}
 use Rattle.ahead.specs.declared.Sign.the-variants as sign
 use Rattle.ahead.specs.declared.Front.{Front}
 use Rattle.records.specs.Kinds.{kindOf, mayStand, afterRole, begins}
+use Rattle.records.specs.Values.{bodyFits}
 
 abbrev pub emptyOf : Phase → Bool → Sign
 emptyOf p ends = cond ends (cond (begins p) sign.Gone sign.Bad) sign.More
@@ -29,4 +30,8 @@ frontOf p [] ends = stopped p (emptyOf p ends)
 frontOf p (k ∷ bs) ends =
     let size = kindOf k .size in
     let role = kindOf k .role in
-    cond (mayStand p role) (cond (leb size (length bs)) (record { sign = sign.Record; length = size + 1; phase = afterRole p role }) (stopped p (cutOf ends))) (stopped p sign.Bad)
+    cond (mayStand p role)
+    (cond (leb size (length bs))
+    (cond (bodyFits k (take size bs)) (record { sign = sign.Record; length = size + 1; phase = afterRole p role }) (stopped p sign.Bad))
+    (stopped p (cutOf ends)))
+    (stopped p sign.Bad)

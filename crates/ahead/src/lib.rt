@@ -1,11 +1,13 @@
 // A capture record by record, over bytes that lie in a buffer: what stands at their front. Where a record lies there whole, nothing of it is
-// copied; where it does not, more bytes are wanted. The kinds and where they may stand are those of `records`, whose `push` tells the same byte by byte.
+// copied; where it does not, more bytes are wanted. `push` tells the same byte by byte.
 use records::Phase;
 use records::after;
+use records::byte_fits;
 use records::kind_of;
 use records::may_stand;
 ghost use mathlib.Core.Path.{_≡_};
 ghost use Rattle.records.specs.Kinds.{begins as Kinds·begins};
+ghost use Rattle.records.specs.Values.{bodyFits};
 ghost use Rattle.ahead.specs.Fronts.{emptyOf, cutOf, frontOf};
 
 // A whole record; the capture's end, after a record; more bytes are wanted to tell; malformed here.
@@ -51,6 +53,23 @@ fn cut(ends: bool) -> Sign
     if ends { Sign::Bad } else { Sign::More }
 }
 
+// Whether all bytes of a body may be there.
+fn fits(kind: u8, body: &[u8]) -> bool
+    ensures { λ r. ⌜ r ≡ bodyFits kind (now (body .entry)) ⌝ }
+{
+    if kind != 5 {
+        return true;
+    }
+    let mut i: usize = 0;
+    while i < body.len() {
+        if !byte_fits(kind, body[0], i, body[i]) {
+            return false;
+        }
+        i += 1;
+    }
+    true
+}
+
 // The front of some bytes. `ends`: the capture has no more than these.
 pub fn look(phase: Phase, bytes: &[u8], ends: bool) -> Front
     ensures { λ r. ⌜ r ≡ frontOf phase (now (bytes .entry)) ends ⌝ }
@@ -75,6 +94,13 @@ pub fn look(phase: Phase, bytes: &[u8], ends: bool) -> Front
     if n <= kind.size {
         return Front {
             sign: cut(ends),
+            length: 0,
+            phase: phase,
+        };
+    }
+    if !fits(bytes[0], &bytes[1..kind.size + 1]) {
+        return Front {
+            sign: Sign::Bad,
             length: 0,
             phase: phase,
         };

@@ -6,6 +6,7 @@
 --   listLine k n zs   "`SENT N`, and if coordinates were written ` :` and each after a space", which answers a list
 --   heardLine n r ws  "`TAKEN WRITTEN N`", the place and the words, which answers a piece and a finish
 --   pairLine x y, refusedLine p, sampleLine g   "`X Y`, or `5 place P`"
+--   missingLine       "`sample missing` answers `missing`"; sampledLine g, of a sample that may be missing
 --   unreadLine        "A line it cannot read answers `?`"
 --   answerRoom        what any answer takes at most: three numbers with the spaces between them, a place, an output of 4096
 --                     coordinates, a newline
@@ -18,6 +19,7 @@ use lib.IntN.{ℤ}
 use lib.ListN.{length, take}
 use Rattle.text.specs.Bytes.{bytes}
 use Rattle.samples.specs.Given.{GivenSample}
+use Rattle.samples.specs.Sampled.{GivenSampled}
 use Rattle.reasons.specs.Reason.{Reason}
 use Rattle.phrases.specs.Phrase.{decimal, whole, afterSpaces, placeText, reasonText, saidText, saidWholes}
 
@@ -48,6 +50,12 @@ lineBy (some p) x y = refusedLine p
 
 unfoldable pub sampleLine : GivenSample → List ℕ
 sampleLine g = lineBy (g .place) (g .x) (g .y)
+
+abbrev pub missingLine : List ℕ
+missingLine = bytes "missing\n"
+
+abbrev pub sampledLine : GivenSampled → List ℕ
+sampledLine g = cond (g .missing) missingLine (sampleLine (g .given))
 
 abbrev pub unreadLine : List ℕ
 unreadLine = bytes "?\n"

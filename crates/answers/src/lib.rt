@@ -6,13 +6,21 @@ ghost use lib.ListN.{length};
 ghost use Rattle.page.specs.Page.{Puts};
 ghost use Rattle.reasons.specs.Reason.{givenOf};
 ghost use Rattle.phrases.specs.Phrase.{wordsRoom, wholesRoom};
-ghost use Rattle.answers.specs.Answer.{numberLine, sentLine, listLine, heardLine, pairLine, refusedLine, unreadLine};
+ghost use Rattle.answers.specs.Answer.{numberLine, sentLine, listLine, heardLine, pairLine, refusedLine, missingLine, unreadLine};
 
 pub fn unread(page: &mut [u8], at: usize) -> usize
     requires { ⌜ at + 2 ≤ length (now page) ⌝ }
     ensures { λ r. ⌜ Puts (now (page .entry)) at unreadLine r (now (page .exit)) ⌝ }
 {
     page::put_text(page, at, b"?\n")
+}
+
+// The answer to a sample that is missing.
+pub fn missing(page: &mut [u8], at: usize) -> usize
+    requires { ⌜ at + 8 ≤ length (now page) ⌝ }
+    ensures { λ r. ⌜ Puts (now (page .entry)) at missingLine r (now (page .exit)) ⌝ }
+{
+    page::put_text(page, at, b"missing\n")
 }
 
 pub fn number(page: &mut [u8], at: usize, n: u64) -> usize

@@ -8,7 +8,7 @@
 use mathlib.Core.Path.{_≡_, refl, sym, ap, ap₂, subst, _∙_}
 use mathlib.Core.Bool.{Bool, true}
 use mathlib.Core.List.{List}
-use Prim.Native.Nat.{ℕ, zero, suc, _+_, _-_, _*_, _%_, _≤_, _<_}
+use Prim.Native.Nat.{ℕ, zero, suc, _+_, _*_, _%_, _≤_, _<_}
 use native.Mathlib.Omega.{arith}
 use native.Mathlib.Decide.{decLt}
 use borrow.Author.Tests.{le-ltb}
@@ -34,13 +34,14 @@ use Rattle.machine.specs.declared.Receiver.{Receiver}
 use Rattle.select.specs.Select.{limit, sixteen, arrive, winner, sumAt, firstStep, stepAt, prevIn}
 use Rattle.machine.specs.Machine.{freshSums, opened, nextSums, nextSteps, agreedOf, keptOf, grown, machineAfter, machineOf}
 use Rattle.told.specs.Told.{Told, Fine}
+use Rattle.told.specs.Piece.{symbolFrom}
 use Rattle.select.proofs.Lists.{sixteen-at, sixteen-same}
 use Rattle.select.proofs.Followed.{followed-live}
 use Rattle.machine.proofs.Owed.{accord-told, kept-told, grown-told}
 use Rattle.told.proofs.Telling.{telling-fine, fine-opened}
 
 abbrev pub zeros : Two Received
-zeros = record { first = record { x = pos 0; y = pos 0 }; second = record { x = pos 0; y = pos 0 } }
+zeros = symbolFrom (pos 0) (pos 0) (pos 0) (pos 0)
 
 pub zeros-good : BothInRange zeros
 zeros-good = record { first-in = record { x-in = omega arith; y-in = omega arith }; second-in = record { x-in = omega arith; y-in = omega arith } }

@@ -20,10 +20,11 @@ use Rattle.trellis.specs.Pick.{bestOf}
 use Rattle.trellis.specs.IvEight.{pointsOf}
 use Rattle.trellis.specs.Said.{spokenWords, answerWords}
 use Rattle.nearest.specs.declared.Received.{Received}
+use Rattle.nearest.specs.declared.Received.the-variants.{Heard}
 use Rattle.nearest.specs.Line.{onLine, lineDistance}
 
 abbrev pub heardAt : ℤ → ℤ → Received
-heardAt a b = record { x = a; y = b }
+heardAt a b = Heard (record { x = a; y = b })
 
 abbrev pub heard : ℤ → ℤ → ℤ → ℤ → Two Received
 heard a b c d = record { first = heardAt a b; second = heardAt c d }

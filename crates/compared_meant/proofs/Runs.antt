@@ -15,10 +15,11 @@ use Rattle.records.specs.declared.Phase.{Phase}
 use Rattle.ahead.specs.declared.Sign.{Sign}
 use Rattle.ahead.specs.declared.Sign.the-variants as sign
 use Rattle.ahead.specs.declared.Front.{Front}
-use Rattle.records.specs.Kinds.{kindOf, mayStand, afterRole, begins}
+use Rattle.records.specs.Kinds.{kindOf, mayStand, begins}
 use Rattle.records.specs.Reading.{clean, malformed, Reading, readingOf}
-use Rattle.ahead.specs.Fronts.{stopped, cutOf, frontOf}
-use Rattle.ahead.proofs.Fronts.{restOf, rest-whole, Taken, Ended, Says, look-passes, front-within}
+use Rattle.records.specs.Values.{bodyFits}
+use Rattle.ahead.specs.Fronts.{frontOf}
+use Rattle.ahead.proofs.Fronts.{standing, restOf, rest-whole, Taken, Ended, Says, look-passes, front-within}
 use Rattle.compared.specs.declared.Line.{Line}
 use Rattle.compared.specs.declared.Line.the-variants.{Differs, OnlyFirst, OnlySecond}
 use Rattle.compared.specs.declared.Event.{Event}
@@ -44,12 +45,13 @@ all-told p [] = go (begins p)
     go : (b : Bool) → Told (cond b sign.Gone sign.Bad)
     go true = tt
     go false = tt
-all-told p (k ∷ bs) = go (mayStand p (kindOf k .role)) (leb (kindOf k .size) (length bs))
+all-told p (k ∷ bs) = go (mayStand p (kindOf k .role)) (leb (kindOf k .size) (length bs)) (bodyFits k (take (kindOf k .size) bs))
   where
-    go : (b t : Bool) → Told (cond b (cond t (record { sign = sign.Record; length = kindOf k .size + 1; phase = afterRole p (kindOf k .role) }) (stopped p (cutOf true))) (stopped p sign.Bad) .sign)
-    go false t = tt
-    go true true = tt
-    go true false = tt
+    go : (b t u : Bool) → Told (standing p k true b t u .sign)
+    go false t u = tt
+    go true true true = tt
+    go true true false = tt
+    go true false u = tt
 
 pub record Rest (r : Pass) (xs ys : List ℕ) : Type 0 where
   pub from : ℕ

@@ -1,5 +1,5 @@
 -- Both promises of the conversion settle it: any two results that they allow are equal, number by number and place by place.
---   samples-settled, converts-settled   one sample; a list of them
+--   samples-settled, converts-settled   one sample; a list of them, with marks or without
 use Prim.Native.Nat.{ℕ}
 use mathlib.Core.Path.{_≡_, sym, _∙_}
 use mathlib.Core.List.{List}

@@ -1,17 +1,17 @@
-// Floats converted for C: a sample, or a list of them, as whole numbers in an output that the caller lends.
+// Floats converted for C: a sample, or a list of them, some perhaps missing, as whole numbers in an output that the caller lends.
 //
 // What is heard of a float is the crate samples; here it is put into lent memory, and a number says how it went. Here too stands `tell`,
 // the three places in which a call of the library says how far it came.
-use samples::Pair;
-use samples::Sample;
+use samples::Marked;
+use samples::Sampled;
 ghost use mathlib.Core.Path.{_≡_};
 ghost use mathlib.Core.List.{[]};
-ghost use Prim.Native.Nat.{_+_, _%_, _≤_};
+ghost use Prim.Native.Nat.{_+_, _≤_, _<_};
 ghost use lib.IntN.{pos};
 ghost use lib.ListN.{length, set};
-ghost use Rattle.samples.specs.Heard.{heardSample};
+ghost use Rattle.samples.specs.Sampled.{heardSampled};
 ghost use Rattle.converted.specs.Counts.{toldOf};
-ghost use Rattle.converted.specs.Calls.{sampleCall, converting, samplesCall};
+ghost use Rattle.converted.specs.Calls.{sampleCall, samplesWith, sampleIn, converting, listCall, samplesCall, allFlags, marksFit, markedCall};
 ghost use Rattle.converted.specs.Promise.{HeardIs, Samples, ConvertsTo, Converts};
 
 // The first three places of `told`.
@@ -24,7 +24,8 @@ pub fn tell(told: &mut [u64], taken: usize, written: usize, place: usize)
     told[2] = place as u64;
 }
 
-// What was heard of a sample: the number, both coordinates, and the place at fault, which is 0 where there is none.
+// What was heard of a sample: the number, both coordinates, and the place at fault, which is 0 where there is none. Of a missing one both
+// coordinates are 0.
 struct Heard {
     number: u32,
     x: i32,
@@ -32,22 +33,28 @@ struct Heard {
     place: u8,
 }
 
-fn hear_floats(x: f32, y: f32) -> Heard
-    ensures { λ r. ⌜ HeardIs (heardSample x y) r ⌝ }
+fn hear(s: Sampled) -> Heard
+    ensures { λ r. ⌜ HeardIs (heardSampled s .given) r ⌝ }
 {
-    let p = samples::hear_sample(Sample { x: x, y: y });
-    match p {
-        Pair::Heard { x: a, y: b } => Heard {
+    let h = samples::hear_sampled(s);
+    match h {
+        Marked::Heard { x, y } => Heard {
             number: 0,
-            x: a,
-            y: b,
+            x: x,
+            y: y,
             place: 0,
         },
-        Pair::Refused { place } => Heard {
+        Marked::Refused { place } => Heard {
             number: 5,
             x: 0,
             y: 0,
             place: place,
+        },
+        Marked::Missing => Heard {
+            number: 0,
+            x: 0,
+            y: 0,
+            place: 0,
         },
     }
 }
@@ -71,7 +78,7 @@ pub fn convert_sample(x: f32, y: f32, out: &mut [i32]) -> u32
     if out.len() < 3 {
         return 8;
     }
-    let h = hear_floats(x, y);
+    let h = hear(Sampled::Heard(x, y));
     put_three(out, h);
     h.number
 }
@@ -94,14 +101,26 @@ fn put_pair(out: &mut [i32], at: usize, h: Heard)
     out[at + 1] = b;
 }
 
+// The sample that begins at the place i. The floats of a missing one are not looked at; a sample that has no mark is heard.
+fn sample_at(floats: &[f32], missing: &[u8], i: usize) -> Sampled
+    requires { ⌜ i + 1 < length (now floats) ⌝ }
+    ensures { λ r. ⌜ r ≡ sampleIn (now (missing .entry)) (now (floats .entry)) i ⌝ }
+{
+    let j = i / 2;
+    if j < missing.len() && missing[j] == 1 {
+        return Sampled::Missing;
+    }
+    Sampled::Heard(floats[i], floats[i + 1])
+}
+
 // Sample by sample, up to the first that is refused or has no room.
-fn convert(floats: &[f32], out: &mut [i32]) -> Converted
-    requires { ⌜ length (now floats) % 2 ≡ 0 ⌝ }
-    ensures { λ r. ⌜ ConvertsTo (converting (now (floats .entry)) [] (length (now (out .entry)))) (now (out .entry)) (r .number) (r .written) (r .place) (now (out .exit)) ⌝ }
+fn convert(floats: &[f32], missing: &[u8], out: &mut [i32]) -> Converted
+    ensures { λ r. ⌜ ConvertsTo (converting (samplesWith (now (missing .entry)) (now (floats .entry))) [] (length (now (out .entry)))) (now (out .entry))
+        (r .number) (r .written) (r .place) (now (out .exit)) ⌝ }
 {
     let mut i: usize = 0;
-    while i < floats.len() {
-        let h = hear_floats(floats[i], floats[i + 1]);
+    while i + 1 < floats.len() {
+        let h = hear(sample_at(floats, missing, i));
         if h.number != 0 {
             return Converted {
                 number: 5,
@@ -126,18 +145,67 @@ fn convert(floats: &[f32], out: &mut [i32]) -> Converted
     }
 }
 
-// Refused as a whole where the length is odd.
-pub fn convert_list(floats: &[f32], out: &mut [i32], told: &mut [u64]) -> u32
-    ensures { λ r. ⌜ Converts (samplesCall (now (floats .entry)) (now (out .entry)) (now (told .entry))) r (now (out .exit)) (now (told .exit)) ⌝ }
+// A list of samples, refused as a whole where it does not fit.
+fn convert_fitting(
+    fits: bool,
+    floats: &[f32],
+    missing: &[u8],
+    out: &mut [i32],
+    told: &mut [u64],
+) -> u32
+    ensures { λ r. ⌜ Converts (listCall fits (samplesWith (now (missing .entry)) (now (floats .entry))) (now (out .entry)) (now (told .entry)))
+        r (now (out .exit)) (now (told .exit)) ⌝ }
 {
     if told.len() < 3 {
         return 8;
     }
-    if floats.len() % 2 != 0 {
+    if !fits {
         tell(told, 0, 0, 0);
         return 10;
     }
-    let c = convert(floats, out);
+    let c = convert(floats, missing, out);
     tell(told, c.written, c.written, c.place);
     c.number
+}
+
+// Refused as a whole where the length is odd.
+pub fn convert_list(floats: &[f32], out: &mut [i32], told: &mut [u64]) -> u32
+    ensures { λ r. ⌜ Converts (samplesCall (now (floats .entry)) (now (out .entry)) (now (told .entry))) r (now (out .exit)) (now (told .exit)) ⌝ }
+{
+    let none = [0u8; 0];
+    convert_fitting(floats.len() % 2 == 0, floats, &none, out, told)
+}
+
+// Whether every mark is 0 or 1.
+fn all_flags(missing: &[u8]) -> bool
+    ensures { λ r. ⌜ r ≡ allFlags (now (missing .entry)) ⌝ }
+{
+    let mut j: usize = 0;
+    while j < missing.len() {
+        if 1 < missing[j] {
+            return false;
+        }
+        j += 1;
+    }
+    true
+}
+
+// Whether the marks fit so many floats: one for each sample, 0 or 1.
+fn marks_fit(missing: &[u8], count: usize) -> bool
+    ensures { λ r. ⌜ r ≡ marksFit (now (missing .entry)) count ⌝ }
+{
+    if count % 2 != 0 {
+        return false;
+    }
+    if count / 2 != missing.len() {
+        return false;
+    }
+    all_flags(missing)
+}
+
+// The same of samples of which some are missing: a mark for each, 0 heard, 1 missing. Refused as a whole where the marks do not fit.
+pub fn convert_marked(floats: &[f32], missing: &[u8], out: &mut [i32], told: &mut [u64]) -> u32
+    ensures { λ r. ⌜ Converts (markedCall (now (floats .entry)) (now (missing .entry)) (now (out .entry)) (now (told .entry))) r (now (out .exit)) (now (told .exit)) ⌝ }
+{
+    convert_fitting(marks_fit(missing, floats.len()), floats, missing, out, told)
 }

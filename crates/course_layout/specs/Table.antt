@@ -1,7 +1,7 @@
 -- Where the parts of a replay stand in its words: the table of src/lib.rt.
 --   replayTag                  word 0: what the state is
 --   replayLength               how many words a replay has
---   sumsAt, planesAt, picksAt, dueAt   where its lists begin, after the tag and the 28 numbers
+--   sumsAt, planesAt, picksAt, dueAt   where its lists begin, after the tag and the 29 numbers
 --   limits, dueLimits          the most that a number and a word that is due may be
 --   within ls ws               each word is at most its limit
 --   Small ws                   each word fits 32 bits
@@ -13,29 +13,29 @@ use lib.ListN.{getD, replicate}
 
 -- the letters "demf", "rp", and the number of the layout
 abbrev pub replayTag : ℕ
-replayTag = 0x64656d6672700001
+replayTag = 0x64656d6672700002
 
 abbrev pub sumsAt : ℕ
-sumsAt = 29
+sumsAt = 30
 
 abbrev pub planesAt : ℕ
-planesAt = 45
+planesAt = 46
 
 abbrev pub picksAt : ℕ
-picksAt = 93
+picksAt = 94
 
 abbrev pub dueAt : ℕ
-dueAt = 165
+dueAt = 166
 
 abbrev pub replayLength : ℕ
-replayLength = 230
+replayLength = 231
 
 abbrev pub half : ℕ
 half = 4294967295
 
--- stage, phase, kind, eight bytes of a body, live, width, taken, turn, which verdict, and two words of it
+-- stage, phase, kind, nine bytes of a body, live, width, taken, turn, which verdict, and two words of it
 abbrev pub limits : List ℕ
-limits = 3 ∷ 3 ∷ 255 ∷ 255 ∷ 255 ∷ 255 ∷ 255 ∷ 255 ∷ 255 ∷ 255 ∷ 255 ∷ 1 ∷ half ∷ half ∷ half ∷ 5 ∷ half ∷ half ∷ []
+limits = 3 ∷ 3 ∷ 255 ∷ 255 ∷ 255 ∷ 255 ∷ 255 ∷ 255 ∷ 255 ∷ 255 ∷ 255 ∷ 255 ∷ 1 ∷ half ∷ half ∷ half ∷ 5 ∷ half ∷ half ∷ []
 
 abbrev pub dueLimits : List ℕ
 dueLimits = replicate 65 half

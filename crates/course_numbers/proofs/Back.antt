@@ -1,6 +1,6 @@
 -- The numbers of a frame and a judge read as them.
---   frame-back, judge-back    the laws; a frame's body has eight bytes
---   fit                       the first eighteen numbers within their limits
+--   frame-back, judge-back    the laws; a frame's body has nine bytes
+--   fit                       the first nineteen numbers within their limits
 use mathlib.Core.Path.{_≡_, refl}
 use mathlib.Core.Bool.{Bool, true, false}
 use mathlib.Core.List.{List, [], _∷_}
@@ -44,21 +44,22 @@ verdict-back (Missing n h) = refl
 verdict-back (Refused n w) = refl
 verdict-back (Malformed p) = refl
 
-eight : (b : List ℕ) → length b ≡ 8 → getD b 0 0 ∷ getD b 1 0 ∷ getD b 2 0 ∷ getD b 3 0 ∷ getD b 4 0 ∷ getD b 5 0 ∷ getD b 6 0 ∷ getD b 7 0 ∷ [] ≡ b
-eight (a ∷ b ∷ c ∷ d ∷ e ∷ f ∷ g ∷ h ∷ []) n = refl
-eight [] n = absurd (omega arith)
-eight (a ∷ []) n = absurd (omega arith)
-eight (a ∷ b ∷ []) n = absurd (omega arith)
-eight (a ∷ b ∷ c ∷ []) n = absurd (omega arith)
-eight (a ∷ b ∷ c ∷ d ∷ []) n = absurd (omega arith)
-eight (a ∷ b ∷ c ∷ d ∷ e ∷ []) n = absurd (omega arith)
-eight (a ∷ b ∷ c ∷ d ∷ e ∷ f ∷ []) n = absurd (omega arith)
-eight (a ∷ b ∷ c ∷ d ∷ e ∷ f ∷ g ∷ []) n = absurd (omega arith)
-eight (a ∷ b ∷ c ∷ d ∷ e ∷ f ∷ g ∷ h ∷ i ∷ l) n = absurd (omega arith)
+nine : (b : List ℕ) → length b ≡ 9 → getD b 0 0 ∷ getD b 1 0 ∷ getD b 2 0 ∷ getD b 3 0 ∷ getD b 4 0 ∷ getD b 5 0 ∷ getD b 6 0 ∷ getD b 7 0 ∷ getD b 8 0 ∷ [] ≡ b
+nine (a ∷ b ∷ c ∷ d ∷ e ∷ f ∷ g ∷ h ∷ i ∷ []) n = refl
+nine [] n = absurd (omega arith)
+nine (a ∷ []) n = absurd (omega arith)
+nine (a ∷ b ∷ []) n = absurd (omega arith)
+nine (a ∷ b ∷ c ∷ []) n = absurd (omega arith)
+nine (a ∷ b ∷ c ∷ d ∷ []) n = absurd (omega arith)
+nine (a ∷ b ∷ c ∷ d ∷ e ∷ []) n = absurd (omega arith)
+nine (a ∷ b ∷ c ∷ d ∷ e ∷ f ∷ []) n = absurd (omega arith)
+nine (a ∷ b ∷ c ∷ d ∷ e ∷ f ∷ g ∷ []) n = absurd (omega arith)
+nine (a ∷ b ∷ c ∷ d ∷ e ∷ f ∷ g ∷ h ∷ []) n = absurd (omega arith)
+nine (a ∷ b ∷ c ∷ d ∷ e ∷ f ∷ g ∷ h ∷ i ∷ k ∷ l) n = absurd (omega arith)
 
-pub frame-back : (f : Frame) (j : Judge) → length (f .body) ≡ 8 → frameIn (numbersOf f j) ≡ f
+pub frame-back : (f : Frame) (j : Judge) → length (f .body) ≡ 9 → frameIn (numbersOf f j) ≡ f
 unfolding frameIn numbersOf
-frame-back f j n = λ i. record { stage = stage-back (f .stage) i; phase = phase-back (f .phase) i; kind = f .kind; have = f .have; body = eight (f .body) n i; at = f .at; fed = f .fed }
+frame-back f j n = λ i. record { stage = stage-back (f .stage) i; phase = phase-back (f .phase) i; kind = f .kind; have = f .have; body = nine (f .body) n i; at = f .at; fed = f .fed }
 
 pub judge-back : (f : Frame) (j : Judge) → judgeIn (numbersOf f j) ≡ j
 unfolding judgeIn coreIn numbersOf
@@ -88,10 +89,11 @@ verdict-small (Missing n h) = omega arith
 verdict-small (Refused n w) = omega arith
 verdict-small (Malformed p) = omega arith
 
--- eight bytes
+-- nine bytes
 abbrev pub Bytes : List ℕ → Type 0
 Bytes b =
     (getD b 0 0 ≤ 255) × (getD b 1 0 ≤ 255) × (getD b 2 0 ≤ 255) × (getD b 3 0 ≤ 255) × (getD b 4 0 ≤ 255) × (getD b 5 0 ≤ 255) × (getD b 6 0 ≤ 255) × (getD b 7 0 ≤ 255)
+    × (getD b 8 0 ≤ 255)
 
 -- bytes are bytes, and numbers of 32 bits fit them
 pub fit : (f : Frame) (j : Judge) → f .kind ≤ 255 → Bytes (f .body) → j .core .accord .u ≤ half → j .core .taken ≤ half → j .core .turn ≤ half
@@ -110,6 +112,7 @@ fit f j k b u t r g w =
       le-leb (getD (f .body) 5 0) 255 (b .5),
       le-leb (getD (f .body) 6 0) 255 (b .6),
       le-leb (getD (f .body) 7 0) 255 (b .7),
+      le-leb (getD (f .body) 8 0) 255 (b .8),
       le-leb (liveNumber (j .live)) 1 (live-small (j .live)),
       le-leb (j .core .accord .u) half u,
       le-leb (j .core .taken) half t,

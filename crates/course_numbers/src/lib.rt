@@ -1,4 +1,4 @@
-// The numbers of a replay: its frame and its judge as 28 numbers of 64 bits, and back. Where each stands is the table of `course_layout`;
+// The numbers of a replay: its frame and its judge as 29 numbers of 64 bits, and back. Where each stands is the table of `course_layout`;
 // which number stands for which stage, phase and verdict is said here.
 use machine::Core;
 use points::Accord;
@@ -65,7 +65,7 @@ fn verdict_of(k: u64, n: u64, g: u32, h: u32) -> Verdict
     Verdict::Malformed(n)
 }
 
-pub fn frame_of(numbers: [u64; 28]) -> Frame
+pub fn frame_of(numbers: [u64; 29]) -> Frame
     requires { ⌜ within limits numbers ≡ true ⌝ }
     ensures { λ r. ⌜ r ≡ frameIn numbers ⌝ }
 {
@@ -83,13 +83,14 @@ pub fn frame_of(numbers: [u64; 28]) -> Frame
             numbers[8] as u8,
             numbers[9] as u8,
             numbers[10] as u8,
+            numbers[11] as u8,
         ],
         at: numbers[course_layout::AT],
         fed: numbers[course_layout::FED],
     }
 }
 
-fn core_of(numbers: [u64; 28]) -> Core
+fn core_of(numbers: [u64; 29]) -> Core
     requires { ⌜ within limits numbers ≡ true ⌝ }
     ensures { λ r. ⌜ r ≡ coreIn numbers ⌝ }
 {
@@ -105,7 +106,7 @@ fn core_of(numbers: [u64; 28]) -> Core
     }
 }
 
-pub fn judge_of(numbers: [u64; 28]) -> Judge
+pub fn judge_of(numbers: [u64; 29]) -> Judge
     requires { ⌜ within limits numbers ≡ true ⌝ }
     ensures { λ r. ⌜ r ≡ judgeIn numbers ⌝ }
 {
@@ -210,14 +211,14 @@ fn live_number(live: bool) -> u64
 }
 
 // A byte of a body.
-fn byte(body: [u8; 8], i: usize) -> u8
-    requires { ⌜ i < 8 ⌝ }
+fn byte(body: [u8; 9], i: usize) -> u8
+    requires { ⌜ i < 9 ⌝ }
     ensures { λ r. ⌜ r ≡ getD body i 0 ⌝ }
 {
     body[i]
 }
 
-pub fn numbers_of(f: Frame, j: Judge) -> [u64; 28]
+pub fn numbers_of(f: Frame, j: Judge) -> [u64; 29]
     ensures { λ r. ⌜ (r ≡ numbersOf f j) × (within limits r ≡ true) ⌝ }
 {
     let stage = f.stage;
@@ -237,6 +238,7 @@ pub fn numbers_of(f: Frame, j: Judge) -> [u64; 28]
         byte(b, 5) as u64,
         byte(b, 6) as u64,
         byte(b, 7) as u64,
+        byte(b, 8) as u64,
         live_number(j.live),
         c.accord.u as u64,
         c.taken as u64,

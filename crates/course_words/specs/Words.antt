@@ -18,7 +18,7 @@ use Rattle.course_layout.specs.Table.{replayTag, replayLength, sumsAt, planesAt
 use Rattle.course_numbers.specs.Numbers.{frameIn, judgeIn, numbersOf}
 
 abbrev pub numbersIn : List ℕ → List ℕ
-numbersIn ws = take 28 (drop 1 ws)
+numbersIn ws = take 29 (drop 1 ws)
 
 abbrev pub dueIn : List ℕ → List ℕ
 dueIn ws = take 65 (drop dueAt ws)
@@ -35,7 +35,7 @@ courseIn ws =
 abbrev pub judgeOf : State → Judge
 judgeOf s = record { live = s .receiver .live; core = s .receiver .core; given = s .given; shown = s .shown; records = s .records; verdict = s .verdict }
 
--- the tag, 28 numbers, sixteen sums, 48 registers, 72 words of picks and 65 words that are due
+-- the tag, 29 numbers, sixteen sums, 48 registers, 72 words of picks and 65 words that are due
 unfoldable pub wordsOf : Course → List ℕ
 wordsOf c =
     let s = c .state in

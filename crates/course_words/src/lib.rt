@@ -44,7 +44,7 @@ pub fn load(words: &[u64]) -> Replay
     requires { ⌜ holdsReplay (now words) ≡ true ⌝ }
     ensures { λ r. ⌜ replayOf r ≡ courseIn (now (words .entry)) ⌝ }
 {
-    let mut numbers = [0u64; 28];
+    let mut numbers = [0u64; 29];
     let mut sums = [0u64; 16];
     let mut planes = [0u64; 48];
     let mut picks = [0u64; 72];

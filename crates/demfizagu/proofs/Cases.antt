@@ -25,7 +25,7 @@ use Rattle.reasons.specs.Reason.{Reason, givenOf}
 use Rattle.openings.specs.declared.Start.{Start}
 use Rattle.openings.specs.declared.Opened.{Opened}
 use Rattle.openings.specs.Opening as openings
-use Rattle.told.specs.Piece.{pieceOf}
+use Rattle.told.specs.Piece.{Piece}
 use Rattle.receiver.specs.declared.Answer.{Answer}
 use Rattle.pieces.specs.declared.Heard.{Heard}
 use Rattle.receiver.specs.Doors.{Ran, hearing, finishing}
@@ -194,21 +194,21 @@ module _ (ran : Ran) (state out told : List ℕ) (a : Answer) (o t : List ℕ) (
         told-is = told-same;
       }
 
-module _ (state : List ℕ) (piece : List ℤ) (out told : List ℕ) where
+module _ (state : List ℕ) (piece : Piece) (out told : List ℕ) where
   pub hear-short : length told < 3 → Answers (hearCall state piece out told) 8 state out told
   unfolding hearCall
   hear-short h = rw (lt-ltb (length told) 3 h) (record { number = refl; state-is = refl; reads = refl; out-is = refl; told-is = refl })
 
-  module _ (enough : 3 ≤ length told) (a : Answer) (o t : List ℕ) (n : ℕ) (is : receives.Is (hearing (receiverIn state) (pieceOf piece) (length out)) out a o) (number : n ≡ givenOf (a .why) .number)
+  module _ (enough : 3 ≤ length told) (a : Answer) (o t : List ℕ) (n : ℕ) (is : receives.Is (hearing (receiverIn state) piece (length out)) out a o) (number : n ≡ givenOf (a .why) .number)
       (tells : t ≡ toldOf (a .taken) (a .written) (givenOf (a .why) .place) told) where
     ran : Ran
-    ran = hearing (receiverIn state) (pieceOf piece) (length out)
+    ran = hearing (receiverIn state) piece (length out)
 
     pub hear-kept : a .taken ≡ 0 → Answers (hearCall state piece out told) n state o t
     unfolding hearCall ran
     hear-kept h =
         rw (le-ltb (length told) 3 enough)
-        (answered-kept ran state out told a o t n is number tells (ltb 0 (ran .taken)) (rw (sym (is .taken) ∙ h)) (hearing-keeps (receiverIn state) (pieceOf piece) (length out) (sym (is .taken) ∙ h)))
+        (answered-kept ran state out told a o t n is number tells (ltb 0 (ran .taken)) (rw (sym (is .taken) ∙ h)) (hearing-keeps (receiverIn state) piece (length out) (sym (is .taken) ∙ h)))
 
     pub hear-written : (l : List ℕ) → (a .taken ≡ 0 → ⊥) → ReceiverStored (a .receiver) state l → Answers (hearCall state piece out told) n l o t
     unfolding hearCall ran
@@ -216,33 +216,33 @@ module _ (state : List ℕ) (piece : List ℤ) (out told : List ℕ) where
         let e = is .taken in
         rw (le-ltb (length told) 3 enough)
         (answered-written ran state out told a o t n is number tells (ltb 0 (ran .taken)) l (lt-ltb 0 (ran .taken) (omega arith)) f
-        (hearing-reads (receiverIn state) (pieceOf piece) (length out) (λ z. h (e ∙ z))))
+        (hearing-reads (receiverIn state) piece (length out) (λ z. h (e ∙ z))))
 
   -- a state that holds no receiver
   pub hear-none : holds receiverLength receiverTag state ≡ false → 3 ≤ length told → (t : List ℕ) (n : ℕ) → n ≡ 9 → t ≡ toldOf 0 0 0 told → Answers (hearCall state piece out told) n state out t
   unfolding receiverIn sound shut
   hear-none none enough t n number tells =
-      hear-kept enough (record { receiver = receiverIn state; taken = 0; written = 0; why = Closed }) out t n (hear-closed (receiverIn state) out (pieceOf piece) (rw none)) number tells refl
+      hear-kept enough (record { receiver = receiverIn state; taken = 0; written = 0; why = Closed }) out t n (hear-closed (receiverIn state) out piece (rw none)) number tells refl
 
 -- a piece to a receiver whose picks were lent in their place in the state
-module _ (state : List ℕ) (piece : List ℤ) (out told : List ℕ) (yes : holds receiverLength receiverTag state ≡ true) where
+module _ (state : List ℕ) (piece : Piece) (out told : List ℕ) (yes : holds receiverLength receiverTag state ≡ true) where
   module _ (f : Copied) (loaded : f ≡ copiedIn state) (h : Heard) (sums planes picks o : List ℕ)
-      (was : receives.Is (hearing (receives.partsOf (receives.lentLive true (picksIn state)) (f .core) (f .sums) (f .planes) (picksIn state)) (pieceOf piece) (length out)) out
+      (was : receives.Is (hearing (receives.partsOf (receives.lentLive true (picksIn state)) (f .core) (f .sums) (f .planes) (picksIn state)) piece (length out)) out
       (receives.answerOf (receives.lentLive true (picksIn state)) h sums planes picks) o)
       (enough : 3 ≤ length told) (t : List ℕ) (n : ℕ) (number : n ≡ givenOf (h .why) .number) (tells : t ≡ toldOf (h .taken) (h .written) (givenOf (h .why) .place) told) where
     abbrev a : Answer
     a = receives.answerOf true h sums planes picks
 
-    is : receives.Is (hearing (receiverIn state) (pieceOf piece) (length out)) out a o
+    is : receives.Is (hearing (receiverIn state) piece (length out)) out a o
     is =
-        subst (λ (rx : Receiver). receives.Is (hearing rx (pieceOf piece) (length out)) out a o) (front-is state yes f loaded)
-        (subst (λ (b : Bool). receives.Is (hearing (receives.partsOf b (f .core) (f .sums) (f .planes) (picksIn state)) (pieceOf piece) (length out)) out (receives.answerOf b h sums planes picks) o)
+        subst (λ (rx : Receiver). receives.Is (hearing rx piece (length out)) out a o) (front-is state yes f loaded)
+        (subst (λ (b : Bool). receives.Is (hearing (receives.partsOf b (f .core) (f .sums) (f .planes) (picksIn state)) piece (length out)) out (receives.answerOf b h sums planes picks) o)
         (lent-live true (picksIn state) (all-there state yes)) was)
 
     -- where nothing was taken they come back as they were
     unchanged : h .taken ≡ 0 → around state picks ≡ state
     unchanged none =
-        let same = is .receiver ∙ hearing-keeps (receiverIn state) (pieceOf piece) (length out) (sym (is .taken) ∙ none) in
+        let same = is .receiver ∙ hearing-keeps (receiverIn state) piece (length out) (sym (is .taken) ∙ none) in
         let kept : picks ≡ (picksIn state) = ap (λ (rx : Receiver). rx .picks) same ∙ picks-at state yes in
         rw (kept, take-append-drop 72 (drop picksAt state)) (take-append-drop picksAt state)
 

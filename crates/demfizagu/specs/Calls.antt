@@ -5,7 +5,7 @@
 --   Opening, senderOpening, receiverOpening    an opening: 8 where the state is too short, else the door's number and its end
 --   Sending, sendCall          a word sent
 --   ListCall, sendListCall     a list of words sent: 8 where `told` is too short
---   Call, hearCall, finishCall a piece heard, a finish: 8 where `told` is too short, else what the receiver's machine says
+--   Call, hearCall, finishCall a piece heard, with marks or without; a finish: 8 where `told` is too short, else what the receiver's machine says
 --   pendingIn, openIn          what is pending in a state; 1 if the state is an open end of either kind, else 0
 use Prim.Native.Nat.{ℕ, _*_}
 use mathlib.Core.Bool.{Bool, cond, _||_}
@@ -22,9 +22,8 @@ use Rattle.machine.specs.declared.Receiver.{Receiver}
 use Rattle.machine.specs.Machine as machine
 use Rattle.reasons.specs.Reason.{givenOf}
 use Rattle.openings.specs.declared.Start.{Start}
-use Rattle.openings.specs.declared.Start.the-variants.{Free, At}
 use Rattle.openings.specs.Opening.{opening}
-use Rattle.told.specs.Piece.{pieceOf}
+use Rattle.told.specs.Piece.{Piece}
 use Rattle.receiver.specs.Doors as doors
 use Rattle.layout.specs.Layout.{senderLength, receiverLength}
 use Rattle.stored.specs.State.{senderIn, wordsOfSender, receiverIn, wordsOfReceiver}
@@ -116,9 +115,9 @@ abbrev pub withTold : Call → List ℕ → List ℕ → List ℕ → Call
 withTold c state out told = cond (ltb (length told) 3) (record { number = 8; state = state; receiver = receiverIn state; out = out; told = told }) c
 
 -- where no symbol was taken the state stays as it was
-unfoldable pub hearCall : List ℕ → List ℤ → List ℕ → List ℕ → Call
+unfoldable pub hearCall : List ℕ → Piece → List ℕ → List ℕ → Call
 hearCall state piece out told =
-    let r = doors.hearing (receiverIn state) (pieceOf piece) (length out) in
+    let r = doors.hearing (receiverIn state) piece (length out) in
     withTold (callOf (ltb 0 (r .taken)) r state out told) state out told
 
 -- where the finish was refused the state stays as it was

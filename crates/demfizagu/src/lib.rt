@@ -19,9 +19,10 @@ ghost use Prim.Native.Nat.{_≤_};
 ghost use lib.ListN.{length};
 ghost use Rattle.points.specs.Agreed.{ofWidth};
 ghost use Rattle.reasons.specs.Reason.{givenOf};
+ghost use Rattle.told.specs.Piece.{pieceWith, markedPiece, pieceOf};
 ghost use Rattle.openings.specs.Given.{plainWindow, startAt};
 ghost use Rattle.converted.specs.Counts.{toldOf};
-ghost use Rattle.converted.specs.Calls.{sampleCall, samplesCall};
+ghost use Rattle.converted.specs.Calls.{sampleCall, samplesCall, markedCall};
 ghost use Rattle.converted.specs.Promise.{Samples, Converts};
 ghost use Rattle.demfizagu.specs.Calls.{senderOpening, receiverOpening, sendCall, sendListCall, hearCall, finishCall, pendingIn, openIn};
 ghost use Rattle.demfizagu.specs.Promise.{Opens, OpensAs, Sends, SendsList, Answers};
@@ -151,16 +152,18 @@ fn answer(told: &mut [u64], taken: usize, written: usize, why: Why) -> u32
     reasons::number(why)
 }
 
-// The receiver is heard in its parts: its picks, half of it, stay in the state, and the rest is copied out of it, and back where a
-// symbol was taken.
-#[no_mangle]
-pub extern "C" fn demfizagu_hear(
+// A piece, with the marks where `marked` says so. The receiver is heard in its parts: its picks, half of it, stay in the state, and the rest
+// is copied out of it, and back where a symbol was taken.
+fn hear_piece(
     state: &mut [u64],
+    marked: bool,
+    marks: &[u8],
     piece: &[i32],
     out: &mut [u32],
     told: &mut [u64],
 ) -> u32
-    ensures { λ r. ⌜ Answers (hearCall (now (state .entry)) (now (piece .entry)) (now (out .entry)) (now (told .entry))) r (now (state .exit)) (now (out .exit)) (now (told .exit)) ⌝ }
+    ensures { λ r. ⌜ Answers (hearCall (now (state .entry)) (pieceWith marked (now (marks .entry)) (now (piece .entry))) (now (out .entry)) (now (told .entry))) r
+        (now (state .exit)) (now (out .exit)) (now (told .exit)) ⌝ }
 {
     if told.len() < 3 {
         return 8;
@@ -172,9 +175,11 @@ pub extern "C" fn demfizagu_hear(
     let core = copied.core;
     let mut sums = copied.sums;
     let mut planes = copied.planes;
-    let a = receiver::hear_lent(
+    let a = receiver::hear_piece_lent(
         true,
         core,
+        marked,
+        marks,
         piece,
         &mut sums,
         &mut planes,
@@ -189,6 +194,34 @@ pub extern "C" fn demfizagu_hear(
     let after = a.core;
     store_front(true, after, sums, planes, state);
     n
+}
+
+#[no_mangle]
+pub extern "C" fn demfizagu_hear(
+    state: &mut [u64],
+    piece: &[i32],
+    out: &mut [u32],
+    told: &mut [u64],
+) -> u32
+    ensures { λ r. ⌜ Answers (hearCall (now (state .entry)) (pieceOf (now (piece .entry))) (now (out .entry)) (now (told .entry))) r (now (state .exit)) (now (out .exit)) (now (told .exit)) ⌝ }
+{
+    let none = [0u8; 0];
+    hear_piece(state, false, &none, piece, out, told)
+}
+
+// A mark for each symbol: 0 both points heard, 1 the first missing, 2 the second, 3 both.
+#[no_mangle]
+pub extern "C" fn demfizagu_hear_marked(
+    state: &mut [u64],
+    piece: &[i32],
+    marks: &[u8],
+    out: &mut [u32],
+    told: &mut [u64],
+) -> u32
+    ensures { λ r. ⌜ Answers (hearCall (now (state .entry)) (markedPiece (now (marks .entry)) (now (piece .entry))) (now (out .entry)) (now (told .entry))) r
+        (now (state .exit)) (now (out .exit)) (now (told .exit)) ⌝ }
+{
+    hear_piece(state, true, marks, piece, out, told)
 }
 
 // The state is written back, closed, where the finish was done.
@@ -247,6 +280,19 @@ pub extern "C" fn demfizagu_samples(floats: &[f32], out: &mut [i32], told: &mut 
     converted::convert_list(floats, out, told)
 }
 
+// A mark for each sample: 0 heard, 1 missing. Refused as a whole where the marks do not fit.
+#[no_mangle]
+pub extern "C" fn demfizagu_samples_marked(
+    floats: &[f32],
+    missing: &[u8],
+    out: &mut [i32],
+    told: &mut [u64],
+) -> u32
+    ensures { λ r. ⌜ Converts (markedCall (now (floats .entry)) (now (missing .entry)) (now (out .entry)) (now (told .entry))) r (now (out .exit)) (now (told .exit)) ⌝ }
+{
+    converted::convert_marked(floats, missing, out, told)
+}
+
 // The record of an opening: 8 where the bytes are too short for it, then 1, 2, 3. A refusal writes no byte.
 #[no_mangle]
 pub extern "C" fn demfizagu_record_open(u: u32, window: u32, start: u32, bytes: &mut [u8]) -> u32
@@ -263,10 +309,25 @@ pub extern "C" fn demfizagu_hear_recorded(
     bytes: &mut [u8],
     told: &mut [u64],
 ) -> u32
-    ensures { λ r. ⌜ Records (taped.hearCall (now (state .entry)) (now (piece .entry)) (now (out .entry)) (now (bytes .entry)) (now (told .entry)))
+    ensures { λ r. ⌜ Records (taped.hearCall (now (state .entry)) (pieceOf (now (piece .entry))) (now (out .entry)) (now (bytes .entry)) (now (told .entry)))
         r (now (state .exit)) (now (out .exit)) (now (bytes .exit)) (now (told .exit)) ⌝ }
 {
     taped::hear_recorded(state, piece, out, bytes, told)
+}
+
+#[no_mangle]
+pub extern "C" fn demfizagu_hear_marked_recorded(
+    state: &mut [u64],
+    piece: &[i32],
+    marks: &[u8],
+    out: &mut [u32],
+    bytes: &mut [u8],
+    told: &mut [u64],
+) -> u32
+    ensures { λ r. ⌜ Records (taped.hearCall (now (state .entry)) (markedPiece (now (marks .entry)) (now (piece .entry))) (now (out .entry)) (now (bytes .entry)) (now (told .entry)))
+        r (now (state .exit)) (now (out .exit)) (now (bytes .exit)) (now (told .exit)) ⌝ }
+{
+    taped::hear_marked_recorded(state, piece, marks, out, bytes, told)
 }
 
 #[no_mangle]

@@ -13,9 +13,10 @@ use lib.Seq.{take-at}
 use Rattle.text.specs.Bytes.{bytes}
 use Rattle.page.specs.Page.{Puts}
 use Rattle.requests.specs.declared.Request.{Request}
+use Rattle.requests.specs.Named.{Named}
 use Rattle.requests.specs.Verb.{Sizes, Fit}
-use Rattle.samples.specs.declared.Pair.{Pair}
-use Rattle.samples.specs.Given.{sampleGiven}
+use Rattle.samples.specs.declared.Marked.{Marked}
+use Rattle.samples.specs.Sampled.{GivenSampled, markedGiven}
 use Rattle.samples.specs.Heard.{heardCoordinate, heardBits, bothOrFault, heardSample}
 use Rattle.sender.specs.declared.Sender.{Sender}
 use Rattle.sender.specs.declared.SentList.{SentList}
@@ -30,8 +31,8 @@ use Rattle.receiver.specs.Doors.{Ran}
 use Rattle.receiver.specs.Promise.{Is}
 use Rattle.desk.specs.declared.Desk.{Desk}
 use Rattle.desk.specs.declared.Done.{Done}
-use Rattle.answers.specs.Answer.{answerRoom, firstFour, sentLine, listLine, heardLine, sampleLine}
-use Rattle.desk.specs.Room.{Lent, Ready}
+use Rattle.answers.specs.Answer.{firstFour, sentLine, listLine, heardLine, sampleLine, sampledLine}
+use Rattle.desk.specs.Room.{Long, Lent, Ready}
 use Rattle.phrases.specs.Phrase.{decimal, whole, afterSpaces}
 use Rattle.desk.specs.Desk.{Result, says, withSender, sendGives, listGives, lent, Does, Acts}
 use Rattle.phrases.proofs.Phrases.{puts-as}
@@ -50,12 +51,11 @@ does {g} {most} {page} {at} {r} {page'} is d s h p =
     }
 
 -- the request is k
-pub acts : (d : Desk) (cs : List ℤ) (ws : List ℕ) {asked k : Request} {page : List ℕ} {at : ℕ} {r : Done} {page' : List ℕ}
-    → asked ≡ k → Acts d k cs ws page at r page' → Acts d asked cs ws page at r page'
-acts d cs ws {page = page} {at = at} {r = r} {page' = page'} e g = subst (λ (a : Request). Acts d a cs ws page at r page') (sym e) g
+pub acts : (d : Desk) (l : Named) {asked k : Request} {page : List ℕ} {at : ℕ} {r : Done} {page' : List ℕ} → asked ≡ k → Acts d k l page at r page' → Acts d asked l page at r page'
+acts d l {page = page} {at = at} {r = r} {page' = page'} e g = subst (λ (a : Request). Acts d a l page at r page') (sym e) g
 
 -- less room is room enough
-pub within : {g : Result} {most : ℕ} {page : List ℕ} {at : ℕ} {r : Done} {page' : List ℕ} → most ≤ answerRoom → Does g most page at r page' → Does g answerRoom page at r page'
+pub within : {g : Result} {most most' : ℕ} {page : List ℕ} {at : ℕ} {r : Done} {page' : List ℕ} → most ≤ most' → Does g most page at r page' → Does g most' page at r page'
 within h g = record { desk = g .desk; puts = g .puts; near = omega (arith, g .near) }
 
 -- the size n that a call was lent is the one that the request names
@@ -125,12 +125,13 @@ module _ {ran : Ran} {out : List ℕ} {a : Answer} {o : List ℕ} (is : Is ran o
 
 -- ---- a sample
 
-pub sample-text : (fx fy : Float) {p q : Pair} (x y : ℕ) → p ≡ q → sampleGiven p ≡ heardSample fx fy → heardCoordinate fx ≡ heardBits x → heardCoordinate fy ≡ heardBits y
-    → sampleLine (sampleGiven q) ≡ sampleLine (bothOrFault (heardBits x) (heardBits y))
+pub answer-text : {p q : Marked} {g : GivenSampled} → p ≡ q → markedGiven p ≡ g → sampledLine (markedGiven q) ≡ sampledLine g
+answer-text e h = ap sampledLine (sym (ap markedGiven e) ∙ h)
+
+pub sample-text : (fx fy : Float) (x y : ℕ) → heardCoordinate fx ≡ heardBits x → heardCoordinate fy ≡ heardBits y
+    → sampleLine (heardSample fx fy) ≡ sampleLine (bothOrFault (heardBits x) (heardBits y))
 unfolding heardSample
-sample-text fx fy x y e g hx hy =
-    ap sampleLine
-    (ap sampleGiven (sym e) ∙ g ∙ ap (λ a. bothOrFault a (heardCoordinate fy)) hx ∙ ap (λ b. bothOrFault (heardBits x) b) hy)
+sample-text fx fy x y hx hy = ap sampleLine (ap (λ a. bothOrFault a (heardCoordinate fy)) hx ∙ ap (λ b. bothOrFault (heardBits x) b) hy)
 
 -- ---- sizes
 
@@ -141,18 +142,22 @@ sizes-of {room} k e f = (subst (Fit room) e f) .sizes
 pub short : (n : ℕ) (words : List ℕ) {m : ℕ} → n ≤ m → length (take n words) ≤ m
 short n words h = rw length-take (omega arith)
 
+-- lists that keep their lengths
+long-on : {l l' : Named} → Long l → length (l' .coordinates) ≡ length (l .coordinates) → length (l' .words) ≡ length (l .words) → length (l' .marks) ≡ length (l .marks) → Long l'
+long-on h a b c = record { coordinates-long = a ∙ h .coordinates-long; words-long = b ∙ h .words-long; marks-long = c ∙ h .marks-long }
+
 -- a request that was read into the lists can be answered, where the page is filled to a quarter at most
-pub ready : {asked : Request} {page : List ℕ} {at : ℕ} (list : List ℤ) (list-words : List ℕ) {coordinates : List ℤ} {words : List ℕ}
-    → Lent page list list-words → at ≤ 32768 → length coordinates ≡ length list → length words ≡ length list-words → Fit (length list) asked → Ready asked page at coordinates words
-ready {asked} list list-words lent h e g f =
+pub ready : {asked : Request} {page : List ℕ} {at : ℕ} (l : Named) {l' : Named} → Lent page l → at ≤ 32768
+    → length (l' .coordinates) ≡ length (l .coordinates) → length (l' .words) ≡ length (l .words) → length (l' .marks) ≡ length (l .marks)
+    → Fit (length (l .coordinates)) asked → Ready asked page at l'
+ready {asked} l lent h a b c f =
     record {
-      fit = subst (λ (n : ℕ). Fit n asked) (sym e) f;
+      fit = subst (λ (n : ℕ). Fit n asked) (sym a) f;
       room = omega (arith, lent .page-long);
-      coordinates-long = e ∙ lent .coordinates-long;
-      words-long = g ∙ lent .words-long;
+      long = long-on (lent .long) a b c;
     }
 
 -- buffers that keep their lengths stay lent
-pub lent-on : {page page' : List ℕ} {list list' : List ℤ} {words words' : List ℕ} → Lent page list words
-    → length page' ≡ length page → length list' ≡ length list → length words' ≡ length words → Lent page' list' words'
-lent-on l a b c = record { page-long = a ∙ l .page-long; coordinates-long = b ∙ l .coordinates-long; words-long = c ∙ l .words-long }
+pub lent-on : {page page' : List ℕ} {l l' : Named} → Lent page l → length page' ≡ length page
+    → length (l' .coordinates) ≡ length (l .coordinates) → length (l' .words) ≡ length (l .words) → length (l' .marks) ≡ length (l .marks) → Lent page' l'
+lent-on h p a b c = record { page-long = p ∙ h .page-long; long = long-on (h .long) a b c }

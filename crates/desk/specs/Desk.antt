@@ -6,7 +6,7 @@
 --   lent cap          "CAP is the length of the output lent"; what it holds makes no difference
 --   senderGives, sendGives, listGives, openingGives, ranGives   what a call gives, made into a desk and an answer
 --   pendingOf rx      "how many symbols the receiver holds undecided; 0 if it is closed"
---   acting d r cs ws  what the request r does to the desk d, where cs starts with the coordinates of its line and ws with its words
+--   acting d r l      what the request r does to the desk d, where the lists l start with what its line names
 --   Does g most ..    what was done is g: its desk, and its text put into the page, of so many bytes at most
 --   Acts ..           what was done is what the request does
 use Prim.Native.Nat.{ℕ, _+_, _*_, _≤_}
@@ -19,6 +19,7 @@ use Rattle.points.specs.Agreed.{ofWidth}
 use Rattle.page.specs.Page.{Puts}
 use Rattle.requests.specs.declared.Request.{Request}
 use Rattle.requests.specs.declared.Request.the-variants as request
+use Rattle.requests.specs.Named.{Named}
 use Rattle.samples.specs.Heard.{heardBits, bothOrFault}
 use Rattle.sender.specs.declared.Sender.{Sender}
 use Rattle.sender.specs.Send as sender
@@ -28,11 +29,11 @@ use Rattle.machine.specs.Machine as machine
 use Rattle.reasons.specs.Reason.{givenOf}
 use Rattle.openings.specs.declared.Start.the-variants.{Free, At}
 use Rattle.openings.specs.Opening as openings
-use Rattle.told.specs.Piece.{pieceOf}
+use Rattle.told.specs.Piece.{pieceOf, markedPiece}
 use Rattle.receiver.specs.Doors as receiver
 use Rattle.desk.specs.declared.Desk.{Desk}
 use Rattle.desk.specs.declared.Done.{Done}
-use Rattle.answers.specs.Answer.{answerRoom, numberLine, sentLine, listLine, heardLine, sampleLine, unreadLine}
+use Rattle.answers.specs.Answer.{answerRoom, numberLine, sentLine, listLine, heardLine, sampleLine, missingLine, unreadLine}
 
 abbrev pub closedDesk : Desk
 closedDesk = record { sender = sender.shut; receiver = machine.shut }
@@ -71,19 +72,21 @@ lent cap = replicate cap (pos 0)
 abbrev pub pendingOf : Receiver → ℕ
 pendingOf rx = cond (machine.sound rx) (rx .core .pending) 0
 
-unfoldable pub acting : Desk → Request → List ℤ → List ℕ → Result
-acting d request.Nothing cs ws = says d []
-acting d request.Unread cs ws = says d unreadLine
-acting d (request.Sender u) cs ws = senderGives d (sender.opening (ofWidth u))
-acting d (request.Send w cap) cs ws = sendGives d (sender.sending (d .sender) w (lent cap))
-acting d (request.Plain u) cs ws = openingGives d (openings.plainOpening (ofWidth u))
-acting d (request.Free u w) cs ws = openingGives d (openings.opening (ofWidth u) w Free)
-acting d (request.At u w s) cs ws = openingGives d (openings.opening (ofWidth u) w (At s))
-acting d (request.Piece cap n) cs ws = ranGives d (receiver.hearing (d .receiver) (pieceOf (take n cs)) cap)
-acting d (request.Finish cap) cs ws = ranGives d (receiver.finishing (d .receiver) cap)
-acting d (request.Sample x y) cs ws = says d (sampleLine (bothOrFault (heardBits x) (heardBits y)))
-acting d request.Pending cs ws = says d (numberLine (pendingOf (d .receiver)))
-acting d (request.List cap n) cs ws = listGives d (sendingList (d .sender) (take n ws) (lent cap))
+unfoldable pub acting : Desk → Request → Named → Result
+acting d request.Nothing l = says d []
+acting d request.Unread l = says d unreadLine
+acting d (request.Sender u) l = senderGives d (sender.opening (ofWidth u))
+acting d (request.Send w cap) l = sendGives d (sender.sending (d .sender) w (lent cap))
+acting d (request.Plain u) l = openingGives d (openings.plainOpening (ofWidth u))
+acting d (request.Free u w) l = openingGives d (openings.opening (ofWidth u) w Free)
+acting d (request.At u w s) l = openingGives d (openings.opening (ofWidth u) w (At s))
+acting d (request.Piece cap n) l = ranGives d (receiver.hearing (d .receiver) (pieceOf (take n (l .coordinates))) cap)
+acting d (request.Finish cap) l = ranGives d (receiver.finishing (d .receiver) cap)
+acting d (request.Sample x y) l = says d (sampleLine (bothOrFault (heardBits x) (heardBits y)))
+acting d request.Pending l = says d (numberLine (pendingOf (d .receiver)))
+acting d (request.List cap n) l = listGives d (sendingList (d .sender) (take n (l .words)) (lent cap))
+acting d request.Missing l = says d missingLine
+acting d (request.Marked cap k n) l = ranGives d (receiver.hearing (d .receiver) (markedPiece (take k (l .marks)) (take n (l .coordinates))) cap)
 
 -- the last part follows from the one before it; it is stated so that callers find it
 pub record Does (g : Result) (most : ℕ) (page : List ℕ) (at : ℕ) (r : Done) (page' : List ℕ) : Type 0 where
@@ -91,5 +94,5 @@ pub record Does (g : Result) (most : ℕ) (page : List ℕ) (at : ℕ) (r : Done
   pub puts : Puts page at (g .text) (r .at) page'
   pub near : r .at ≤ at + most
 
-abbrev pub Acts : Desk → Request → List ℤ → List ℕ → List ℕ → ℕ → Done → List ℕ → Type 0
-Acts desk asked coordinates words page at r page' = Does (acting desk asked coordinates words) answerRoom page at r page'
+abbrev pub Acts : Desk → Request → Named → List ℕ → ℕ → Done → List ℕ → Type 0
+Acts desk asked l page at r page' = Does (acting desk asked l) answerRoom page at r page'

@@ -4,6 +4,7 @@ use machine::Receiver;
 use requests::Request;
 use sender::Sender;
 ghost use mathlib.Core.Path.{_≡_};
+ghost use Rattle.requests.specs.Named.{named};
 ghost use Rattle.desk.specs.Desk.{closedDesk, Acts};
 ghost use Rattle.desk.specs.Room.{Ready};
 
@@ -38,9 +39,10 @@ pub fn act(
     at: usize,
     coordinates: &mut [i32],
     words: &mut [u32],
+    marks: &[u8],
 ) -> Done
-    requires { ⌜ Ready asked (now page) at (now coordinates) (now words) ⌝ }
-    ensures { λ r. ⌜ Acts desk asked (now (coordinates .entry)) (now (words .entry)) (now (page .entry)) at r (now (page .exit)) ⌝ }
+    requires { ⌜ Ready asked (now page) at (named (now coordinates) (now words) (now marks)) ⌝ }
+    ensures { λ r. ⌜ Acts desk asked (named (now (coordinates .entry)) (now (words .entry)) (now (marks .entry))) (now (page .entry)) at r (now (page .exit)) ⌝ }
 {
     match asked {
         Request::Nothing => Done { desk, at },
@@ -61,5 +63,11 @@ pub fn act(
         Request::List { cap, count } => {
             verbs::list::list(desk, cap, count, words, coordinates, page, at)
         }
+        Request::Missing => verbs::sample::missing(desk, page, at),
+        Request::Marked {
+            cap,
+            marks: row,
+            count,
+        } => verbs::marked::hear(desk, cap, row, count, coordinates, marks, words, page, at),
     }
 }

@@ -2,10 +2,12 @@
 // own request and leans on no other verb.
 pub mod finish;
 pub mod list;
+pub mod marked;
 pub mod open_receiver;
 pub mod open_sender;
 pub mod pending;
 pub mod piece;
+pub mod ran;
 pub mod sample;
 pub mod send;
 pub mod unread;

@@ -12,7 +12,8 @@ use mathlib.Core.List.{List, [], _∷_, append-nil}
 use Prim.Native.Nat.{ℕ, zero, suc, _+_, _-_, _≤_, _<_, min}
 use native.Mathlib.Omega.{arith}
 use native.Mathlib.Numerals.{add-one}
-use borrow.Author.Tests.{lt-ltb, lt-leb, ltb-true, le-ltb}
+use borrow.Author.Tests.{lt-ltb, ltb-true, le-ltb}
+use lib.Dec.{eqb}
 use lib.ListN.{length, take, drop, set, getD, length-take, length-drop}
 use lib.Seq.{sets, drop-cons, getD-drop}
 use Rattle.records.specs.declared.Kind.{Kind}
@@ -20,7 +21,8 @@ use Rattle.records.specs.declared.Stage.{Stage}
 use Rattle.records.specs.declared.Stage.the-variants.{Fresh, Part, Whole, Bad}
 use Rattle.records.specs.declared.Frame.{Frame}
 use Rattle.records.specs.Kinds.{kindOf}
-use Rattle.records.specs.Frames.{capped, grown, pushed, Read, ended, before, following}
+use Rattle.records.specs.Values.{byteFits}
+use Rattle.records.specs.Frames.{capped, mayGrow, grown, pushed, Read, ended, before, following}
 use Rattle.records.proofs.Counts.{capped-more}
 use Rattle.records.proofs.Steps.{size-fits}
 use Rattle.gather.specs.Runs.{insideAt, inside, gathered, runOf, Advances}
@@ -41,11 +43,15 @@ inside-stage Part have size e = (refl, ltb-true have size e)
 inside-stage Whole have size e = absurd (not-true e)
 inside-stage Bad have size e = absurd (not-true e)
 
-pub inside-yes : (f : Frame) → inside f ≡ true → (f .stage ≡ Part) × (f .have < kindOf (f .kind) .size)
-inside-yes f e = inside-stage (f .stage) (f .have) (kindOf (f .kind) .size) e
+pub inside-yes : (f : Frame) → inside f ≡ true → (f .stage ≡ Part) × (f .have < kindOf (f .kind) .size) × (eqb (f .kind) 5 ≡ false)
+inside-yes f = go (eqb (f .kind) 5)
+  where
+    go : (b : Bool) → cond b false (insideAt (f .stage) (f .have) (kindOf (f .kind) .size)) ≡ true → (f .stage ≡ Part) × (f .have < kindOf (f .kind) .size) × (b ≡ false)
+    go true e = absurd (not-true e)
+    go false e = let i = inside-stage (f .stage) (f .have) (kindOf (f .kind) .size) e in (i .0, i .1, refl)
 
 -- how much is wanted then, and that the frame can hold it
-pub wants : (f : Frame) (k : Kind) → inside f ≡ true → k ≡ kindOf (f .kind) → (f .have < k .size) × (k .size ≤ 8)
+pub wants : (f : Frame) (k : Kind) → inside f ≡ true → k ≡ kindOf (f .kind) → (f .have < k .size) × (k .size ≤ 9)
 wants f k e i = (rw i (inside-yes f e .1), rw i (size-fits (f .kind)))
 
 -- ---- the loop
@@ -75,10 +81,10 @@ advance-one f bs from g h e z =
 
 -- ---- a body
 
-module _ (f : Frame) (p : f .stage ≡ Part) (h : f .have < kindOf (f .kind) .size) where
+module _ (f : Frame) (p : f .stage ≡ Part) (q : eqb (f .kind) 5 ≡ false) (h : f .have < kindOf (f .kind) .size) where
   grows : (b : ℕ) → pushed f b ≡ gathered f 1 (b ∷ [])
-  unfolding pushed grown
-  grows b = rw (p, lt-leb 8 (f .have) (omega (arith, size-fits (f .kind))))
+  unfolding pushed grown mayGrow byteFits
+  grows b = rw (p, lt-ltb (f .have) 9 (omega (arith, size-fits (f .kind))), q)
 
 followed : (f g : Frame) (b : ℕ) (bs : List ℕ) → pushed f b ≡ g → following f (b ∷ bs) ≡ before (ended (g .stage) g) (following g bs)
 unfolding following
@@ -95,27 +101,27 @@ regathered f b n xs =
 abbrev only : Frame → Read
 only g = record { entries = ended (g .stage) g; frame = g }
 
-gathers : (xs : List ℕ) (x : ℕ) (f : Frame) → f .stage ≡ Part → f .have + suc (length xs) ≤ kindOf (f .kind) .size
+gathers : (xs : List ℕ) (x : ℕ) (f : Frame) → f .stage ≡ Part → eqb (f .kind) 5 ≡ false → f .have + suc (length xs) ≤ kindOf (f .kind) .size
     → following f (x ∷ xs) ≡ only (gathered f (suc (length xs)) (x ∷ xs))
 unfolding following
-gathers [] x f p h =
+gathers [] x f p q h =
     let g = gathered f 1 (x ∷ []) in
-    followed f g x [] (grows f p (omega arith) x) ∙ rw (append-nil (ended (g .stage) g))
-gathers (y ∷ ys) x f p h =
+    followed f g x [] (grows f p q (omega arith) x) ∙ rw (append-nil (ended (g .stage) g))
+gathers (y ∷ ys) x f p q h =
     let g = gathered f 1 (x ∷ []) in
     let s : g .stage ≡ Part = rw (lt-ltb (f .have + 1) (kindOf (f .kind) .size) (omega arith)) in
-    let i = gathers ys y g s (omega arith) in
-    followed f g x (y ∷ ys) (grows f p (omega arith) x)
+    let i = gathers ys y g s q (omega arith) in
+    followed f g x (y ∷ ys) (grows f p q (omega arith) x)
     ∙ ap (λ (t : Stage). before (ended t g) (following g (y ∷ ys))) s
     ∙ i
     ∙ ap (λ (z : Frame). only z) (regathered f x (suc (length ys)) (y ∷ ys))
 
-gathers-all : (xs : List ℕ) (n : ℕ) (f : Frame) → length xs ≡ n → 0 < n → f .stage ≡ Part → f .have + n ≤ kindOf (f .kind) .size
+gathers-all : (xs : List ℕ) (n : ℕ) (f : Frame) → length xs ≡ n → 0 < n → f .stage ≡ Part → eqb (f .kind) 5 ≡ false → f .have + n ≤ kindOf (f .kind) .size
     → following f xs ≡ only (gathered f n xs)
-gathers-all [] n f e h p l = absurd (omega arith)
-gathers-all (x ∷ xs) n f e h p l =
+gathers-all [] n f e h p q l = absurd (omega arith)
+gathers-all (x ∷ xs) n f e h p q l =
     let m : n ≡ suc (length xs) = sym e in
-    rw m (gathers xs x f p (omega arith))
+    rw m (gathers xs x f p q (omega arith))
 
 pub advance-body : (f : Frame) (bs : List ℕ) (from n : ℕ) (g : Frame) → from < length bs → inside f ≡ true
     → n ≡ min (kindOf (f .kind) .size - f .have) (length bs - from) → g ≡ gathered f n (take n (drop from bs)) → Advances f (drop from bs) g n
@@ -125,7 +131,7 @@ advance-body f bs from n g h e m z =
     let d = length-drop from bs in
     record {
       count = m ∙ rw (e, d);
-      pushes = rw z (gathers-all (take n (drop from bs)) n f (omega (arith, length-take n (drop from bs), d)) (omega (arith, i .1)) (i .0) (omega (arith, i .1)));
+      pushes = rw z (gathers-all (take n (drop from bs)) n f (omega (arith, length-take n (drop from bs), d)) (omega (arith, i .1)) (i .0) (i .2) (omega (arith, i .1)));
     }
 
 -- ---- how many

@@ -1,5 +1,5 @@
 -- A run of bytes that goes into a frame at once, as functions: what the code does. What a byte does is `pushed` (records/specs/Frames).
---   inside f          the frame waits for more of a body
+--   inside f          the frame waits for more of a body, of which any bytes will do: not one of kind 5
 --   gathered f n xs   the frame after n bytes more of the body, xs
 --   runOf f bs        how many of the bytes go at once: the rest of a body as far as it is there, or one
 --   Advances f bs g n    the first n of the bytes bs, pushed one by one, give the frame g, and no record is whole before the last of them
@@ -7,7 +7,7 @@ use Prim.Native.Nat.{ℕ, _+_, _-_, min}
 use mathlib.Core.Path.{_≡_}
 use mathlib.Core.Bool.{Bool, false, cond}
 use mathlib.Core.List.{List}
-use lib.Dec.{ltb}
+use lib.Dec.{eqb, ltb}
 use lib.ListN.{length, take}
 use lib.Seq.{sets}
 use Rattle.records.specs.declared.Stage.{Stage}
@@ -23,7 +23,7 @@ insideAt Whole have size = false
 insideAt Bad have size = false
 
 abbrev pub inside : Frame → Bool
-inside f = insideAt (f .stage) (f .have) (kindOf (f .kind) .size)
+inside f = cond (eqb (f .kind) 5) false (insideAt (f .stage) (f .have) (kindOf (f .kind) .size))
 
 abbrev pub gathered : Frame → ℕ → List ℕ → Frame
 gathered f n xs =

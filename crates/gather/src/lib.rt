@@ -1,7 +1,7 @@
 // Bytes of a lump into a frame: what `records::push` does byte by byte, with the bytes of a body taken over at once.
 //
 // A body's byte put into a frame by value costs a copy of the frame. Here a record costs two steps: its kind byte, and the rest of it as far
-// as the lump goes.
+// as the lump goes. Only of a symbol with missing points, whose bytes are looked at one by one, do they come so (`records::push`).
 use records::Frame;
 use records::Stage;
 ghost use mathlib.Core.Path.{_≡_};
@@ -19,10 +19,13 @@ pub struct Moved {
     pub count: usize,
 }
 
-// Whether the frame waits for more of a body.
+// Whether the frame waits for more of a body, of which any bytes will do.
 fn is_inside(f: Frame) -> bool
     ensures { λ r. ⌜ r ≡ inside f ⌝ }
 {
+    if f.kind == 5 {
+        return false;
+    }
     let kind = records::kind_of(f.kind);
     let stage = f.stage;
     match stage {
@@ -52,8 +55,8 @@ fn fed_on(fed: u64, n: usize) -> u64
 }
 
 // The body with n bytes more.
-fn fill(body: [u8; 8], have: usize, bytes: &[u8], from: usize, n: usize) -> [u8; 8]
-    requires { ⌜ (have + n ≤ 8) × (from + n ≤ length (now bytes)) ⌝ }
+fn fill(body: [u8; 9], have: usize, bytes: &[u8], from: usize, n: usize) -> [u8; 9]
+    requires { ⌜ (have + n ≤ 9) × (from + n ≤ length (now bytes)) ⌝ }
     ensures { λ r. ⌜ r ≡ sets body have (take n (drop from (now (bytes .entry)))) ⌝ }
 {
     let mut filled = body;

@@ -5,7 +5,8 @@ use mathlib.Core.Path.{_≡_, refl}
 use mathlib.Core.List.{List, [], _∷_}
 use lib.IntN.{pos, negsuc}
 use Rattle.text.specs.Bytes.{bytes}
-use Rattle.text.specs.Number.{digitOf, numberOf, hexOf}
+use Rattle.text.specs.Number.{digitOf, numberOf, wholeOf, hexOf}
+use Rattle.marks.specs.Row.{isMark, isRow, rowOf}
 use Rattle.protocol.specs.Request.{verbOf, requestOf}
 use Rattle.samples.specs.Given.{bothDone, refusedAt}
 use Rattle.samples.specs.Heard.{heardBits}
@@ -19,9 +20,10 @@ use Rattle.points.specs.Pair.{firstPoint, secondPoint}
 use Rattle.sender.specs.Send.{opening, sending, after, four}
 use Rattle.sender.specs.SendList.{sendingAll, sendingList}
 use Rattle.machine.specs.Machine.{shut, sound}
+use Rattle.receiver.specs.Doors.{hearing}
 use Rattle.reasons.specs.Reason.{reason}
 use Rattle.phrases.specs.Phrase.{decimal, whole, reasonText, saidText, saidWholes}
-use Rattle.answers.specs.Answer.{numberLine, sentLine, listLine, heardLine, sampleLine}
+use Rattle.answers.specs.Answer.{numberLine, sentLine, listLine, heardLine, sampleLine, missingLine}
 use Rattle.desk.specs.Desk.{closedDesk, acting}
 use Rattle.lines.specs.Line.{answering}
 use Rattle.stream.specs.Stream.{streaming, lastLine}
@@ -39,6 +41,7 @@ answers =
     ∷ heardLine 12 (record { number = 5; place = 3 }) (100 ∷ 20 ∷ [])
     ∷ sampleLine (bothDone (pos 128) (negsuc 127))
     ∷ sampleLine (refusedAt 1)
+    ∷ missingLine
     ∷ []
 
 pub examples : answers
@@ -53,16 +56,19 @@ pub examples : answers
     ∷ bytes "12 2 5 place 3 : 100 20\n"
     ∷ bytes "128 -128\n"
     ∷ bytes "5 place 1\n"
+    ∷ bytes "missing\n"
     ∷ []
 unfolding decimal whole sentLine listLine reasonText saidText saidWholes heardLine sampleLine
 examples = refl
 
--- a comment, an empty line, both openings of a sender, a word, a list whose last word is none, and a last line that no newline follows and that lacks its CAP
+-- a comment, an empty line, both openings of a sender, a word, a list whose last word is none, a sample that is missing, marks for a receiver that
+-- is closed, a row that is none, and a last line that no newline follows and that lacks its CAP
 abbrev typed : List ℕ
-typed = bytes "# a comment\n\nsender 9\nsender 0\nsend 5 4\nlist 9 0 2 8\npending\nsample 3F800000 7f800000\nsend 5"
+typed = bytes "# a comment\n\nsender 9\nsender 0\nsend 5 4\nlist 9 0 2 8\npending\nsample 3F800000 7f800000\nsample missing\nmarked 4 31 0 0 0 0\nmarked 4 4\nsend 5"
 
 pub session : lastLine 65536 (streaming 65536 (record { desk = closedDesk; line = []; text = [] }) typed) .text
-    ≡ bytes "1\n0\n0 -1 -1 1 1\n2 4 : -1 -1 -1 1 -1 1 -1 1\n0\n5 place 1\n?\n"
-unfolding answering acting requestOf verbOf numberOf hexOf digitOf decimal whole sentLine listLine saidWholes sampleLine heardBits shut sound
-    opening sending sendingAll sendingList symbolOf after four firstPoint secondPoint lastLabel pointOf aPoint coordinates unpacked nextState secondLabel
+    ≡ bytes "1\n0\n0 -1 -1 1 1\n2 4 : -1 -1 -1 1 -1 1 -1 1\n0\n5 place 1\nmissing\n0 0 9\n?\n?\n"
+unfolding answering acting requestOf verbOf numberOf wholeOf hexOf digitOf rowOf isRow isMark decimal whole sentLine listLine saidWholes sampleLine
+    heardLine reasonText saidText hearing heardBits shut sound opening sending sendingAll sendingList symbolOf after four
+    firstPoint secondPoint lastLabel pointOf aPoint coordinates unpacked nextState secondLabel
 session = refl

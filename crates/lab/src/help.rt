@@ -34,8 +34,11 @@ fn verbs(to: i32) -> bool {
   receiver U WINDOW at S    the same from the state S, 0 to 15; a sender starts at 0
   piece CAP C C C C ..      hears coordinates, four to a symbol, -8192 to 8192, into an output of CAP words
                             Answer: TAKEN WRITTEN N, for a 5 ` place P`, and if words were written ` :` and the words
+  marked CAP MARKS C ..     the same with points that never came: MARKS has a digit for each symbol, 0 both points heard, 1 the first
+                            missing, 2 the second, 3 both, or is `-` for no symbol; at most 1024. Answer: as for a piece
   finish CAP                ends the line and writes the words that wait. Answer: as for a piece
   sample HEX HEX            a pair of floats by their bits, eight digits each. Answer: X Y, or `5 place P`
+  sample missing            a sample that never came. Answer: missing
   pending                   how many symbols wait undecided
   an empty line, or # ..    answers nothing
 
@@ -52,7 +55,7 @@ fn numbers(to: i32) -> bool {
   1 width above 8               7 4294967295 symbols were taken
   2 window not 1 to 64          8 the output is shorter than needed
   3 start above 15              9 closed: open it first
-  4 no word of this width      10 coordinates not in fours
+  4 no word of this width      10 coordinates not in fours, or other marks
   5 coordinate out of range     ? the line cannot be read, and changes nothing
 
 Numbers are decimal, CAP is at most 4096, and a line at most 65536 bytes.

@@ -14,11 +14,13 @@ fn main() {
     let mut page = [0u8; 131072];
     let mut coordinates = [0i32; 4096];
     let mut words = [0u32; 4096];
+    let mut marks = [0u8; 1024];
     stream::serve(
         &mut chunk,
         &mut line,
         &mut page,
         &mut coordinates,
         &mut words,
+        &mut marks,
     );
 }

@@ -1,14 +1,14 @@
--- Laws of a whole line: what the lists lent for coordinates and words held before makes no difference, so a gathered line is answered
--- as its bytes alone say.
-use Prim.Native.Nat.{ℕ, suc, zero, _+_, _≤_}
+-- Laws of a whole line: what the lists lent to it held before makes no difference, so a gathered line is answered as its bytes alone say.
+use Prim.Native.Nat.{ℕ, _≤_}
 use mathlib.Core.Path.{_≡_, refl, sym, ap, _∙_}
 use mathlib.Core.Bool.{Bool, true, false, cond}
-use mathlib.Core.List.{List, [], _∷_, _++_}
+use mathlib.Core.List.{List, [], _∷_}
+use mathlib.Core.Option.{Option, none, some}
 use native.Mathlib.Omega.{arith}
 use borrow.Author.Tests.{lt-ltb, le-ltb}
 use lib.Dec.{eqb, leb}
 use lib.IntN.{ℤ}
-use lib.ListN.{length, take, drop, length-take}
+use lib.ListN.{length, getD, take, drop, length-take}
 use lib.Seq.{take-at, take-all}
 use Rattle.text.specs.Bytes.{bytes}
 use Rattle.page.specs.Page.{Puts}
@@ -22,29 +22,33 @@ use Rattle.wholes.specs.declared.Many.{Many}
 use Rattle.wholes.specs.declared.Many.the-variants as many
 use Rattle.requests.specs.declared.Request.{Request}
 use Rattle.requests.specs.declared.Request.the-variants as request
-use Rattle.requests.specs.Verb.{just, both, one, two, anyNumber, capNumber, filledBy}
+use Rattle.requests.specs.Verb.{just, both, one, two, anyNumber, capNumber, atStart, filledBy, coordinateFills, markedFills, marksAfter, marksOf}
 use Rattle.requests.specs.Verb.{senderOf, finishOf, sendOf, sampleOf, startOf, windowOf, openOf, receiverOf, heardOf, pieceOf, sentOf, listOf}
-use Rattle.protocol.specs.Request.{senderVerb, receiverVerb, finishVerb, sampleVerb, sendVerb, pieceVerb, verbOf, pendingAlone}
-use Rattle.protocol.specs.Request.{lineOf, requestOf, pieceOnly, lineFills, wordFills, coordinatesOf, wordsOf, Reads}
+use Rattle.requests.specs.Verb.{markedBy, markedAfter, markedOf}
+use Rattle.protocol.specs.Request.{senderVerb, receiverVerb, finishVerb, sampleVerb, sendVerb, pieceVerb, listVerb, verbOf, pendingAlone}
+use Rattle.protocol.specs.Request.{lineOf, requestOf, pieceOnly, listCoordinates, listWords, lineFills, wordFills}
+use Rattle.protocol.specs.Request.{markFills as markFillsBy, coordinatesOf, wordsOf, marksIn, Reads}
+use Rattle.requests.specs.Named.{Named, named}
+use Rattle.marks.specs.Row.{countOf, rowOf, markFills}
 use Rattle.desk.specs.declared.Desk.{Desk}
-use Rattle.desk.specs.declared.Done.{Done}
+use Rattle.desk.specs.Room.{Long}
 use Rattle.lines.specs.declared.Lab.{Lab}
 use Rattle.lines.specs.declared.Part.{Part}
 use Rattle.answers.specs.Answer.{unreadLine}
-use Rattle.desk.specs.Desk.{Result, says, acting, Acts}
-use Rattle.lines.specs.Line.{Gathered, noPart, named, answering, Replies}
+use Rattle.desk.specs.Desk.{Result, says, acting}
+use Rattle.lines.specs.Line.{Gathered, noPart, written, namedIn, namedBy, answering, Replies}
 use Rattle.phrases.proofs.Phrases.{puts-as}
 
--- ---- coordinates and words
+-- ---- what a line names
 
 module _ (d : Desk) where
-  -- the coordinates and words make no difference
+  -- what the line names makes no difference
   abbrev Same : Request → Type 0
-  Same k = (cs cs' : List ℤ) (ws ws' : List ℕ) → acting d k cs ws ≡ acting d k cs' ws'
+  Same k = (l l' : Named) → acting d k l ≡ acting d k l'
 
   unread-same : Same request.Unread
   unfolding acting
-  unread-same cs cs' ws ws' = refl
+  unread-same l l' = refl
 
   just-same : (f : ℕ → Request) → ((n : ℕ) → Same (f n)) → (o : Number) → Same (just f o)
   just-same f h (number.Got n) = h n
@@ -69,72 +73,89 @@ module _ (d : Desk) where
 
   sender-same : (ts : List (List ℕ)) → Same (senderOf ts)
   unfolding acting
-  sender-same ts = one-same _ (λ u. just-same _ (λ n cs cs' ws ws'. refl) (anyNumber u)) ts
+  sender-same ts = one-same _ (λ u. just-same _ (λ n l l'. refl) (anyNumber u)) ts
 
   finish-same : (ts : List (List ℕ)) → Same (finishOf ts)
   unfolding acting
-  finish-same ts = one-same _ (λ c. just-same _ (λ n cs cs' ws ws'. refl) (capNumber c)) ts
+  finish-same ts = one-same _ (λ c. just-same _ (λ n l l'. refl) (capNumber c)) ts
 
   send-same : (ts : List (List ℕ)) → Same (sendOf ts)
   unfolding acting
-  send-same ts = two-same _ (λ w c. both-same _ (λ m n cs cs' ws ws'. refl) (anyNumber w) (capNumber c)) ts
+  send-same ts = two-same _ (λ w c. both-same _ (λ m n l l'. refl) (anyNumber w) (capNumber c)) ts
 
   sample-same : (ts : List (List ℕ)) → Same (sampleOf ts)
   unfolding acting
-  sample-same ts = two-same _ (λ x y. both-same _ (λ m n cs cs' ws ws'. refl) (hexOf x) (hexOf y)) ts
+  sample-same [] = unread-same
+  sample-same (m ∷ []) = cond-same (sameBytes m (bytes "missing")) _ _ (λ l l'. refl) unread-same
+  sample-same (x ∷ y ∷ ts) =
+      two-same (λ x y. both request.Sample (hexOf x) (hexOf y)) (λ x y. both-same request.Sample (λ m n l l'. refl) (hexOf x) (hexOf y)) (x ∷ y ∷ ts)
 
   start-same : (u w : ℕ) (ts : List (List ℕ)) → Same (startOf u w ts)
   unfolding acting
-  start-same u w [] = λ cs cs' ws ws'. refl
-  start-same u w (f ∷ []) = cond-same (sameBytes f (bytes "free")) _ _ (λ cs cs' ws ws'. refl) (λ cs cs' ws ws'. refl)
-  start-same u w (a ∷ s ∷ ts) = cond-same (sameBytes a (bytes "at")) _ _ (one-same _ (λ s. just-same _ (λ n cs cs' ws ws'. refl) (anyNumber s)) (s ∷ ts)) (λ cs cs' ws ws'. refl)
+  start-same u w [] = λ l l'. refl
+  start-same u w (f ∷ []) = cond-same (sameBytes f (bytes "free")) _ _ (λ l l'. refl) (λ l l'. refl)
+  start-same u w (a ∷ s ∷ ts) = cond-same (sameBytes a (bytes "at")) _ _ (one-same _ (λ s. just-same _ (λ n l l'. refl) (anyNumber s)) (s ∷ ts)) (λ l l'. refl)
 
   receiver-same : (ts : List (List ℕ)) → Same (receiverOf ts)
   unfolding acting
-  receiver-same [] = λ cs cs' ws ws'. refl
+  receiver-same [] = λ l l'. refl
   receiver-same (t ∷ ts) = by (anyNumber t) ts where
     window : (u : ℕ) (o : Number) (ts : List (List ℕ)) → Same (windowOf u o ts)
     window u (number.Got w) ts = start-same u w ts
-    window u number.Bad ts = λ cs cs' ws ws'. refl
+    window u number.Bad ts = λ l l'. refl
 
     by : (o : Number) (ts : List (List ℕ)) → Same (openOf o ts)
-    by number.Bad ts = λ cs cs' ws ws'. refl
-    by (number.Got u) [] = λ cs cs' ws ws'. refl
+    by number.Bad ts = λ l l'. refl
+    by (number.Got u) [] = λ l l'. refl
     by (number.Got u) (w ∷ ts) = window u (anyNumber w) ts
 
-  -- a piece
-  piece-named : (o : Number) (ts : List (List ℕ)) (list : List ℤ) (ws ws' : List ℕ)
-      → acting d (heardOf o (manyOf wholeIn (length list) ts)) (filledBy wholeIn o ts list) ws
-      ≡ acting d (heardOf o (manyOf wholeIn (length list) ts)) (firstOf wholeIn (length list) ts) ws'
-  unfolding acting
-  piece-named number.Bad ts list ws ws' = refl
-  piece-named (number.Got c) ts list ws ws' = by (manyOf wholeIn (length list) ts) refl where
-    fs : List ℤ
-    fs = firstOf wholeIn (length list) ts
+  -- the numbers at the start of a list are those that the tokens write
+  at-start : {A : Type 0} (p : List ℕ → Option A) (ts : List (List ℕ)) (list : List A) {n : ℕ} → manyOf p (length list) ts ≡ many.Got n
+      → take n (atStart (firstOf p (length list) ts) list) ≡ take n (firstOf p (length list) ts)
+  at-start p ts list {n} e =
+      let fs = firstOf p (length list) ts in
+      let long : length fs ≡ n = counted p (length list) ts e in
+      take-at fs (drop (length fs) list) n long ∙ sym (take-all n fs (omega arith))
 
-    by : (m : Many) → manyOf wholeIn (length list) ts ≡ m → acting d (heardOf (number.Got c) m) (fs ++ drop (length fs) list) ws ≡ acting d (heardOf (number.Got c) m) fs ws'
+  -- a piece
+  piece-named : (o : Number) (ts : List (List ℕ)) (list : List ℤ) (ws ws' ms ms' : List ℕ)
+      → let asked = heardOf o (manyOf wholeIn (length list) ts) in acting d asked (named (coordinateFills ts list) ws ms) ≡ acting d asked (named (firstOf wholeIn (length list) ts) ws' ms')
+  unfolding acting
+  piece-named number.Bad ts list ws ws' ms ms' = refl
+  piece-named (number.Got c) ts list ws ws' ms ms' = by (manyOf wholeIn (length list) ts) refl where
+    by : (m : Many) → manyOf wholeIn (length list) ts ≡ m
+        → acting d (heardOf (number.Got c) m) (named (coordinateFills ts list) ws ms) ≡ acting d (heardOf (number.Got c) m) (named (firstOf wholeIn (length list) ts) ws' ms')
     by many.Bad e = refl
-    by (many.Got n) e =
-        let long : length fs ≡ n = counted wholeIn (length list) ts e in
-        rw (take-at fs (drop (length fs) list) n long, take-all n fs (omega arith))
+    by (many.Got n) e = rw (at-start wholeIn ts list e)
+
+  -- a marked piece
+  marked-named : (o : Number) (row : Option (List ℕ)) (ts : List (List ℕ)) (list : List ℤ) (marks ws ws' : List ℕ)
+      → let asked = markedBy o (countOf row) (manyOf wholeIn (length list) ts) in
+      acting d asked (named (coordinateFills ts list) ws (markFills row marks)) ≡ acting d asked (named (firstOf wholeIn (length list) ts) ws' (written row))
+  unfolding acting
+  marked-named number.Bad row ts list marks ws ws' = refl
+  marked-named (number.Got c) none ts list marks ws ws' = refl
+  marked-named (number.Got c) (some ms) ts list marks ws ws' = by (manyOf wholeIn (length list) ts) refl where
+    by : (m : Many) → manyOf wholeIn (length list) ts ≡ m → let asked = markedBy (number.Got c) (many.Got (length ms)) m in
+        acting d asked (named (coordinateFills ts list) ws (markFills (some ms) marks)) ≡ acting d asked (named (firstOf wholeIn (length list) ts) ws' ms)
+    by many.Bad e = refl
+    by (many.Got n) e = rw (at-start wholeIn ts list e, take-at ms (drop (length ms) marks) (length ms) refl, take-all (length ms) ms (omega arith))
 
   -- a list
-  list-named : (o : Number) (ts : List (List ℕ)) (words : List ℕ) (cs cs' : List ℤ)
-      → acting d (sentOf o (manyOf numberIn (length words) ts)) cs (filledBy numberIn o ts words)
-      ≡ acting d (sentOf o (manyOf numberIn (length words) ts)) cs' (firstOf numberIn (length words) ts)
+  list-named : (o : Number) (ts : List (List ℕ)) (words : List ℕ) (cs cs' : List ℤ) (ms ms' : List ℕ)
+      → let asked = sentOf o (manyOf numberIn (length words) ts) in acting d asked (named cs (filledBy o ts words) ms) ≡ acting d asked (named cs' (firstOf numberIn (length words) ts) ms')
   unfolding acting
-  list-named number.Bad ts words cs cs' = refl
-  list-named (number.Got c) ts words cs cs' = by (manyOf numberIn (length words) ts) refl where
+  list-named number.Bad ts words cs cs' ms ms' = refl
+  list-named (number.Got c) ts words cs cs' ms ms' = by (manyOf numberIn (length words) ts) refl where
     fs : List ℕ
     fs = firstOf numberIn (length words) ts
 
-    by : (m : Many) → manyOf numberIn (length words) ts ≡ m → acting d (sentOf (number.Got c) m) cs (fs ++ drop (length fs) words) ≡ acting d (sentOf (number.Got c) m) cs' fs
+    by : (m : Many) → manyOf numberIn (length words) ts ≡ m
+        → acting d (sentOf (number.Got c) m) (named cs (atStart fs words) ms) ≡ acting d (sentOf (number.Got c) m) (named cs' fs ms')
     by many.Bad e = refl
     by (many.Got n) e = few (leb n 1024) where
-      few : (b : Bool) → acting d (cond b (request.List c n) request.Unread) cs (fs ++ drop (length fs) words) ≡ acting d (cond b (request.List c n) request.Unread) cs' fs
-      few true =
-          let long : length fs ≡ n = counted numberIn (length words) ts e in
-          rw (take-at fs (drop (length fs) words) n long, take-all n fs (omega arith))
+      few : (b : Bool) → acting d (cond b (request.List c n) request.Unread) (named cs (atStart fs words) ms) ≡ acting d (cond b (request.List c n) request.Unread) (named cs' fs ms')
+      few true = rw (at-start numberIn ts words e)
       few false = refl
 
   sender-verb : (v : List ℕ) (ts : List (List ℕ)) → Same (senderVerb v ts)
@@ -154,48 +175,82 @@ module _ (d : Desk) where
 
   pending-alone : (v : List ℕ) → Same (pendingAlone v)
   unfolding acting
-  pending-alone v = cond-same (sameBytes v (bytes "pending")) _ _ (λ cs cs' ws ws'. refl) unread-same
+  pending-alone v = cond-same (sameBytes v (bytes "pending")) _ _ (λ l l'. refl) unread-same
 
-  module _ (list : List ℤ) (words : List ℕ) where
+  module _ (l : Named) where
     abbrev room : ℕ
-    room = length list
+    room = length (l .coordinates)
 
     abbrev many-words : ℕ
-    many-words = length words
+    many-words = length (l .words)
+
+    abbrev most : ℕ
+    most = length (l .marks)
 
     -- a verb after `list`
-    other-named : (v t : List ℕ) (ts : List (List ℕ)) (ws ws' : List ℕ)
-        → acting d (pieceVerb room v (t ∷ ts)) (pieceOnly v (t ∷ ts) list) ws ≡ acting d (pieceVerb room v (t ∷ ts)) (firstOf wholeIn room ts) ws'
-    other-named v t ts ws ws' = by (sameBytes v (bytes "piece")) where
+    other-named : (v t : List ℕ) (ts : List (List ℕ)) (ws ws' ms ms' : List ℕ)
+        → let asked = pieceVerb room v (t ∷ ts) in acting d asked (named (pieceOnly v (t ∷ ts) (l .coordinates)) ws ms) ≡ acting d asked (named (firstOf wholeIn room ts) ws' ms')
+    other-named v t ts ws ws' ms ms' = by (sameBytes v (bytes "piece")) where
       by : (b : Bool) → let asked = cond b (pieceOf room (t ∷ ts)) (sendVerb v (t ∷ ts)) in
-          acting d asked (cond b (filledBy wholeIn (capNumber t) ts list) list) ws ≡ acting d asked (firstOf wholeIn room ts) ws'
-      by true = piece-named (capNumber t) ts list ws ws'
-      by false = send-verb v (t ∷ ts) _ _ _ _
+          acting d asked (named (cond b (coordinateFills ts (l .coordinates)) (l .coordinates)) ws ms) ≡ acting d asked (named (firstOf wholeIn room ts) ws' ms')
+      by true = piece-named (capNumber t) ts (l .coordinates) ws ws' ms ms'
+      by false = send-verb v (t ∷ ts) _ _
 
-    line-named : (ts : List (List ℕ)) → let asked = lineOf room many-words ts in
-        acting d asked (lineFills ts list) (wordFills ts words) ≡ acting d asked (firstOf wholeIn room (drop 2 ts)) (firstOf numberIn many-words (drop 2 ts))
-    unfolding acting verbOf
-    line-named [] = refl
-    line-named (v ∷ []) = pending-alone v _ _ _ _
-    line-named (v ∷ t ∷ ts) = by (sameBytes v (bytes "list")) where
+    -- a verb after `marked`
+    later-named : (v t : List ℕ) (ts : List (List ℕ)) (ms ms' : List ℕ) → let asked = listVerb room many-words v (t ∷ ts) in
+        acting d asked (named (listCoordinates v (t ∷ ts) (l .coordinates)) (listWords v (t ∷ ts) (l .words)) ms)
+        ≡ acting d asked (named (firstOf wholeIn room ts) (firstOf numberIn many-words ts) ms')
+    later-named v t ts ms ms' = by (sameBytes v (bytes "list")) where
       by : (b : Bool) → let asked = cond b (listOf many-words (t ∷ ts)) (pieceVerb room v (t ∷ ts)) in
-          acting d asked (cond b list (pieceOnly v (t ∷ ts) list)) (cond b (filledBy numberIn (capNumber t) ts words) words)
-          ≡ acting d asked (firstOf wholeIn room ts) (firstOf numberIn many-words ts)
-      by true = list-named (capNumber t) ts words _ _
-      by false = other-named v t ts _ _
+          acting d asked (named (cond b (l .coordinates) (pieceOnly v (t ∷ ts) (l .coordinates))) (cond b (filledBy (capNumber t) ts (l .words)) (l .words)) ms)
+          ≡ acting d asked (named (firstOf wholeIn room ts) (firstOf numberIn many-words ts) ms')
+      by true = list-named (capNumber t) ts (l .words) _ _ ms ms'
+      by false = other-named v t ts _ _ ms ms'
 
-    pub read-named : (s : List ℕ) → room ≡ 4096 → many-words ≡ 4096
-        → acting d (requestOf room many-words s) (coordinatesOf s list) (wordsOf s words) ≡ acting d (requestOf 4096 4096 s) (named wholeIn s) (named numberIn s)
-    unfolding acting requestOf coordinatesOf wordsOf
-    read-named [] h k = refl
-    read-named (b ∷ s) h k = by (eqb b 35) where
+    -- a marked piece, by the tokens after its cap
+    after-cap : (t : List ℕ) (ts : List (List ℕ)) (ws ws' : List ℕ) → let asked = markedAfter room most (capNumber t) ts in
+        acting d asked (named (coordinateFills (drop 1 ts) (l .coordinates)) ws (marksAfter ts (l .marks)))
+        ≡ acting d asked (named (firstOf wholeIn room (drop 1 ts)) ws' (written (rowOf most (getD ts 0 []))))
+    after-cap t [] ws ws' = unread-same _ _
+    after-cap t (r ∷ ts) ws ws' = marked-named (capNumber t) (rowOf most r) ts (l .coordinates) (l .marks) ws ws'
+
+    line-named : (ts : List (List ℕ)) → acting d (lineOf room many-words most ts) (named (lineFills ts (l .coordinates)) (wordFills ts (l .words)) (markFillsBy ts (l .marks)))
+        ≡ acting d (lineOf room many-words most ts) (namedIn room many-words most ts)
+    unfolding verbOf
+    line-named [] = unread-same _ _
+    line-named (v ∷ []) = pending-alone v _ _
+    line-named (v ∷ t ∷ ts) = by (sameBytes v (bytes "marked")) where
+      rest : List (List ℕ)
+      rest = t ∷ ts
+
+      by : (b : Bool) → let asked = cond b (markedOf room most rest) (listVerb room many-words v rest) in
+          acting d asked (named (cond b (markedFills rest (l .coordinates)) (listCoordinates v rest (l .coordinates)))
+          (cond b (l .words) (listWords v rest (l .words))) (cond b (marksOf rest (l .marks)) (l .marks)))
+          ≡ acting d asked (named (firstOf wholeIn room (drop (cond b 3 2) (v ∷ rest))) (firstOf numberIn many-words ts) (written (rowOf most (getD ts 0 []))))
+      by true = after-cap t ts _ _
+      by false = later-named v t ts _ _
+
+    -- what a line of which s are the bytes does with lists that held l
+    abbrev filled : List ℕ → Named
+    filled s = named (coordinatesOf s (l .coordinates)) (wordsOf s (l .words)) (marksIn s (l .marks))
+
+    by-lists : (s : List ℕ) → acting d (requestOf room many-words most s) (filled s) ≡ acting d (requestOf room many-words most s) (namedIn room many-words most (tokens s))
+    unfolding acting requestOf coordinatesOf wordsOf marksIn
+    by-lists [] = refl
+    by-lists (b ∷ s) = by (eqb b 35) where
       ts : List (List ℕ)
       ts = tokens (b ∷ s)
 
-      by : (t : Bool) → acting d (cond t request.Nothing (lineOf room many-words ts)) (cond t list (lineFills ts list)) (cond t words (wordFills ts words))
-          ≡ acting d (cond t request.Nothing (lineOf 4096 4096 ts)) (firstOf wholeIn 4096 (drop 2 ts)) (firstOf numberIn 4096 (drop 2 ts))
+      by : (t : Bool) → let asked = cond t request.Nothing (lineOf room many-words most ts) in
+          acting d asked (named (cond t (l .coordinates) (lineFills ts (l .coordinates))) (cond t (l .words) (wordFills ts (l .words))) (cond t (l .marks) (markFillsBy ts (l .marks))))
+          ≡ acting d asked (namedIn room many-words most ts)
       by true = refl
-      by false = line-named ts ∙ (λ i. acting d (lineOf (h i) (k i) ts) (firstOf wholeIn (h i) (drop 2 ts)) (firstOf numberIn (k i) (drop 2 ts)))
+      by false = line-named ts
+
+    pub read-named : (s : List ℕ) → Long l → acting d (requestOf room many-words most s) (filled s) ≡ acting d (requestOf 4096 4096 1024 s) (namedBy s)
+    read-named s h =
+        by-lists s
+        ∙ (λ i. acting d (requestOf (h .coordinates-long i) (h .words-long i) (h .marks-long i) s) (namedIn (h .coordinates-long i) (h .words-long i) (h .marks-long i) (tokens s)))
 
 -- ---- a gathered line
 
@@ -204,22 +259,14 @@ module _ {line : List ℕ} {part : Part} {s : List ℕ} (g : Gathered line part 
   unfolding answering
   long-answered e = sym (rw (lt-ltb (length line) (length s) (g .too-long e)))
 
-  pub line-answered : {list list' : List ℤ} {words words' : List ℕ} {asked : Request} → part .long ≡ false → length list ≡ 4096 → length words ≡ 4096
-      → Reads (take (part .held) line) list words asked list' words'
-      → acting d asked list' words' ≡ answering (length line) d s
+  pub line-answered : {l l' : Named} {asked : Request} → part .long ≡ false → Long l → Reads (take (part .held) line) l asked l'
+      → acting d asked l' ≡ answering (length line) d s
   unfolding answering
-  line-answered {list} {list'} {words} {words'} f h k r =
+  line-answered {l} {l'} f h r =
       let few : length s ≤ length line = omega (arith, ap length (g .kept f), length-take (part .held) line) in
-      (λ i. acting d (r .is i) (r .fills i) (r .puts i))
-      ∙ rw (g .kept f, le-ltb (length line) (length s) few) (read-named d list words s h k)
+      (λ i. acting d (r .is i) (named (r .fills i) (r .puts i) (r .marks i)))
+      ∙ rw (g .kept f, le-ltb (length line) (length s) few) (read-named d l s h)
 
 pub replied : {g g' : Result} {lab : Lab} {page : List ℕ} {r : Lab} {page' : List ℕ} → r .desk ≡ g .desk → Puts page (lab .at) (g .text) (r .at) page' → g ≡ g'
     → r .part ≡ noPart → r .on ≡ lab .on → Replies g' lab page r page'
 replied d p e f o = record { desk = d ∙ ap (λ (x : Result). x .desk) e; puts = puts-as (ap (λ (x : Result). x .text) e) p; part = f; on = o }
-
--- a line that was read and done is answered
-pub line-replied : {lab : Lab} {line s : List ℕ} (g : Gathered line (lab .part) s) {list list' : List ℤ} {words words' page page' : List ℕ} {asked : Request} {done : Done} {none : Part}
-    → lab .part .long ≡ false → length list ≡ 4096 → length words ≡ 4096 → Reads (take (lab .part .held) line) list words asked list' words'
-    → Acts (lab .desk) asked list' words' page (lab .at) done page' → none ≡ noPart
-    → Replies (answering (length line) (lab .desk) s) lab page (record { desk = done .desk; part = none; at = done .at; on = lab .on }) page'
-line-replied {lab} g f h k r a e = replied (a .desk) (a .puts) (line-answered g (lab .desk) f h k r) e refl

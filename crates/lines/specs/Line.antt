@@ -2,20 +2,24 @@
 --   Gathered line part s   the buffer `line` and the record `part` stand for the bytes s since the last newline: all of them at the
 --                          start of the buffer, or only that they are too many
 --   noPart                 no bytes so far
---   named p s              the numbers that a line names: those after its verb and its cap, as p reads them
+--   after s                how many tokens stand before the numbers that a line names: its verb and its cap, and the marks of a marked piece
+--   namedBy s              what a line names: its coordinates, its words, and the marks
 --   answering most d s     what the line s does to the desk d: "A line has at most 65,536 bytes before its newline; a longer one answers
 --                          `?` once (a comment too)"; most is as many as the buffer has
 --   Replies g ..           what was done is g: its desk, and its text put into the page; no bytes of the next line are there yet
 use Prim.Native.Nat.{ℕ, _<_}
 use mathlib.Core.Path.{_≡_}
 use mathlib.Core.Bool.{true, false, cond}
-use mathlib.Core.List.{List}
+use mathlib.Core.List.{List, [], _∷_}
 use lib.Dec.{ltb}
-use mathlib.Core.Option.{Option}
-use lib.ListN.{length, take, drop}
-use Rattle.text.specs.Token.{tokens}
+use mathlib.Core.Option.{Option, none, some}
+use lib.ListN.{length, getD, take, drop}
+use Rattle.text.specs.Bytes.{bytes}
+use Rattle.text.specs.Token.{tokens, sameBytes}
 use Rattle.wholes.specs.Many.{wholeIn, numberIn, firstOf}
+use Rattle.marks.specs.Row.{rowOf}
 use Rattle.page.specs.Page.{Puts}
+use Rattle.requests.specs.Named.{Named, named}
 use Rattle.protocol.specs.Request.{requestOf}
 use Rattle.desk.specs.declared.Desk.{Desk}
 use Rattle.lines.specs.declared.Lab.{Lab}
@@ -30,11 +34,23 @@ pub record Gathered (line : List ℕ) (part : Part) (s : List ℕ) : Type 0 wher
 abbrev pub noPart : Part
 noPart = record { held = 0; long = false }
 
-abbrev pub named : {A : Type 0} → (List ℕ → Option A) → List ℕ → List A
-named p s = firstOf p 4096 (drop 2 (tokens s))
+abbrev pub after : List (List ℕ) → ℕ
+after [] = 2
+after (v ∷ ts) = cond (sameBytes v (bytes "marked")) 3 2
+
+abbrev pub written : Option (List ℕ) → List ℕ
+written (some ms) = ms
+written none = []
+
+-- with room for so many of each
+abbrev pub namedIn : ℕ → ℕ → ℕ → List (List ℕ) → Named
+namedIn room many most ts = named (firstOf wholeIn room (drop (after ts) ts)) (firstOf numberIn many (drop 2 ts)) (written (rowOf most (getD ts 2 [])))
+
+abbrev pub namedBy : List ℕ → Named
+namedBy s = namedIn 4096 4096 1024 (tokens s)
 
 unfoldable pub answering : ℕ → Desk → List ℕ → Result
-answering most d s = cond (ltb most (length s)) (says d unreadLine) (acting d (requestOf 4096 4096 s) (named wholeIn s) (named numberIn s))
+answering most d s = cond (ltb most (length s)) (says d unreadLine) (acting d (requestOf 4096 4096 1024 s) (namedBy s))
 
 pub record Replies (g : Result) (lab : Lab) (page : List ℕ) (r : Lab) (page' : List ℕ) : Type 0 where
   pub desk : r .desk ≡ g .desk

@@ -6,6 +6,7 @@ ghost use mathlib.Core.List.{List, _++_};
 ghost use Prim.Native.Nat.{ℕ, _+_, _≤_};
 ghost use lib.ListN.{length};
 ghost use Rattle.answers.specs.Answer.{answerRoom};
+ghost use Rattle.requests.specs.Named.{named};
 ghost use Rattle.desk.specs.Room.{Lent};
 ghost use Rattle.lines.specs.Line.{Gathered, noPart, answering, Replies};
 
@@ -61,8 +62,9 @@ pub fn reply(
     page: &mut [u8],
     coordinates: &mut [i32],
     words: &mut [u32],
+    marks: &mut [u8],
 ) -> Lab
-    requires { ⌜ Lent (now page) (now coordinates) (now words) ⌝ }
+    requires { ⌜ Lent (now page) (named (now coordinates) (now words) (now marks)) ⌝ }
     requires { ⌜ (lab .at ≤ 32768) × (lab .part .held ≤ length (now line)) ⌝ }
     ensures { λ r. ⌜ (r .at ≤ lab .at + answerRoom) × (r .part .held ≡ 0) ⌝ }
     ensures { λ r. ⌜ ((s : List ℕ) → Gathered (now (line .entry)) (lab .part) s → Replies (answering (length (now (line .entry))) (lab .desk) s) lab (now (page .entry)) r (now (page .exit))) ⌝ }
@@ -80,8 +82,8 @@ pub fn reply(
         };
     }
     let held = part.held;
-    let asked = protocol::read(&line[..held], coordinates, words);
-    let done = desk::act(desk, asked, page, at, coordinates, words);
+    let asked = protocol::read(&line[..held], coordinates, words, marks);
+    let done = desk::act(desk, asked, page, at, coordinates, words, marks);
     let next = done.desk;
     Lab {
         desk: next,

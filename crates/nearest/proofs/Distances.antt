@@ -14,23 +14,23 @@ use mir.Val.{Fits}
 use Rattle.points.specs.declared.Point.{Point}
 use Rattle.points.specs.Turn.{turned, Small}
 use Rattle.points.proofs.Signed.{natAbs-neg}
-use Rattle.nearest.specs.declared.Received.{Received}
-use Rattle.nearest.specs.Line.{InRange, difference, square, distance}
+use Rattle.nearest.specs.declared.Spot.{Spot}
+use Rattle.nearest.specs.Line.{SpotInRange, difference, square, distance}
 use Rattle.nearest.specs.Key.{turnedBack}
 use Rattle.nearest.proofs.Ints.{square-le, square-rest, spread}
 
-pub distance-below : (h : Received) (p : Point) → InRange h → Small p → distance h p < 2 ^ 29
+pub distance-below : (h : Spot) (p : Point) → SpotInRange h → Small p → distance h p < 2 ^ 29
 unfolding distance
 distance-below h p a b = omega (arith, square-le (h .x) (p .x) (a .x-in) (b .x-small), square-le (h .y) (p .y) (a .y-in) (b .y-small))
 
-rest : (h : Received) (p : Point) → distance h p % 256 ≡ (square (h .x) + square (h .y)) % 256
+rest : (h : Spot) (p : Point) → distance h p % 256 ≡ (square (h .x) + square (h .y)) % 256
 unfolding distance
 rest h p = omega (arith, square-rest (natAbs (p .x)) (spread (h .x) (p .x)), square-rest (natAbs (p .y)) (spread (h .y) (p .y)))
 
-pub same-rest : (h : Received) (p q : Point) → distance h p % 256 ≡ distance h q % 256
+pub same-rest : (h : Spot) (p q : Point) → distance h p % 256 ≡ distance h q % 256
 same-rest h p q = rest h p ∙ sym (rest h q)
 
-pub back-in-range : (h : Received) → InRange h → InRange (turnedBack h)
+pub back-in-range : (h : Spot) → SpotInRange h → SpotInRange (turnedBack h)
 unfolding turnedBack
 back-in-range h a = record { x-in = omega (arith, natAbs-neg (h .y), a .y-in); y-in = a .x-in }
 
@@ -47,10 +47,10 @@ negated r c =
     ∙ natAbs-neg (r +ℤ pos 128 *ℤ c)
     ∙ ap (λ (z : ℤ). natAbs (r +ℤ z)) (sym (negℤ-negℤ (pos 128 *ℤ c)) ∙ ap negℤ (sym (scaled-neg c)))
 
-pub back : (h : Received) (p : Point) → distance h (turned p) ≡ distance (turnedBack h) p
+pub back : (h : Spot) (p : Point) → distance h (turned p) ≡ distance (turnedBack h) p
 unfolding distance turnedBack
 back h p = omega (arith, ap (λ (n : ℕ). n * n) (negated (h .y) (p .x)))
 
 -- a distance and a number below 256 fit 32 bits
-pub key-fits : (h : Received) (p : Point) (d w : ℕ) → InRange h → Small p → d ≡ distance h p → w < 256 → Fits w32 (d + w)
+pub key-fits : (h : Spot) (p : Point) (d w : ℕ) → SpotInRange h → Small p → d ≡ distance h p → w < 256 → Fits w32 (d + w)
 key-fits h p d w a b e g = record { fits = omega (arith, distance-below h p a b) }

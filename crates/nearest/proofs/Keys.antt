@@ -16,7 +16,8 @@ use Rattle.points.specs.Points.{aPoint}
 use Rattle.points.specs.Turn.{turned, pointOf}
 use Rattle.trellis.specs.Measure.{cap, counted}
 use Rattle.trellis.specs.Pick.{keepN, least, near, gapOf}
-use Rattle.nearest.specs.declared.Received.{Received}
+use Rattle.nearest.specs.declared.Spot.{Spot}
+use Rattle.nearest.specs.declared.Received.the-variants.{Heard}
 use Rattle.nearest.specs.Line.{distance, lineDistance}
 use Rattle.nearest.specs.Key.{turnedBack, lesserOf, lesserKeys, keyOf, keysOf, keysFrom, leastKeys, candidateOf}
 use Rattle.nearest.proofs.Distances.{same-rest, back}
@@ -58,57 +59,58 @@ module _ (f : ℕ → ℕ) (same : (v w : ℕ) → f v % 256 ≡ f w % 256) wher
       ∙ kept f v (suc m) (ltb (f (suc m)) (f v))
 
 -- the distances of a received point from the points of a label
-line-rest : (h : Received) (l v w : ℕ) → lineDistance h l v % 256 ≡ lineDistance h l w % 256
+line-rest : (h : Spot) (l v w : ℕ) → lineDistance (Heard h) l v % 256 ≡ lineDistance (Heard h) l w % 256
 unfolding lineDistance
 line-rest h l v w = same-rest h (pointOf l v) (pointOf l w)
 
 -- the keys of a turned point, by the received point turned back
-pub turned-keys : (h h1 h2 h3 : Received) (p : Point) (w a c b d : ℕ)
+pub turned-keys : (h h1 h2 h3 : Spot) (p : Point) (w a c b d : ℕ)
     → h1 ≡ turnedBack h → h2 ≡ turnedBack h1 → h3 ≡ turnedBack h2 → a ≡ distance h p → c ≡ distance h1 p → b ≡ distance h2 p → d ≡ distance h3 p
     → record { a = a + w; c = c + w; b = b + w; d = d + w } ≡ keysFrom h p w
 unfolding keysFrom
 turned-keys h h1 h2 h3 p w a c b d e1 e2 e3 f0 f1 f2 f3 =
     cc (back h p, back h (turned p), back h1 p, back h (turned (turned p)), back h1 (turned p), back h2 p)
 
-pub first-keys : (h : Received) → keysFrom h (aPoint 0) 0 ≡ leastKeys h 0
+pub first-keys : (h : Spot) → keysFrom h (aPoint 0) 0 ≡ leastKeys h 0
 unfolding keysFrom leastKeys lineDistance pointOf least
 first-keys h = refl
 
-pub next-keys : (h : Received) (k : ℕ) → k < 256 → lesserKeys (leastKeys h k) (keysFrom h (aPoint k) k) ≡ leastKeys h (k + 1)
+pub next-keys : (h : Spot) (k : ℕ) → k < 256 → lesserKeys (leastKeys h k) (keysFrom h (aPoint k) k) ≡ leastKeys h (k + 1)
 unfolding lesserKeys leastKeys keysFrom lineDistance pointOf
 next-keys h k g =
     let here : k + 1 - 1 ≡ k = omega arith in
     cc (step 0, step 1, step 2, step 3)
   where
-    step : (l : ℕ) → lesserOf (keyOf (lineDistance h l) (least (lineDistance h l) (k - 1))) (keyOf (lineDistance h l) k) ≡ keyOf (lineDistance h l) (least (lineDistance h l) k)
-    step l = key-step (lineDistance h l) (line-rest h l) k g
+    step : (l : ℕ) → lesserOf (keyOf (lineDistance (Heard h) l) (least (lineDistance (Heard h) l) (k - 1))) (keyOf (lineDistance (Heard h) l) k) ≡ keyOf
+        (lineDistance (Heard h) l) (least (lineDistance (Heard h) l) k)
+    step l = key-step (lineDistance (Heard h) l) (line-rest h l) k g
 
-abbrev pub nearKey : ℕ → Received → ℕ → ℕ
-nearKey u h l = gapOf u lineDistance h l + near u lineDistance h l
+abbrev pub nearKey : ℕ → Spot → ℕ → ℕ
+nearKey u h l = gapOf u lineDistance (Heard h) l + near u lineDistance (Heard h) l
 
-pub keys-near : (u : ℕ) (h : Received) → leastKeys h (2 ^ u) ≡ keysOf (nearKey u h)
+pub keys-near : (u : ℕ) (h : Spot) → leastKeys h (2 ^ u) ≡ keysOf (nearKey u h)
 unfolding leastKeys near gapOf
 keys-near u h = refl
 
 -- number and distance, read off a key
-module _ (u : ℕ) (h : Received) (g : u ≤ 8) (l : ℕ) where
-  gap-rest : gapOf u lineDistance h l % 256 ≡ distance h (aPoint 0) % 256
+module _ (u : ℕ) (h : Spot) (g : u ≤ 8) (l : ℕ) where
+  gap-rest : gapOf u lineDistance (Heard h) l % 256 ≡ distance h (aPoint 0) % 256
   unfolding gapOf lineDistance
-  gap-rest = same-rest h (pointOf l (near u lineDistance h l)) (aPoint 0)
+  gap-rest = same-rest h (pointOf l (near u lineDistance (Heard h) l)) (aPoint 0)
 
   -- a key of the nearest number, and a distance that leaves the remainder
   module _ (key first : ℕ) (e : key ≡ nearKey u h l) (f : first ≡ distance h (aPoint 0)) where
-    same : gapOf u lineDistance h l % 256 ≡ first % 256
+    same : gapOf u lineDistance (Heard h) l % 256 ≡ first % 256
     same = gap-rest ∙ ap (λ (n : ℕ). n % 256) (sym f)
 
     pub rest-le : first % 256 ≤ key
     rest-le = omega (arith, same)
 
-    number-is : (key - first % 256) % 256 ≡ near u lineDistance h l
-    number-is = omega (arith, same, near-listed u lineDistance h l g)
+    number-is : (key - first % 256) % 256 ≡ near u lineDistance (Heard h) l
+    number-is = omega (arith, same, near-listed u lineDistance (Heard h) l g)
 
-    pub read : candidateOf key (first % 256) ≡ record { w = near u lineDistance h l; d = gapOf u lineDistance h l; counted = counted (gapOf u lineDistance h l) }
+    pub read : candidateOf key (first % 256) ≡ record { w = near u lineDistance (Heard h) l; d = gapOf u lineDistance (Heard h) l; counted = counted (gapOf u lineDistance (Heard h) l) }
     read =
-        let e : key - (key - first % 256) % 256 ≡ gapOf u lineDistance h l = omega (arith, number-is) in
-        let f : lesserOf (key - (key - first % 256) % 256) cap ≡ counted (gapOf u lineDistance h l) = ap (λ (n : ℕ). lesserOf n cap) e ∙ lesser-capped (gapOf u lineDistance h l) in
+        let e : key - (key - first % 256) % 256 ≡ gapOf u lineDistance (Heard h) l = omega (arith, number-is) in
+        let f : lesserOf (key - (key - first % 256) % 256) cap ≡ counted (gapOf u lineDistance (Heard h) l) = ap (λ (n : ℕ). lesserOf n cap) e ∙ lesser-capped (gapOf u lineDistance (Heard h) l) in
         λ i. record { w = number-is i; d = e i; counted = f i }

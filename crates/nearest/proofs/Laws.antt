@@ -27,6 +27,7 @@ use Rattle.trellis.specs.Pick.{keepN, least, near, gapOf, typeSum, bestI3, best
 use Rattle.trellis.proofs.Pairs.{pairs-chooses}
 use Rattle.trellis.proofs.Counted.{counted-rises, counted-most, most}
 use Rattle.nearest.specs.declared.Received.{Received}
+use Rattle.nearest.specs.declared.Received.the-variants.{Heard, Missing}
 use Rattle.nearest.specs.Line.{InRange, BothInRange, lineDistance, lineMeasure, lineChoice}
 use Rattle.nearest.specs.Found.{nearestOf, costOf, weighedOf, pickedFrom}
 use Rattle.nearest.proofs.Distances.{distance-below}
@@ -61,7 +62,8 @@ module _ {P : Type 0} (u : ℕ) (d : P → ℕ → ℕ → ℕ) where
 
 line-below : (h : Received) (l w : ℕ) → InRange h → w < 256 → lineDistance h l w < 2 ^ 29
 unfolding lineDistance
-line-below h l w a b = distance-below h (pointOf l w) a (small-point l w b)
+line-below (Heard s) l w a b = distance-below s (pointOf l w) a (small-point l w b)
+line-below Missing l w a b = omega arith
 
 -- "The squared distance of a 4D point from a received symbol stays below 2^30"
 pub far-below : (k : Accord) (y : Two Received) → isAccord k ≡ true → BothInRange y → (c : Symbol) → Valid (k .u) c → firstFar Received lineDistance y c + secondFar Received lineDistance y c < 2 ^ 30

@@ -1,5 +1,6 @@
 -- for callers
 pub mod Laws
+pub mod Missing
 -- for the functions of this crate
 pub mod Ints
 pub mod Distances

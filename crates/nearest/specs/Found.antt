@@ -4,6 +4,7 @@
 --   heardAs g h       the received symbol of two received points
 --   chartOf k         what a search on a line of the accord k needs
 --   nearestOf k h     for each label the nearest number below 2^u, its true distance and what that counts for
+--   nearestTo k s     the same of a point that was heard at the spot s
 --   costOf k y        what the best symbol of a subset counts for
 --   weighedOf k y     for each subset that cost and the chosen I3'; for each label the nearest numbers
 --   pickedFrom        the symbol of a subset, read off the rows of I3' and of the numbers
@@ -19,7 +20,9 @@ use Rattle.wei.specs.Symbol.{Symbol}
 use Rattle.trellis.specs.Measure.{Two, counted}
 use Rattle.trellis.specs.Pick.{near, gapOf, typeSum, bestI3}
 use Rattle.types.specs.Types.{eight}
+use Rattle.nearest.specs.declared.Spot.{Spot}
 use Rattle.nearest.specs.declared.Received.{Received}
+use Rattle.nearest.specs.declared.Received.the-variants.{Heard}
 use Rattle.nearest.specs.declared.Nearest.{Nearest}
 use Rattle.nearest.specs.declared.Weighed.{Weighed}
 use Rattle.nearest.specs.Line.{lineDistance}
@@ -41,6 +44,9 @@ nearestOf k h =
       d = four (gapOf (k .u) lineDistance h);
       counted = four (λ l. counted (gapOf (k .u) lineDistance h l));
     }
+
+abbrev pub nearestTo : Accord → Spot → Nearest
+nearestTo k s = nearestOf k (Heard s)
 
 unfoldable pub costOf : Accord → Two Received → ℕ → ℕ → ℕ → ℕ
 costOf k y y0 i1 i2 = typeSum (k .u) lineDistance counted y y0 i1 i2 (bestI3 (k .u) lineDistance counted y y0 i1 i2)

@@ -14,18 +14,19 @@ use Rattle.points.specs.declared.Point.{Point}
 use Rattle.points.specs.Turn.{turns}
 use Rattle.trellis.specs.Measure.{cap}
 use Rattle.trellis.specs.Pick.{keepN, least}
-use Rattle.nearest.specs.declared.Received.{Received}
+use Rattle.nearest.specs.declared.Spot.{Spot}
+use Rattle.nearest.specs.declared.Received.the-variants.{Heard}
 use Rattle.nearest.specs.declared.key.Keys.{Keys}
 use Rattle.nearest.specs.declared.key.Candidate.{Candidate}
 use Rattle.nearest.specs.Line.{distance, lineDistance}
 
-unfoldable pub turnedBack : Received → Received
+unfoldable pub turnedBack : Spot → Spot
 turnedBack h = record { x = negℤ (h .y); y = h .x }
 
 abbrev pub keysOf : (ℕ → ℕ) → Keys
 keysOf f = record { a = f 0; c = f 1; b = f 2; d = f 3 }
 
-unfoldable pub keysFrom : Received → Point → ℕ → Keys
+unfoldable pub keysFrom : Spot → Point → ℕ → Keys
 keysFrom h p w = keysOf (λ l. distance h (turns l p) + w)
 
 abbrev pub lesserOf : ℕ → ℕ → ℕ
@@ -37,8 +38,8 @@ lesserKeys x y = record { a = lesserOf (x .a) (y .a); c = lesserOf (x .c) (y .c)
 abbrev pub keyOf : (ℕ → ℕ) → ℕ → ℕ
 keyOf f w = f w + w
 
-unfoldable pub leastKeys : Received → ℕ → Keys
-leastKeys h n = keysOf (λ l. keyOf (lineDistance h l) (least (lineDistance h l) (n - 1)))
+unfoldable pub leastKeys : Spot → ℕ → Keys
+leastKeys h n = keysOf (λ l. keyOf (lineDistance (Heard h) l) (least (lineDistance (Heard h) l) (n - 1)))
 
 abbrev pub candidateOf : ℕ → ℕ → Candidate
 candidateOf key rest = let d = key - (key - rest) % 256 in record { w = (key - rest) % 256; d = d; counted = lesserOf d cap }

@@ -5,14 +5,14 @@
 // distances in the order of the numbers: the least key is the nearest point with the tie rule in it, found by one comparison,
 // and distance and number can be read off it.
 use crate::CAP;
-use crate::Received;
+use crate::Spot;
 use crate::line;
 use points::Point;
 ghost use mathlib.Core.Path.{_≡_};
 ghost use Prim.Native.Nat.{_≤_, _<_};
 ghost use Rattle.points.specs.Points.{coordinates};
 ghost use Rattle.points.specs.Turn.{Small};
-ghost use Rattle.nearest.specs.Line.{InRange};
+ghost use Rattle.nearest.specs.Line.{SpotInRange};
 ghost use Rattle.nearest.specs.Key.{keysFrom, lesserOf, lesserKeys, leastKeys, candidateOf};
 
 // A key of each label: A, C, B and D are 0, 1, 2 and 3.
@@ -32,8 +32,8 @@ pub struct Candidate {
 
 // The keys of the points that p becomes by no, one, two and three turns, with the number w. The received point is turned
 // back instead.
-fn keys_from(h: Received, p: Point, w: u32) -> Keys
-    requires { ⌜ InRange h × Small p × (w < 256) ⌝ }
+fn keys_from(h: Spot, p: Point, w: u32) -> Keys
+    requires { ⌜ SpotInRange h × Small p × (w < 256) ⌝ }
     ensures { λ r. ⌜ r ≡ keysFrom h p w ⌝ }
 {
     let h1 = line::turned_back(h);
@@ -66,8 +66,8 @@ fn lesser_keys(x: Keys, y: Keys) -> Keys
 
 // The least keys of the numbers below n. The search begins with number 0 and meets it again, so that the loop runs over all
 // n numbers, a power of two, and the machine takes several at once.
-pub fn least_keys(t: &[i8; 512], h: Received, n: usize) -> Keys
-    requires { ⌜ (now t ≡ coordinates) × InRange h × (n ≤ 256) ⌝ }
+pub fn least_keys(t: &[i8; 512], h: Spot, n: usize) -> Keys
+    requires { ⌜ (now t ≡ coordinates) × SpotInRange h × (n ≤ 256) ⌝ }
     ensures { λ r. ⌜ r ≡ leastKeys h n ⌝ }
 {
     let mut best = keys_from(h, points::a_point(t, 0), 0);

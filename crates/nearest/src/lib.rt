@@ -1,7 +1,8 @@
 // The nearest point of each label and the best symbol of each subset, for what a receiver hears.
 //
-// A received point is two coordinates in line units, and the point coordinate c stands at 128·c. `search` gives, for each of
-// the four labels, the number of the nearest point, its squared distance and what that counts for; of equals the smaller number.
+// A received point is heard, with two coordinates in line units, or missing; the point coordinate c stands at 128·c. `search` gives,
+// for each of the four labels, the number of the nearest point, its squared distance and what that counts for; of equals the smaller
+// number. A missing point is as near to every point, at distance 0, so its number is 0 and no table is read for it.
 // `weigh` gives, for a received symbol and each of the eight subsets, the best symbol: its cost, a sum of counted distances, and
 // its I3', with the numbers of its points in the rows of `search`. Both types of a subset are weighed, always. A caller makes
 // the chart once and lends it.
@@ -14,13 +15,19 @@ use points::Accord;
 ghost use mathlib.Core.Path.{_≡_};
 ghost use mathlib.Core.Bool.{true};
 ghost use Rattle.points.specs.Agreed.{isAccord};
-ghost use Rattle.nearest.specs.Line.{isCoordinate, InRange};
-ghost use Rattle.nearest.specs.Found.{chartOf, nearestOf, heardAs, weighedOf};
+ghost use Rattle.nearest.specs.Line.{isCoordinate, SpotInRange, InRange};
+ghost use Rattle.nearest.specs.Found.{chartOf, nearestOf, nearestTo, heardAs, weighedOf};
 
-// A received point.
-pub struct Received {
+// Where a point was heard.
+pub struct Spot {
     pub x: i32,
     pub y: i32,
+}
+
+// A received point.
+pub enum Received {
+    Heard(Spot),
+    Missing,
 }
 
 // The most that the distance of one point counts for in any sum, however far off the point was received.
@@ -61,9 +68,9 @@ pub fn is_coordinate(x: i32) -> bool
 // The nearest number below 2^u of each label, its distance, and what that counts for. Keys carry number and distance (see `key`):
 // `rest` is the remainder that all distances from h leave modulo 256, as that of number 0 shows. The nearest is found by the true
 // distance, so the cap is met by the four that were found and not by each candidate.
-pub fn search(t: &Chart, k: Accord, h: Received) -> Nearest
-    requires { ⌜ (now t ≡ chartOf k) × (isAccord k ≡ true) × InRange h ⌝ }
-    ensures { λ r. ⌜ r ≡ nearestOf k h ⌝ }
+fn search_heard(t: &Chart, k: Accord, h: Spot) -> Nearest
+    requires { ⌜ (now t ≡ chartOf k) × (isAccord k ≡ true) × SpotInRange h ⌝ }
+    ensures { λ r. ⌜ r ≡ nearestTo k h ⌝ }
 {
     let rest = line::distance_from(h, points::a_point(t, 0)) % 256;
     let keys = key::least_keys(t, h, 1usize << k.u);
@@ -75,6 +82,21 @@ pub fn search(t: &Chart, k: Accord, h: Received) -> Nearest
         w: [a.w, c.w, b.w, d.w],
         d: [a.d, c.d, b.d, d.d],
         counted: [a.counted, c.counted, b.counted, d.counted],
+    }
+}
+
+// For a point that was heard, its search; for a missing one nothing is searched.
+pub fn search(t: &Chart, k: Accord, h: Received) -> Nearest
+    requires { ⌜ (now t ≡ chartOf k) × (isAccord k ≡ true) × InRange h ⌝ }
+    ensures { λ r. ⌜ r ≡ nearestOf k h ⌝ }
+{
+    match h {
+        Received::Heard(p) => search_heard(t, k, p),
+        Received::Missing => Nearest {
+            w: [0u8; 4],
+            d: [0u32; 4],
+            counted: [0u32; 4],
+        },
     }
 }
 

@@ -2,13 +2,13 @@
 //
 // The point with label l is an A point turned clockwise l times, so its distance from a received point is that of the A point
 // from the received point turned back l times. A search for all labels reads the A points alone and turns no candidate.
-use crate::Received;
+use crate::Spot;
 use points::Point;
 ghost use mathlib.Core.Path.{_≡_};
 ghost use Prim.Native.Nat.{_≤_};
 ghost use lib.IntN.{natAbs};
 ghost use Rattle.points.specs.Turn.{Small};
-ghost use Rattle.nearest.specs.Line.{InRange, difference, square, distance};
+ghost use Rattle.nearest.specs.Line.{SpotInRange, difference, square, distance};
 ghost use Rattle.nearest.specs.Key.{turnedBack};
 
 // The square of the signed difference of r from the point coordinate c, which stands at 128·c. Sixteen bits hold the
@@ -23,16 +23,16 @@ fn squared(r: i32, c: i32) -> u32
     (d * d) as u32
 }
 
-pub fn distance_from(h: Received, p: Point) -> u32
-    requires { ⌜ InRange h × Small p ⌝ }
+pub fn distance_from(h: Spot, p: Point) -> u32
+    requires { ⌜ SpotInRange h × Small p ⌝ }
     ensures { λ r. ⌜ r ≡ distance h p ⌝ }
 {
     squared(h.x, p.x) + squared(h.y, p.y)
 }
 
-pub fn turned_back(h: Received) -> Received
-    requires { ⌜ InRange h ⌝ }
-    ensures { λ r. ⌜ (r ≡ turnedBack h) × InRange r ⌝ }
+pub fn turned_back(h: Spot) -> Spot
+    requires { ⌜ SpotInRange h ⌝ }
+    ensures { λ r. ⌜ (r ≡ turnedBack h) × SpotInRange r ⌝ }
 {
-    Received { x: -h.y, y: h.x }
+    Spot { x: -h.y, y: h.x }
 }

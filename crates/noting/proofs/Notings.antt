@@ -15,7 +15,6 @@ use borrow.Author.Tests.{ne-eqb, lt-ltb, le-ltb}
 use denote.Enum.Declared.{tagOf}
 use types.Run.{OneOf}
 use lib.Dec.{T, eqb}
-use lib.IntN.{ℤ}
 use lib.ListN.{length, take, drop, length-append, length-drop, length-take}
 use lib.Seq.{take-at, length-take-le}
 use Rattle.points.specs.declared.Accord.{Accord}
@@ -25,7 +24,7 @@ use Rattle.reasons.specs.Reason.{givenOf}
 use Rattle.openings.specs.declared.Opened.{Opened}
 use Rattle.openings.specs.Given.{startAt}
 use Rattle.openings.specs.Opening.{Opens}
-use Rattle.told.specs.Piece.{pieceOf}
+use Rattle.told.specs.Piece.{Piece, pieceOf, markedPiece}
 use Rattle.records.specs.Values.{bytesOf}
 use Rattle.recorder.specs.declared.Taped.{Taped}
 use Rattle.recorder.specs.Recorded.{openRecords, openingRecorded}
@@ -39,12 +38,14 @@ use Rattle.answers.specs.Answer.{numberLine, heardLine, unreadLine}
 use Rattle.requests.specs.declared.Request.{Request}
 use Rattle.requests.specs.declared.Request.the-variants as request
 use Rattle.requests.proofs.Request.{the-type}
+use Rattle.requests.specs.Named.{Named, named}
 use Rattle.requests.specs.Verb.{Fit}
-use Rattle.protocol.specs.Request.{requestOf, coordinatesOf, Reads}
+use Rattle.protocol.specs.Request.{requestOf, Reads}
+use Rattle.desk.specs.Room.{Long}
 use Rattle.lines.specs.declared.Part.{Part}
 use Rattle.lines.specs.Line.{Gathered}
 use Rattle.noting.specs.declared.Noted.{Noted}
-use Rattle.noting.specs.Note.{Note, stays, opens, taped, startNumber, noting, notingLine, Notes}
+use Rattle.noting.specs.Note.{Note, stays, opens, taped, startNumber, noting, filledIn, notingLine, Notes}
 use Rattle.noting.specs.Room.{Lent, Ready}
 
 -- what was put at the front of a list fits it
@@ -131,77 +132,96 @@ module _ (rx : Receiver) (begun : Bool) (k : Accord) (w s : ℕ) (bytes page : L
 -- ---- a request
 
 -- what each kind of request does, as the code has it: the start of a named state as its number, the output by its places
-module _ (rx : Receiver) (begun : Bool) (cs : List ℤ) (room : ℕ) where
-  pub noted-as : {asked k : Request} → asked ≡ k → noting rx begun k cs room ≡ noting rx begun asked cs room
-  noted-as e = ap (λ (a : Request). noting rx begun a cs room) (sym e)
+module _ (rx : Receiver) (begun : Bool) (l : Named) (room : ℕ) where
+  pub noted-as : {asked k : Request} → asked ≡ k → noting rx begun k l room ≡ noting rx begun asked l room
+  noted-as e = ap (λ (a : Request). noting rx begun a l room) (sym e)
 
-  pub at-noted : {asked : Request} {u w s n : ℕ} → asked ≡ request.At u w s → n ≡ startNumber s → opens rx begun (ofWidth u) w n room ≡ noting rx begun asked cs room
+  pub at-noted : {asked : Request} {u w s n : ℕ} → asked ≡ request.At u w s → n ≡ startNumber s → opens rx begun (ofWidth u) w n room ≡ noting rx begun asked l room
   unfolding noting
   at-noted {u = u} {w = w} e z = ap (λ (m : ℕ). opens rx begun (ofWidth u) w m room) z ∙ noted-as e
 
-  pub piece-noted : (words : List ℕ) {asked : Request} {cap n : ℕ} → asked ≡ request.Piece cap n → cap ≤ length words
-      → taped begun (tapedHearing rx (pieceOf (take n cs)) (length (take cap words)) room) ≡ noting rx begun asked cs room
-  unfolding noting
-  piece-noted words {cap = cap} {n = n} e h = ap (λ (m : ℕ). taped begun (tapedHearing rx (pieceOf (take n cs)) m room)) (length-take-le cap words h) ∙ noted-as e
+  -- the places of an output that is lent as long as the cap says
+  at-cap : (p : Piece) {cap : ℕ} → cap ≤ length (l .words)
+      → taped begun (tapedHearing rx p (length (take cap (l .words))) room) ≡ taped begun (tapedHearing rx p cap room)
+  at-cap p {cap} h = ap (λ (m : ℕ). taped begun (tapedHearing rx p m room)) (length-take-le cap (l .words) h)
 
-  pub finish-noted : (words : List ℕ) {asked : Request} {cap : ℕ} → asked ≡ request.Finish cap → cap ≤ length words
-      → taped begun (tapedFinishing rx (length (take cap words)) room) ≡ noting rx begun asked cs room
+  pub piece-noted : {asked : Request} {cap n : ℕ} → asked ≡ request.Piece cap n → cap ≤ length (l .words)
+      → taped begun (tapedHearing rx (pieceOf (take n (l .coordinates))) (length (take cap (l .words))) room) ≡ noting rx begun asked l room
   unfolding noting
-  finish-noted words {cap = cap} e h = ap (λ (m : ℕ). taped begun (tapedFinishing rx m room)) (length-take-le cap words h) ∙ noted-as e
+  piece-noted {n = n} e h = at-cap (pieceOf (take n (l .coordinates))) h ∙ noted-as e
+
+  pub marked-noted : {asked : Request} {cap k n : ℕ} → asked ≡ request.Marked cap k n → cap ≤ length (l .words)
+      → taped begun (tapedHearing rx (markedPiece (take k (l .marks)) (take n (l .coordinates))) (length (take cap (l .words))) room) ≡ noting rx begun asked l room
+  unfolding noting
+  marked-noted {k = k} {n = n} e h = at-cap (markedPiece (take k (l .marks)) (take n (l .coordinates))) h ∙ noted-as e
+
+  pub finish-noted : {asked : Request} {cap : ℕ} → asked ≡ request.Finish cap → cap ≤ length (l .words)
+      → taped begun (tapedFinishing rx (length (take cap (l .words))) room) ≡ noting rx begun asked l room
+  unfolding noting
+  finish-noted {cap = cap} e h = ap (λ (m : ℕ). taped begun (tapedFinishing rx m room)) (length-take-le cap (l .words) h) ∙ noted-as e
 
 -- the verbs that are no receiver's, by their tags
 isOther : ℕ → Bool
-isOther n = eqb n 1 || (eqb n 2 || (eqb n 3 || (eqb n 9 || (eqb n 10 || eqb n 11))))
+isOther n = eqb n 1 || (eqb n 2 || (eqb n 3 || (eqb n 9 || (eqb n 10 || (eqb n 11 || eqb n 12)))))
 
-other-tag : (n : ℕ) → OneOf (1 ∷ 2 ∷ 3 ∷ 9 ∷ 10 ∷ 11 ∷ []) n → isOther n ≡ true
+other-tag : (n : ℕ) → OneOf (1 ∷ 2 ∷ 3 ∷ 9 ∷ 10 ∷ 11 ∷ 12 ∷ []) n → isOther n ≡ true
 unfolding isOther
 other-tag n (inl e) = rw e
 other-tag n (inr (inl e)) = rw e
 other-tag n (inr (inr (inl e))) = rw e
 other-tag n (inr (inr (inr (inl e)))) = rw e
 other-tag n (inr (inr (inr (inr (inl e))))) = rw e
-other-tag n (inr (inr (inr (inr (inr e))))) = rw e
+other-tag n (inr (inr (inr (inr (inr (inl e)))))) = rw e
+other-tag n (inr (inr (inr (inr (inr (inr e)))))) = rw e
 
-pub other-noted : (rx : Receiver) (begun : Bool) (cs : List ℤ) (room : ℕ) (asked : Request) → OneOf (1 ∷ 2 ∷ 3 ∷ 9 ∷ 10 ∷ 11 ∷ []) (tagOf the-type asked)
-    → stays rx begun unreadLine ≡ noting rx begun asked cs room
+pub other-noted : (rx : Receiver) (begun : Bool) (l : Named) (room : ℕ) (asked : Request) → OneOf (1 ∷ 2 ∷ 3 ∷ 9 ∷ 10 ∷ 11 ∷ 12 ∷ []) (tagOf the-type asked)
+    → stays rx begun unreadLine ≡ noting rx begun asked l room
 unfolding noting isOther
-other-noted rx begun cs room request.Nothing h = absurd (subst T (sym (other-tag 0 h)) tt)
-other-noted rx begun cs room request.Unread h = refl
-other-noted rx begun cs room (request.Sender u) h = refl
-other-noted rx begun cs room (request.Send w cap) h = refl
-other-noted rx begun cs room (request.Plain u) h = absurd (subst T (sym (other-tag 4 h)) tt)
-other-noted rx begun cs room (request.Free u w) h = absurd (subst T (sym (other-tag 5 h)) tt)
-other-noted rx begun cs room (request.At u w s) h = absurd (subst T (sym (other-tag 6 h)) tt)
-other-noted rx begun cs room (request.Piece cap n) h = absurd (subst T (sym (other-tag 7 h)) tt)
-other-noted rx begun cs room (request.Finish cap) h = absurd (subst T (sym (other-tag 8 h)) tt)
-other-noted rx begun cs room (request.Sample x y) h = refl
-other-noted rx begun cs room request.Pending h = refl
-other-noted rx begun cs room (request.List cap n) h = refl
+other-noted rx begun l room request.Nothing h = absurd (subst T (sym (other-tag 0 h)) tt)
+other-noted rx begun l room request.Unread h = refl
+other-noted rx begun l room (request.Sender u) h = refl
+other-noted rx begun l room (request.Send w cap) h = refl
+other-noted rx begun l room (request.Plain u) h = absurd (subst T (sym (other-tag 4 h)) tt)
+other-noted rx begun l room (request.Free u w) h = absurd (subst T (sym (other-tag 5 h)) tt)
+other-noted rx begun l room (request.At u w s) h = absurd (subst T (sym (other-tag 6 h)) tt)
+other-noted rx begun l room (request.Piece cap n) h = absurd (subst T (sym (other-tag 7 h)) tt)
+other-noted rx begun l room (request.Finish cap) h = absurd (subst T (sym (other-tag 8 h)) tt)
+other-noted rx begun l room (request.Sample x y) h = refl
+other-noted rx begun l room request.Pending h = refl
+other-noted rx begun l room (request.List cap n) h = refl
+other-noted rx begun l room request.Missing h = refl
+other-noted rx begun l room (request.Marked cap k n) h = absurd (subst T (sym (other-tag 13 h)) tt)
 
 -- ---- a line
 
 -- a request that was read into the lists can be answered
-pub ready : {asked : Request} (list : List ℤ) (list-words : List ℕ) {coordinates : List ℤ} {words page : List ℕ}
-    → Lent list list-words page → length coordinates ≡ length list → length words ≡ length list-words → Fit (length list) asked → Ready asked coordinates words page
-ready {asked} list list-words lent e g f =
+pub ready : {asked : Request} (l : Named) {l' : Named} {page : List ℕ} → Lent l page
+    → length (l' .coordinates) ≡ length (l .coordinates) → length (l' .words) ≡ length (l .words) → length (l' .marks) ≡ length (l .marks)
+    → Fit (length (l .coordinates)) asked → Ready asked l' page
+ready {asked} l lent e g m f =
+    let long = lent .long in
     record {
-      lent = record { coordinates-long = e ∙ lent .coordinates-long; words-long = g ∙ lent .words-long; page-long = lent .page-long };
+      lent =
+          record {
+            long = record { coordinates-long = e ∙ long .coordinates-long; words-long = g ∙ long .words-long; marks-long = m ∙ long .marks-long };
+            page-long = lent .page-long;
+          };
       fit = subst (λ (n : ℕ). Fit n asked) (sym e) f;
     }
 
-module _ {line : List ℕ} {part : Part} {s : List ℕ} (g : Gathered line part s) (rx : Receiver) (begun : Bool) (list : List ℤ) (room : ℕ) where
-  pub long-noted : part .long ≡ true → stays rx begun unreadLine ≡ notingLine (length line) rx begun s list room
+module _ {line : List ℕ} {part : Part} {s : List ℕ} (g : Gathered line part s) (rx : Receiver) (begun : Bool) (l : Named) (room : ℕ) where
+  pub long-noted : part .long ≡ true → stays rx begun unreadLine ≡ notingLine (length line) rx begun s l room
   unfolding notingLine
   long-noted e = sym (rw (lt-ltb (length line) (length s) (g .too-long e)))
 
-  pub line-noted : {list' : List ℤ} {words words' : List ℕ} {asked : Request} → part .long ≡ false → length list ≡ 4096 → length words ≡ 4096
-      → Reads (take (part .held) line) list words asked list' words'
-      → noting rx begun asked list' room ≡ notingLine (length line) rx begun s list room
+  pub line-noted : {l' : Named} {asked : Request} → part .long ≡ false → Long l → Reads (take (part .held) line) l asked l'
+      → noting rx begun asked l' room ≡ notingLine (length line) rx begun s l room
   unfolding notingLine
-  line-noted {list'} {words} {words'} {asked} f h k r =
+  line-noted {l'} {asked} f h r =
       let few : length s ≤ length line = omega (arith, ap length (g .kept f), length-take (part .held) line) in
-      (λ i. noting rx begun (r .is i) (r .fills i) room)
-      ∙ rw (g .kept f, le-ltb (length line) (length s) few) (λ i. noting rx begun (requestOf (h i) (k i) s) (coordinatesOf s list) room)
+      (λ i. noting rx begun (r .is i) (named (r .fills i) (r .puts i) (r .marks i)) room)
+      ∙ rw (g .kept f, le-ltb (length line) (length s) few)
+      (λ i. noting rx begun (requestOf (h .coordinates-long i) (h .words-long i) (h .marks-long i) s) (filledIn s l) room)
 
 pub notes-same : {g g' : Note} {bytes page : List ℕ} {r : Noted} {b page' : List ℕ} → g ≡ g' → Notes g bytes page r b page' → Notes g' bytes page r b page'
 notes-same {bytes = bytes} {page = page} {r = r} {b = b} {page' = page'} e n = subst (λ (g : Note). Notes g bytes page r b page') e n

@@ -6,8 +6,9 @@
 --                       ends the recording": nothing is recorded or answered then
 --   taped begun r       what a recorded call gives
 --   startNumber s       the number in a record of the named state s: 16 is the free start there and no state, so 17 stands for it
---   noting ..           what a request does, where cs starts with the coordinates of its line and the bytes have so much room: "Each line is
+--   noting ..           what a request does, where the lists l start with what its line names and the bytes have so much room: "Each line is
 --                       answered as lab would, CAP being the room for words; unreadable lines and other verbs answer `?`"
+--   filledIn s l        the lists after the line s has been read into them
 --   notingLine most ..  what a line does; most is as many bytes as a line may have
 --   Notes g ..          what was done is g: its records at the front of the bytes, its answer at the front of the page, all else unchanged
 use Prim.Native.Nat.{ℕ, _≤_}
@@ -15,7 +16,6 @@ use mathlib.Core.Path.{_≡_}
 use mathlib.Core.Bool.{Bool, true, false, cond}
 use mathlib.Core.List.{List, []}
 use lib.Dec.{eqb, ltb}
-use lib.IntN.{ℤ}
 use lib.ListN.{length, take}
 use Rattle.points.specs.declared.Accord.{Accord}
 use Rattle.points.specs.Agreed.{ofWidth}
@@ -23,7 +23,7 @@ use Rattle.machine.specs.declared.Receiver.{Receiver}
 use Rattle.reasons.specs.Reason.{givenOf}
 use Rattle.openings.specs.Given.{startAt, plainWindow}
 use Rattle.openings.specs.Opening.{opening}
-use Rattle.told.specs.Piece.{pieceOf}
+use Rattle.told.specs.Piece.{pieceOf, markedPiece}
 use Rattle.records.specs.Values.{Entry}
 use Rattle.tape.specs.Front.{Fronted, spaceOf}
 use Rattle.recorder.specs.Recorded.{openRecords, openingRecorded}
@@ -32,7 +32,8 @@ use Rattle.recorder.specs.Doors.{tapedHearing, tapedFinishing}
 use Rattle.page.specs.Page.{Puts}
 use Rattle.requests.specs.declared.Request.{Request}
 use Rattle.requests.specs.declared.Request.the-variants as request
-use Rattle.protocol.specs.Request.{requestOf, coordinatesOf}
+use Rattle.requests.specs.Named.{Named, named}
+use Rattle.protocol.specs.Request.{requestOf, coordinatesOf, wordsOf, marksIn}
 use Rattle.answers.specs.Answer.{numberLine, heardLine, unreadLine}
 use Rattle.noting.specs.declared.Noted.{Noted}
 
@@ -64,23 +65,29 @@ freeNumber = 16
 abbrev pub startNumber : ℕ → ℕ
 startNumber s = cond (eqb s 16) 17 s
 
-unfoldable pub noting : Receiver → Bool → Request → List ℤ → ℕ → Note
-noting rx begun request.Nothing cs room = stays rx begun []
-noting rx begun (request.Plain u) cs room = opens rx begun (ofWidth u) plainWindow freeNumber room
-noting rx begun (request.Free u w) cs room = opens rx begun (ofWidth u) w freeNumber room
-noting rx begun (request.At u w s) cs room = opens rx begun (ofWidth u) w (startNumber s) room
-noting rx begun (request.Piece cap n) cs room = taped begun (tapedHearing rx (pieceOf (take n cs)) cap room)
-noting rx begun (request.Finish cap) cs room = taped begun (tapedFinishing rx cap room)
-noting rx begun request.Unread cs room = stays rx begun unreadLine
-noting rx begun (request.Sender u) cs room = stays rx begun unreadLine
-noting rx begun (request.Send w cap) cs room = stays rx begun unreadLine
-noting rx begun (request.Sample x y) cs room = stays rx begun unreadLine
-noting rx begun request.Pending cs room = stays rx begun unreadLine
-noting rx begun (request.List cap n) cs room = stays rx begun unreadLine
+unfoldable pub noting : Receiver → Bool → Request → Named → ℕ → Note
+noting rx begun request.Nothing l room = stays rx begun []
+noting rx begun (request.Plain u) l room = opens rx begun (ofWidth u) plainWindow freeNumber room
+noting rx begun (request.Free u w) l room = opens rx begun (ofWidth u) w freeNumber room
+noting rx begun (request.At u w s) l room = opens rx begun (ofWidth u) w (startNumber s) room
+noting rx begun (request.Piece cap n) l room = taped begun (tapedHearing rx (pieceOf (take n (l .coordinates))) cap room)
+noting rx begun (request.Marked cap k n) l room = taped begun (tapedHearing rx (markedPiece (take k (l .marks)) (take n (l .coordinates))) cap room)
+noting rx begun (request.Finish cap) l room = taped begun (tapedFinishing rx cap room)
+noting rx begun request.Unread l room = stays rx begun unreadLine
+noting rx begun (request.Sender u) l room = stays rx begun unreadLine
+noting rx begun (request.Send w cap) l room = stays rx begun unreadLine
+noting rx begun (request.Sample x y) l room = stays rx begun unreadLine
+noting rx begun request.Pending l room = stays rx begun unreadLine
+noting rx begun (request.List cap n) l room = stays rx begun unreadLine
+noting rx begun request.Missing l room = stays rx begun unreadLine
+
+-- the lists after the line s has been read into them
+abbrev pub filledIn : List ℕ → Named → Named
+filledIn s l = named (coordinatesOf s (l .coordinates)) (wordsOf s (l .words)) (marksIn s (l .marks))
 
 -- "A line has at most 65,536 bytes before its newline; a longer one answers `?` once"
-unfoldable pub notingLine : ℕ → Receiver → Bool → List ℕ → List ℤ → ℕ → Note
-notingLine most rx begun s list room = cond (ltb most (length s)) (stays rx begun unreadLine) (noting rx begun (requestOf 4096 4096 s) (coordinatesOf s list) room)
+unfoldable pub notingLine : ℕ → Receiver → Bool → List ℕ → Named → ℕ → Note
+notingLine most rx begun s l room = cond (ltb most (length s)) (stays rx begun unreadLine) (noting rx begun (requestOf 4096 4096 1024 s) (filledIn s l) room)
 
 -- the last two parts follow from those before them; they are stated so that callers find them
 pub record Notes (g : Note) (bytes page : List ℕ) (r : Noted) (b page' : List ℕ) : Type 0 where

@@ -12,9 +12,10 @@ ghost use Prim.Native.Nat.{ℕ, _≤_};
 ghost use lib.ListN.{length};
 ghost use Rattle.points.specs.Agreed.{ofWidth};
 ghost use Rattle.recorder.specs.Promise.{Is};
-ghost use Rattle.told.specs.Piece.{pieceOf};
+ghost use Rattle.told.specs.Piece.{pieceOf, markedPiece};
 ghost use Rattle.taping.specs.Taping.{Ran};
 ghost use Rattle.recorder.specs.Doors.{tapedHearing, tapedFinishing};
+ghost use Rattle.requests.specs.Named.{named};
 ghost use Rattle.answers.specs.Answer.{unreadLine};
 ghost use Rattle.lines.specs.Line.{Gathered};
 ghost use Rattle.noting.specs.Note.{startNumber, stays, opens, taped, noting, notingLine, Notes};
@@ -136,6 +137,23 @@ fn hear(
     tell(begun, t, out, page)
 }
 
+fn hear_marked(
+    rx: Receiver,
+    begun: bool,
+    piece: &[i32],
+    marks: &[u8],
+    out: &mut [u32],
+    bytes: &mut [u8],
+    page: &mut [u8],
+) -> Noted
+    requires { ⌜ (length (now out) ≤ 4096) × (pageRoom ≤ length (now page)) ⌝ }
+    ensures { λ r. ⌜ Notes (taped begun (tapedHearing rx (markedPiece (now (marks .entry)) (now (piece .entry))) (length (now (out .entry))) (length (now (bytes .entry)))))
+        (now (bytes .entry)) (now (page .entry)) r (now (bytes .exit)) (now (page .exit)) ⌝ }
+{
+    let t = recorder::hear_marked(rx, piece, marks, out, bytes);
+    tell(begun, t, out, page)
+}
+
 fn finish(rx: Receiver, begun: bool, out: &mut [u32], bytes: &mut [u8], page: &mut [u8]) -> Noted
     requires { ⌜ (length (now out) ≤ 4096) × (pageRoom ≤ length (now page)) ⌝ }
     ensures { λ r. ⌜ Notes (taped begun (tapedFinishing rx (length (now (out .entry))) (length (now (bytes .entry)))))
@@ -145,18 +163,21 @@ fn finish(rx: Receiver, begun: bool, out: &mut [u32], bytes: &mut [u8], page: &m
     tell(begun, t, out, page)
 }
 
-// `receiver ..`, `piece ..` and `finish ..` are a receiver's; the other verbs are unread here. A further call of the receiver's is one arm more.
+// `receiver ..`, `piece ..`, `marked ..` and `finish ..` are a receiver's; the other verbs are unread here. A further call of the receiver's
+// is one arm more.
 pub fn note(
     rx: Receiver,
     begun: bool,
     asked: Request,
     coordinates: &[i32],
     words: &mut [u32],
+    marks: &[u8],
     bytes: &mut [u8],
     page: &mut [u8],
 ) -> Noted
-    requires { ⌜ Ready asked (now coordinates) (now words) (now page) ⌝ }
-    ensures { λ r. ⌜ Notes (noting rx begun asked (now (coordinates .entry)) (length (now (bytes .entry)))) (now (bytes .entry)) (now (page .entry)) r (now (bytes .exit)) (now (page .exit)) ⌝ }
+    requires { ⌜ Ready asked (named (now coordinates) (now words) (now marks)) (now page) ⌝ }
+    ensures { λ r. ⌜ Notes (noting rx begun asked (named (now (coordinates .entry)) (now (words .entry)) (now (marks .entry))) (length (now (bytes .entry))))
+        (now (bytes .entry)) (now (page .entry)) r (now (bytes .exit)) (now (page .exit)) ⌝ }
 {
     match asked {
         Request::Nothing => Noted {
@@ -180,6 +201,19 @@ pub fn note(
             page,
         ),
         Request::Finish { cap } => finish(rx, begun, &mut words[..cap as usize], bytes, page),
+        Request::Marked {
+            cap,
+            marks: row,
+            count,
+        } => hear_marked(
+            rx,
+            begun,
+            &coordinates[..count],
+            &marks[..row],
+            &mut words[..cap as usize],
+            bytes,
+            page,
+        ),
         _ => unread(rx, begun, bytes, page),
     }
 }
@@ -192,17 +226,19 @@ pub fn line(
     line: &[u8],
     coordinates: &mut [i32],
     words: &mut [u32],
+    marks: &mut [u8],
     bytes: &mut [u8],
     page: &mut [u8],
 ) -> Noted
-    requires { ⌜ Lent (now coordinates) (now words) (now page) × (part .held ≤ length (now line)) ⌝ }
-    ensures { λ r. ⌜ ((s : List ℕ) → Gathered (now (line .entry)) part s → Notes (notingLine (length (now (line .entry))) rx begun s (now (coordinates .entry))
-        (length (now (bytes .entry)))) (now (bytes .entry)) (now (page .entry)) r (now (bytes .exit)) (now (page .exit))) ⌝ }
+    requires { ⌜ Lent (named (now coordinates) (now words) (now marks)) (now page) × (part .held ≤ length (now line)) ⌝ }
+    ensures { λ r. ⌜ ((s : List ℕ) → Gathered (now (line .entry)) part s
+        → Notes (notingLine (length (now (line .entry))) rx begun s (named (now (coordinates .entry)) (now (words .entry)) (now (marks .entry))) (length (now (bytes .entry))))
+        (now (bytes .entry)) (now (page .entry)) r (now (bytes .exit)) (now (page .exit))) ⌝ }
 {
     if part.long {
         return unread(rx, begun, bytes, page);
     }
     let held = part.held;
-    let asked = protocol::read(&line[..held], coordinates, words);
-    note(rx, begun, asked, coordinates, words, bytes, page)
+    let asked = protocol::read(&line[..held], coordinates, words, marks);
+    note(rx, begun, asked, coordinates, words, marks, bytes, page)
 }

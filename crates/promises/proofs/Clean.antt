@@ -1,5 +1,5 @@
 -- What a clean line is to the line's measure, and what a sender's run is on it.
---   exact        what is received lies on one valid symbol at most
+--   exact        symbols heard exactly lie on one valid symbol at most
 --   hits         symbols heard exactly lie on themselves
 --   first-sent   the first m symbols heard are those of the first m words
 --   read-back    the coordinates that symbols have, 128 times, are read as the symbols heard exactly
@@ -30,7 +30,10 @@ use Rattle.points.proofs.Apart.{symbols-apart}
 use Rattle.trellis.specs.Lists.{Every}
 use Rattle.trellis.specs.Measure.{Two, counted, firstFar, secondFar, farOf}
 use Rattle.trellis.specs.Clean.{Hits, Exact}
+use Rattle.nearest.specs.declared.Spot.{Spot}
 use Rattle.nearest.specs.declared.Received.{Received}
+use Rattle.nearest.specs.declared.Received.the-variants.{Heard}
+use Rattle.nearest.specs.Found.{heardAs}
 use Rattle.nearest.specs.Line.{onLine, difference, square, distance, lineDistance, lineMeasure}
 use Rattle.sender.specs.declared.Sender.{Sender}
 use Rattle.sender.specs.Send.{after, four, opening}
@@ -38,7 +41,7 @@ use Rattle.sender.specs.Run as sender
 use Rattle.sender.proofs.Exactly.{one}
 use Rattle.sender.proofs.Run.{along}
 use Rattle.told.specs.Piece.{symbolsOf}
-use Rattle.promises.specs.Clean.{allOnLine, heardAt, heardExactly, cleanly, floatsHeard, samplesAt}
+use Rattle.promises.specs.Clean.{allOnLine, spotAt, heardExactly, cleanly, floatsHeard, samplesAt}
 
 -- ---- distance 0
 
@@ -69,31 +72,32 @@ off-on (negsuc n) =
 one-coordinate : (r a b : ℤ) → square (difference r a) ≡ 0 → square (difference r b) ≡ 0 → a ≡ b
 one-coordinate r a b e f = sym (off-on a) ∙ ap offLine (sym (there r a e) ∙ there r b f) ∙ off-on b
 
-one-point : (h : Received) (p q : Point) → distance h p ≡ 0 → distance h q ≡ 0 → p ≡ q
+one-point : (h : Spot) (p q : Point) → distance h p ≡ 0 → distance h q ≡ 0 → p ≡ q
 unfolding distance
 one-point h p q e f =
     let x : p .x ≡ q .x = one-coordinate (h .x) (p .x) (q .x) (omega arith) (omega arith) in
     let y : p .y ≡ q .y = one-coordinate (h .y) (p .y) (q .y) (omega arith) (omega arith) in
     λ i. record { x = x i; y = y i }
 
-far-points : (ac : Accord) (y : Two Received) (c : Symbol) → lineMeasure ac .far y c ≡ counted (distance (y .first) (firstPoint c)) + counted (distance (y .second) (secondPoint c))
+far-points : (ac : Accord) (g h : Spot) (c : Symbol) → lineMeasure ac .far (heardAs (Heard g) (Heard h)) c ≡ counted (distance g (firstPoint c)) + counted (distance h (secondPoint c))
 unfolding farOf firstFar secondFar lineDistance firstPoint secondPoint
-far-points ac y c = refl
+far-points ac g h c = refl
 
 -- what counts for nothing is no distance
 none-counted : (a b : ℕ) → counted a + counted b ≡ 0 → (a ≡ 0) × (b ≡ 0)
 unfolding counted
 none-counted a b e = (omega arith, omega arith)
 
-pub exact : (ac : Accord) → isAccord ac ≡ true → Exact (ac .u) (lineMeasure ac)
-exact ac h y c d v w e f =
-    let (c₁, c₂) = none-counted (distance (y .first) (firstPoint c)) (distance (y .second) (secondPoint c)) (sym (far-points ac y c) ∙ e) in
-    let (d₁, d₂) = none-counted (distance (y .first) (firstPoint d)) (distance (y .second) (secondPoint d)) (sym (far-points ac y d) ∙ f) in
-    symbols-apart (ac .u) c d (accord-width ac h) v w (one-point (y .first) (firstPoint c) (firstPoint d) c₁ d₁) (one-point (y .second) (secondPoint c) (secondPoint d) c₂ d₂)
+-- both points heard
+one-symbol : (ac : Accord) → isAccord ac ≡ true → (p q : Spot) → Exact (ac .u) (lineMeasure ac) (heardAs (Heard p) (Heard q))
+one-symbol ac h p q c d v w e f =
+    let (c₁, c₂) = none-counted (distance p (firstPoint c)) (distance q (secondPoint c)) (sym (far-points ac p q c) ∙ e) in
+    let (d₁, d₂) = none-counted (distance p (firstPoint d)) (distance q (secondPoint d)) (sym (far-points ac p q d) ∙ f) in
+    symbols-apart (ac .u) c d (accord-width ac h) v w (one-point p (firstPoint c) (firstPoint d) c₁ d₁) (one-point q (secondPoint c) (secondPoint d) c₂ d₂)
 
 -- ---- symbols heard exactly
 
-at-itself : (p : Point) → distance (heardAt p) p ≡ 0
+at-itself : (p : Point) → distance (spotAt p) p ≡ 0
 unfolding distance
 at-itself p = ap₂ (λ (a b : ℤ). square a + square b) (+ℤ-invr (onLine (p .x))) (+ℤ-invr (onLine (p .y)))
 
@@ -103,7 +107,15 @@ counts-nothing e = omega arith
 
 pub hits : (ac : Accord) (cs : List Symbol) → Hits (lineMeasure ac) (map heardExactly cs) cs
 hits ac [] = tt
-hits ac (c ∷ cs) = (far-points ac (heardExactly c) c ∙ ap₂ (λ (a b : ℕ). a + b) (counts-nothing (at-itself (firstPoint c))) (counts-nothing (at-itself (secondPoint c))), hits ac cs)
+hits ac (c ∷ cs) = (
+  far-points ac (spotAt (firstPoint c)) (spotAt (secondPoint c)) c ∙ ap₂ (λ (a b : ℕ). a + b)
+      (counts-nothing (at-itself (firstPoint c))) (counts-nothing (at-itself (secondPoint c))),
+  hits ac cs,
+)
+
+pub exact : (ac : Accord) → isAccord ac ≡ true → (cs : List Symbol) → Every (Exact (ac .u) (lineMeasure ac)) (map heardExactly cs)
+exact ac h [] = tt
+exact ac h (c ∷ cs) = (one-symbol ac h (spotAt (firstPoint c)) (spotAt (secondPoint c)), exact ac h cs)
 
 take-symbols : (u s q m : ℕ) (ns : List ℕ) → take m (map heardExactly (symbolsFrom u s q ns)) ≡ map heardExactly (symbolsFrom u s q (take m ns))
 unfolding symbolsFrom

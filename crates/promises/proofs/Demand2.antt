@@ -92,7 +92,8 @@ any-cut ac v w b took ws vs k l = answers ac v b took ws k ∙ sym (answers ac w
 module _ (ac : Accord) (w : ℕ) (b : Start) (z : StartsAtZero b) (sent : List ℕ) (e : Every (λ n. isWord (ac .u) n ≡ true) sent) where
   clean-answer : Fine (toldOf ac w b (cleanly ac sent)) → speakerOf (toldOf ac w b (cleanly ac sent)) .answered (reverse (cleanly ac sent)) ≡ asHeard (startOf b) sent
   clean-answer f =
-      trellis.round-trip (ac .u) (lineMeasure ac) (lineChoice ac) (line-chooses ac) (exact ac (f .agreed)) (startOf b) (f .good-start) 0 (omega arith) z (cleanly ac sent) sent e
+      trellis.round-trip (ac .u) (lineMeasure ac) (lineChoice ac) (line-chooses ac) (startOf b) (f .good-start) 0 (omega arith) z (cleanly ac sent)
+      (exact ac (f .agreed) (symbolsFrom (ac .u) 0 0 sent)) sent e
       (hits ac (symbolsFrom (ac .u) 0 0 sent))
 
   clean-ended : (ws : List ℕ) → Ended ac w b (cleanly ac sent) ws → ws ≡ asHeard (startOf b) sent

@@ -1,22 +1,26 @@
 -- 7 is not an empty promise: calls can tell a receiver 4,294,967,295 symbols.
+--   single, handed  a symbol as a piece of its own, and that a caller can hand it over
 --   fine-end        every history that can be told is told by an opening and calls: its receiver is an end
 --   histories-end   for each number up to 4,294,967,295 there is an end that has been told so many
 --   full            an end to which every good symbol is one too many
 use mathlib.Core.Path.{_≡_, refl, ap, subst, _∙_}
+use mathlib.Core.Bool.{true}
 use mathlib.Core.List.{List, [], _∷_}
-use Prim.Native.Nat.{ℕ, _≤_, _<_}
+use Prim.Native.Nat.{ℕ, _+_, _*_, _≤_, _<_}
 use native.Mathlib.Omega.{arith}
-use lib.IntN.{ℤ}
+use lib.IntN.{pos}
 use lib.ListN.{length, replicate, length-replicate}
 use Rattle.points.specs.declared.Accord.{Accord}
 use Rattle.calls.specs.Calls.{walk}
 use Rattle.trellis.specs.Measure.{Two}
+use Rattle.nearest.specs.declared.Spot.{Spot}
 use Rattle.nearest.specs.declared.Received.{Received}
+use Rattle.nearest.specs.declared.Received.the-variants.{Heard, Missing}
 use Rattle.nearest.specs.Line.{BothInRange}
 use Rattle.reasons.specs.Reason.{reason, givenOf}
 use Rattle.points.specs.Agreed.{ofWidth}
 use Rattle.told.specs.Told.{Told, pendingAfter, Fine, FineList, withHeard}
-use Rattle.told.specs.Piece.{pieceOf}
+use Rattle.told.specs.Piece.{Piece, markedPiece}
 use Rattle.told.specs.Owed.{pieceOwed}
 use Rattle.told.proofs.Cases.{piece-goes}
 use Rattle.receiver.proofs.Laws.{fresh-most}
@@ -34,13 +38,34 @@ use Rattle.promises.specs.Table as table
 use Rattle.promises.proofs.Numbers.{said-is}
 use Rattle.promises.proofs.Demand1.{seven}
 
--- the four coordinates of a received symbol
-abbrev pub fourOf : Two Received → List ℤ
-fourOf y = y .first .x ∷ y .first .y ∷ y .second .x ∷ y .second .y ∷ []
+-- a symbol as a piece of its own; the mark, and the coordinates, by which a caller hands it over
+abbrev pub single : Two Received → Piece
+single y = record { fits = true; symbols = y ∷ [] }
+
+abbrev missed : Received → ℕ
+missed (Heard s) = 0
+missed Missing = 1
+
+abbrev spotOf : Received → Spot
+spotOf (Heard s) = s
+spotOf Missing = record { x = pos 0; y = pos 0 }
+
+pub handed : (y : Two Received) →
+    let a = spotOf (y .first) in
+    let b = spotOf (y .second) in markedPiece ((missed (y .first) + 2 * missed (y .second)) ∷ []) (a .x ∷ a .y ∷ b .x ∷ b .y ∷ []) ≡ single y
+handed y = go (y .first) (y .second)
+  where
+    go : (g h : Received) →
+        let a = spotOf g in
+        let b = spotOf h in markedPiece ((missed g + 2 * missed h) ∷ []) (a .x ∷ a .y ∷ b .x ∷ b .y ∷ []) ≡ single (record { first = g; second = h })
+    go (Heard s) (Heard t) = refl
+    go (Heard s) Missing = refl
+    go Missing (Heard t) = refl
+    go Missing Missing = refl
 
 -- `hear` answers 7 to every good symbol
 abbrev pub AnswersSeven : Receiver → Type 0
-AnswersSeven rx = (y : Two Received) → BothInRange y → (out : List ℕ) (r : Answer) (o : List ℕ) → Hears rx (pieceOf (fourOf y)) out r o → givenOf (r .why) ≡ reason 7
+AnswersSeven rx = (y : Two Received) → BothInRange y → (out : List ℕ) (r : Answer) (o : List ℕ) → Hears rx (single y) out r o → givenOf (r .why) ≡ reason 7
 
 fine-same : (t : Told) (zs ys : List (Two Received)) → FineList (withHeard t zs) ys → FineList t ys
 fine-same t zs [] f = tt
@@ -48,9 +73,9 @@ fine-same t zs (y ∷ ys) f = (f .0, f .1, fine-same t zs ys (f .2))
 
 -- one symbol that is not one to refuse, as a piece with room for 64 words
 heard-one : (t : Told) (f : Fine t) (y : Two Received) → BothInRange y → length (t .heard) < 4294967295 → pendingAfter t (y ∷ t .heard) ≤ t .window →
-    pieceOwed t (pieceOf (fourOf y)) 64 .told ≡ withHeard t (y ∷ t .heard)
+    pieceOwed t (single y) 64 .told ≡ withHeard t (y ∷ t .heard)
 unfolding walk
-heard-one t f y r few h = rw (piece-goes t (pieceOf (fourOf y)) 64 refl, said-is t (t .heard) y 64 (reason 0) (table.SymbolGives.taken r few h (fresh-most t f y r few)))
+heard-one t f y r few h = rw (piece-goes t (single y) 64 refl, said-is t (t .heard) y 64 (reason 0) (table.SymbolGives.taken r few h (fresh-most t f y r few)))
 
 module _ (ac : Accord) (w : ℕ) (b : Start) where
   abbrev after : List (Two Received) → Told
@@ -69,7 +94,7 @@ module _ (ac : Accord) (w : ℕ) (b : Start) where
         few = omega arith;
         each = fine-same (after ys) (y ∷ ys) ys (f .each .2);
       } in
-      subst End (hearing-owes (after ys) g (pieceOf (fourOf y)) 64 .receiver ∙ ap machineOf (heard-one (after ys) g y (f .each .0) few (f .each .1))) (heard (fine-end ys g) (pieceOf (fourOf y)) 64)
+      subst End (hearing-owes (after ys) g (single y) 64 .receiver ∙ ap machineOf (heard-one (after ys) g y (f .each .0) few (f .each .1))) (heard (fine-end ys g) (single y) 64)
 
 -- so for each number there is an end that has been told so many; and one that has been told 4,294,967,295 answers 7
 pub histories-end : (n : ℕ) → n ≤ 4294967295 → (t : Told) × Fine t × (length (t .heard) ≡ n) × End (machineOf t) × (n ≡ 4294967295 → AnswersSeven (machineOf t))
@@ -81,7 +106,7 @@ histories-end n h =
       f,
       l,
       fine-end (ofWidth 0) 64 Free (replicate n zeros) f,
-      λ e y g out r o p. p .owed (told n) f refl .given ∙ rw (piece-goes (told n) (pieceOf (fourOf y)) (length out) refl, seven (told n) (replicate n zeros) y (length out) (l ∙ e) g),
+      λ e y g out r o p. p .owed (told n) f refl .given ∙ rw (piece-goes (told n) (single y) (length out) refl, seven (told n) (replicate n zeros) y (length out) (l ∙ e) g),
     )
 
 pub full : (rx : Receiver) × End rx × AnswersSeven rx

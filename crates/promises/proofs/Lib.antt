@@ -5,6 +5,7 @@ pub mod Demand3
 pub mod Meant
 pub mod Left
 pub mod Windows
+pub mod Missing
 pub mod Library
 pub mod Lent
 -- what they lean on

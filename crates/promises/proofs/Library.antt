@@ -22,7 +22,7 @@ use Rattle.trellis.specs.Words.{asHeard}
 use Rattle.nearest.specs.declared.Received.{Received}
 use Rattle.reasons.specs.Reason.{givenOf}
 use Rattle.told.specs.Told.{codeOf, wordsOf}
-use Rattle.told.specs.Piece.{symbolsOf, pieceOf}
+use Rattle.told.specs.Piece.{Piece, symbolsOf}
 use Rattle.openings.specs.declared.Start.{Start}
 use Rattle.openings.specs.Given.{startOf}
 use Rattle.openings.specs.Opening.{opening}
@@ -84,10 +84,10 @@ answered c changed r state out told e n state′ o told′ a =
     }
 
 module _ (state out told : List ℕ) (long : 3 ≤ length told) (n : ℕ) (state′ o told′ : List ℕ) where
-  heard-by : (piece : List ℤ) → library.Answers (hearCall state piece out told) n state′ o told′ → Answered (hearing (receiverIn state) (pieceOf piece) (length out)) out n state′ o told′
+  heard-by : (piece : Piece) → library.Answers (hearCall state piece out told) n state′ o told′ → Answered (hearing (receiverIn state) piece (length out)) out n state′ o told′
   unfolding hearCall
   heard-by piece a =
-      let r = hearing (receiverIn state) (pieceOf piece) (length out) in
+      let r = hearing (receiverIn state) piece (length out) in
       answered (hearCall state piece out told) (ltb 0 (r .taken)) r state out told (rw (le-ltb (length told) 3 long)) n state′ o told′ a
 
   ended-by : library.Answers (finishCall state out told) n state′ o told′ → Answered (finishing (receiverIn state) (length out)) out n state′ o told′
@@ -100,7 +100,7 @@ module _ (state out told : List ℕ) (long : 3 ≤ length told) (n : ℕ) (state
 is-answer : (r : Ran) (out : List ℕ) (n : ℕ) (state o told : List ℕ) → Answered r out n state o told → receiver.Is r out (answer r) o
 is-answer r out n state o told a = record { receiver = refl; taken = refl; written = refl; given = refl; output = a .out-is }
 
-too-short : (state : List ℕ) (piece : List ℤ) (out told : List ℕ) → length told < 3 → hearCall state piece out told .receiver ≡ receiverIn state
+too-short : (state : List ℕ) (piece : Piece) (out told : List ℕ) → length told < 3 → hearCall state piece out told .receiver ≡ receiverIn state
 unfolding hearCall
 too-short state piece out told few = rw (lt-ltb (length told) 3 few)
 
@@ -127,9 +127,9 @@ module _ (k : Accord) (w : ℕ) (b : Start) where
   talks took ws state (opens before s n p z) = opened-talk before s n p z
   talks took ws state (hears {took = l} {ws = vs} {state = s} h piece out told long n s′ o told′ a) =
       let d = heard-by s out told long n s′ o told′ piece a in
-      let r = hearing (receiverIn s) (pieceOf piece) (length out) in
+      let r = hearing (receiverIn s) piece (length out) in
       rw (d .taken-is, d .written-is, d .reads)
-      (ends.hears (talks l vs s h) (pieceOf piece) out o (answer r) (doors.hears (receiverIn s) (pieceOf piece) out (answer r) o (is-answer r out n s′ o told′ d)))
+      (ends.hears (talks l vs s h) piece out o (answer r) (doors.hears (receiverIn s) piece out (answer r) o (is-answer r out n s′ o told′ d)))
   talks took ws state (refuses {took = l} {ws = vs} {state = s} h out told long n s′ o told′ a z) =
       let d = ended-by s out told long n s′ o told′ a in
       let r = finishing (receiverIn s) (length out) in
@@ -239,16 +239,16 @@ module _ (k : Accord) (w : ℕ) (b : Start) (took : List (Two Received)) (ws : L
   whole e = demand3.whole k w b took ws (ended k w b took ws e)
 
   -- the number, the place in told[2], and the counts of a piece after such a run
-  pub numbers : (state : List ℕ) → LibraryHears k w b took ws state → (piece : List ℤ) (out told : List ℕ) → 3 ≤ length told → (n : ℕ) (state′ o told′ : List ℕ) →
+  pub numbers : (state : List ℕ) → LibraryHears k w b took ws state → (piece : Piece) (out told : List ℕ) → 3 ≤ length told → (n : ℕ) (state′ o told′ : List ℕ) →
       library.Answers (hearCall state piece out told) n state′ o told′ →
-      table.PieceGives (follows.toldOf k w b took) (pieceOf piece) (length out) (taken told′) (written told′) (record { number = n; place = getD told′ 2 0 })
+      table.PieceGives (follows.toldOf k w b took) piece (length out) (taken told′) (written told′) (record { number = n; place = getD told′ 2 0 })
   numbers state h piece out told long n state′ o told′ a =
       let d = heard-by state out told long n state′ o told′ piece a in
-      let r = hearing (receiverIn state) (pieceOf piece) (length out) in
+      let r = hearing (receiverIn state) piece (length out) in
       let f = follows.follows k w b took ws (receiverIn state) (talks k w b took ws state h) in
       rw (d .number, d .place-is, d .taken-is, d .written-is)
-      (demand1.hears (follows.toldOf k w b took) (f .fine) (receiverIn state) (f .machine) out (answer r) o (pieceOf piece)
-      (doors.hears (receiverIn state) (pieceOf piece) out (answer r) o (is-answer r out n state′ o told′ d)) (givenOf (r .why)) .0 refl)
+      (demand1.hears (follows.toldOf k w b took) (f .fine) (receiverIn state) (f .machine) out (answer r) o piece
+      (doors.hears (receiverIn state) piece out (answer r) o (is-answer r out n state′ o told′ d)) (givenOf (r .why)) .0 refl)
 
 pub round-trip : (k : Accord) (w : ℕ) (b : Start) → StartsAtZero b → (words : List ℕ) (ps : List ℤ) (state ws : List ℕ) → calls.LibrarySends k words ps state →
     LibraryEnded k w b (symbolsOf (allOnLine ps)) ws → ws ≡ asHeard (startOf b) words

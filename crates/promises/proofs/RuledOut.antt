@@ -51,7 +51,7 @@ use Rattle.promises.specs.Clean.{allOnLine}
 use Rattle.promises.specs.Table as table
 use Rattle.promises.proofs.Numbers.{said-is, heard-then}
 use Rattle.promises.proofs.Follows.{toldOf, follows}
-use Rattle.promises.proofs.History.{fourOf}
+use Rattle.promises.proofs.History.{single}
 use Rattle.promises.proofs.Demand1.{hears}
 use Rattle.promises.proofs.Demand2.{round-trip}
 
@@ -71,8 +71,8 @@ module _ (ac : Accord) (w : ℕ) (b : Start) (f : Fine (toldOf ac w b [])) (y : 
       (table.SymbolGives.taken good (omega arith) (omega (arith, said-nothing, f .some-window))
       (omega (arith, said-nothing, length-drop (length (speakerOf t .spoken [])) (speakerOf t .spoken (y ∷ [])))))
 
-  pub first-taken : (out : List ℕ) (r : Answer) (o : List ℕ) → Hears (machineOf t) (pieceOf (fourOf y)) out r o → (r .taken ≡ 1) × (givenOf (r .why) ≡ reason 0)
-  first-taken out r o h = go (r .taken) (givenOf (r .why)) (hears t f (machineOf t) refl out r o (pieceOf (fourOf y)) h (givenOf (r .why)) .0 refl)
+  pub first-taken : (out : List ℕ) (r : Answer) (o : List ℕ) → Hears (machineOf t) (single y) out r o → (r .taken ≡ 1) × (givenOf (r .why) ≡ reason 0)
+  first-taken out r o h = go (r .taken) (givenOf (r .why)) (hears t f (machineOf t) refl out r o (single y) h (givenOf (r .why)) .0 refl)
     where
       -- the one symbol would have to be refused
       never : (m : ℕ) (z : Two Received) (later : List (Two Received)) (g : Reason) → drop m (y ∷ []) ≡ z ∷ later →
@@ -82,7 +82,7 @@ module _ (ac : Accord) (w : ℕ) (b : Start) (f : Fine (toldOf ac w b [])) (y : 
           ∙ ap (λ (x : Two Received). judgeSymbol t [] x (length out - r .written)) (let e : z ≡ y = cc in e) ∙ taken-first (length out - r .written))
       never (suc m) z later g d s = absurd (omega (arith, ap length d, length-drop (suc m) (y ∷ [])))
 
-      go : (m : ℕ) (g : Reason) → table.PieceGives t (pieceOf (fourOf y)) (length out) m (r .written) g → (m ≡ 1) × (g ≡ reason 0)
+      go : (m : ℕ) (g : Reason) → table.PieceGives t (single y) (length out) m (r .written) g → (m ≡ 1) × (g ≡ reason 0)
       go m g (table.PieceGives.ten a p q) = absurd (let z : _≡_ {A = ℕ} 0 1 = cc in omega arith)
       go m g (table.PieceGives.whole a p k) = (p, refl)
       go m g (table.PieceGives.stopped a z later d k g′ n s) = absurd (n (never m z later g d s))

@@ -17,7 +17,9 @@ use Rattle.wei.specs.Symbol.{Symbol, symbolsFrom}
 use Rattle.points.specs.declared.Point.{Point}
 use Rattle.points.specs.Pair.{firstPoint, secondPoint}
 use Rattle.trellis.specs.Measure.{Two, mayStart}
+use Rattle.nearest.specs.declared.Spot.{Spot}
 use Rattle.nearest.specs.declared.Received.{Received}
+use Rattle.nearest.specs.declared.Received.the-variants.{Heard}
 use Rattle.nearest.specs.Line.{onLine}
 use Rattle.openings.specs.declared.Start.{Start}
 use Rattle.openings.specs.Given.{startOf}
@@ -25,8 +27,11 @@ use Rattle.openings.specs.Given.{startOf}
 abbrev pub allOnLine : List ℤ → List ℤ
 allOnLine ps = map onLine ps
 
+abbrev pub spotAt : Point → Spot
+spotAt p = record { x = onLine (p .x); y = onLine (p .y) }
+
 abbrev pub heardAt : Point → Received
-heardAt p = record { x = onLine (p .x); y = onLine (p .y) }
+heardAt p = Heard (spotAt p)
 
 abbrev pub heardExactly : Symbol → Two Received
 heardExactly c = record { first = heardAt (firstPoint c); second = heardAt (secondPoint c) }

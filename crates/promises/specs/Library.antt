@@ -13,7 +13,7 @@ use lib.ListN.{length, getD, take}
 use Rattle.points.specs.declared.Accord.{Accord}
 use Rattle.trellis.specs.Measure.{Two}
 use Rattle.nearest.specs.declared.Received.{Received}
-use Rattle.told.specs.Piece.{symbolsOf}
+use Rattle.told.specs.Piece.{Piece}
 use Rattle.openings.specs.declared.Start.{Start}
 use Rattle.stored.specs.State.{senderIn, receiverIn}
 use Rattle.demfizagu.specs.Calls.{senderOpening, sendCall, sendListCall, receiverOpening, hearCall, finishCall}
@@ -41,15 +41,16 @@ pub data LibrarySends (k : Accord) : List ℕ → List ℤ → List ℕ → Type
 
 pub data LibraryHears (k : Accord) (w : ℕ) (b : Start) : List (Two Received) → List ℕ → List ℕ → Type 0 where
   opens : (before state : List ℕ) (n : ℕ) → library.Opens receiverIn (receiverOpening before k w b) n state → n ≡ 0 → LibraryHears k w b [] [] state
+  -- a piece with marks or without them
   hears : {took : List (Two Received)} {ws state : List ℕ} → LibraryHears k w b took ws state →
-      (piece : List ℤ) (out told : List ℕ) → 3 ≤ length told → (n : ℕ) (state′ o told′ : List ℕ) → library.Answers (hearCall state piece out told) n state′ o told′ →
-      LibraryHears k w b (took ++ take (taken told′) (symbolsOf piece)) (ws ++ take (written told′) o) state′
+      (piece : Piece) (out told : List ℕ) → 3 ≤ length told → (n : ℕ) (state′ o told′ : List ℕ) → library.Answers (hearCall state piece out told) n state′ o told′ →
+      LibraryHears k w b (took ++ take (taken told′) (piece .symbols)) (ws ++ take (written told′) o) state′
   refuses : {took : List (Two Received)} {ws state : List ℕ} → LibraryHears k w b took ws state →
       (out told : List ℕ) → 3 ≤ length told → (n : ℕ) (state′ o told′ : List ℕ) → library.Answers (finishCall state out told) n state′ o told′ → (n ≡ 0 → ⊥) →
       LibraryHears k w b took (ws ++ take (written told′) o) state′
   -- a `told` that is too short is an 8, and nothing happens
   short : {took : List (Two Received)} {ws state : List ℕ} → LibraryHears k w b took ws state →
-      (piece : List ℤ) (out told : List ℕ) → length told < 3 → (n : ℕ) (state′ o told′ : List ℕ) → library.Answers (hearCall state piece out told) n state′ o told′ → LibraryHears k w b took ws state′
+      (piece : Piece) (out told : List ℕ) → length told < 3 → (n : ℕ) (state′ o told′ : List ℕ) → library.Answers (hearCall state piece out told) n state′ o told′ → LibraryHears k w b took ws state′
   short-finish : {took : List (Two Received)} {ws state : List ℕ} → LibraryHears k w b took ws state →
       (out told : List ℕ) → length told < 3 → (n : ℕ) (state′ o told′ : List ℕ) → library.Answers (finishCall state out told) n state′ o told′ → LibraryHears k w b took ws state′
   copied : {took : List (Two Received)} {ws state : List ℕ} → LibraryHears k w b took ws state → (other : List ℕ) → receiverIn other ≡ receiverIn state → LibraryHears k w b took ws other

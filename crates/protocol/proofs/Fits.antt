@@ -5,8 +5,8 @@ use lib.Dec.{eqb}
 use Rattle.text.specs.Bytes.{bytes}
 use Rattle.text.specs.Token.{tokens, sameBytes}
 use Rattle.requests.specs.Verb.{Fit}
-use Rattle.requests.proofs.Fits.{fit-cond, fit-sender, fit-receiver, fit-finish, fit-sample, fit-send, fit-piece, fit-list}
-use Rattle.protocol.specs.Request.{senderVerb, receiverVerb, finishVerb, sampleVerb, sendVerb, pieceVerb, verbOf, lineOf, requestOf}
+use Rattle.requests.proofs.Fits.{fit-cond, fit-sender, fit-receiver, fit-finish, fit-sample, fit-send, fit-piece, fit-marked, fit-list}
+use Rattle.protocol.specs.Request.{senderVerb, receiverVerb, finishVerb, sampleVerb, sendVerb, pieceVerb, listVerb, verbOf, lineOf, requestOf}
 
 module _ (room : ℕ) where
   sender-verb : (v : List ℕ) (ts : List (List ℕ)) → Fit room (senderVerb v ts)
@@ -27,17 +27,20 @@ module _ (room : ℕ) where
   piece-verb : (v : List ℕ) (ts : List (List ℕ)) → Fit room (pieceVerb room v ts)
   piece-verb v ts = fit-cond room (sameBytes v (bytes "piece")) (fit-piece room ts) (send-verb v ts)
 
-  module _ (many : ℕ) where
-    fit-verb : (v : List ℕ) (ts : List (List ℕ)) → Fit room (verbOf room many v ts)
-    unfolding verbOf
-    fit-verb v ts = fit-cond room (sameBytes v (bytes "list")) (fit-list room many ts) (piece-verb v ts)
+  module _ (many most : ℕ) where
+    list-verb : (v : List ℕ) (ts : List (List ℕ)) → Fit room (listVerb room many v ts)
+    list-verb v ts = fit-cond room (sameBytes v (bytes "list")) (fit-list room many ts) (piece-verb v ts)
 
-    fit-line : (ts : List (List ℕ)) → Fit room (lineOf room many ts)
+    fit-verb : (v : List ℕ) (ts : List (List ℕ)) → Fit room (verbOf room many most v ts)
+    unfolding verbOf
+    fit-verb v ts = fit-cond room (sameBytes v (bytes "marked")) (fit-marked room most ts) (list-verb v ts)
+
+    fit-line : (ts : List (List ℕ)) → Fit room (lineOf room many most ts)
     fit-line [] = record { sizes = tt }
     fit-line (v ∷ []) = fit-cond room (sameBytes v (bytes "pending")) (record { sizes = tt }) (record { sizes = tt })
     fit-line (v ∷ t ∷ ts) = fit-verb v (t ∷ ts)
 
-    pub fits : (s : List ℕ) → Fit room (requestOf room many s)
+    pub fits : (s : List ℕ) → Fit room (requestOf room many most s)
     unfolding requestOf
     fits [] = record { sizes = tt }
     fits (b ∷ s) = fit-cond room (eqb b 35) (record { sizes = tt }) (fit-line (tokens (b ∷ s)))

@@ -2,8 +2,9 @@
 //
 // An opening (crate openings) gives a receiver. `hear` takes a piece of coordinates, four to a symbol, writes the words that become
 // final straight after one another into the lent output, and gives the receiver back with how many symbols it took, how many words it
-// wrote and why it stopped. `finish` writes the pending words of the answer and closes the receiver. A refused symbol leaves the
-// receiver as it was. A closed receiver, and any record that is out of range, is answered 9.
+// wrote and why it stopped. `hear_marked` takes a piece of which points may be missing: a mark for each symbol says which. `finish`
+// writes the pending words of the answer and closes the receiver. A refused symbol leaves the receiver as it was. A closed receiver,
+// and any record that is out of range, is answered 9.
 use machine::Core;
 use machine::Receiver;
 use pieces::Heard;
@@ -12,7 +13,7 @@ ghost use mathlib.Core.Path.{_≡_};
 ghost use mathlib.Core.Bool.{_&&_};
 ghost use Rattle.machine.specs.Machine.{core, topSum, soundCore};
 ghost use Rattle.sums.specs.Sums.{allUpTo};
-ghost use Rattle.told.specs.Piece.{pieceOf};
+ghost use Rattle.told.specs.Piece.{pieceWith, markedPiece, pieceOf};
 ghost use Rattle.receiver.specs.Promise.{lentLive, HearsLent, Hears, Finishes};
 
 pub struct Answer {
@@ -54,8 +55,33 @@ fn lent_fit(live: bool, core: Core, sums: &[u64; 16], picks: &[u64]) -> bool
     openings::parts_fit(live, core, sums)
 }
 
-// A piece to a receiver in its parts, whose lists are lent, for a caller that keeps them elsewhere: nothing is copied. The picks may be
-// a part of the caller's own words; where these are not 72, they are no receiver's, and the answer is that of a closed one.
+// A piece, with the marks where `marked` says so, to a receiver in its parts, whose lists are lent, for a caller that keeps them elsewhere:
+// nothing is copied. The picks may be a part of the caller's own words; where these are not 72, they are no receiver's, and the answer
+// is that of a closed one.
+pub fn hear_piece_lent(
+    live: bool,
+    core: Core,
+    marked: bool,
+    marks: &[u8],
+    samples: &[i32],
+    sums: &mut [u64; 16],
+    planes: &mut [u64; 48],
+    picks: &mut [u64],
+    out: &mut [u32],
+) -> Heard
+    ensures { λ r. ⌜ HearsLent live core (now (sums .entry)) (now (planes .entry)) (now (picks .entry)) (pieceWith marked (now (marks .entry)) (now (samples .entry))) (now (out .entry))
+        r (now (sums .exit)) (now (planes .exit)) (now (picks .exit)) (now (out .exit)) ⌝ }
+{
+    if !lent_fit(live, core, sums, picks) {
+        return nothing_heard(core, Why::Closed);
+    }
+    if !pieces::fits(marked, marks, samples.len()) {
+        return nothing_heard(core, Why::Uneven);
+    }
+    pieces::hear_symbols(core, marked, marks, samples, sums, planes, picks, out)
+}
+
+// The same of a piece without marks.
 pub fn hear_lent(
     live: bool,
     core: Core,
@@ -68,26 +94,30 @@ pub fn hear_lent(
     ensures { λ r. ⌜ HearsLent live core (now (sums .entry)) (now (planes .entry)) (now (picks .entry)) (pieceOf (now (samples .entry))) (now (out .entry))
         r (now (sums .exit)) (now (planes .exit)) (now (picks .exit)) (now (out .exit)) ⌝ }
 {
-    if !lent_fit(live, core, sums, picks) {
-        return nothing_heard(core, Why::Closed);
-    }
-    if samples.len() % 4 != 0 {
-        return nothing_heard(core, Why::Uneven);
-    }
-    pieces::hear_symbols(core, samples, sums, planes, picks, out)
+    let none = [0u8; 0];
+    hear_piece_lent(live, core, false, &none, samples, sums, planes, picks, out)
 }
 
-// A piece of four coordinates to a symbol. Refused as a whole where the receiver is closed or the length is no multiple of 4. The
-// receiver is taken apart once, its arrays are lent to each symbol, and it is put together again at the end.
-pub fn hear(rx: Receiver, samples: &[i32], out: &mut [u32]) -> Answer
-    ensures { λ r. ⌜ Hears rx (pieceOf (now (samples .entry))) (now (out .entry)) r (now (out .exit)) ⌝ }
+// A piece to a whole receiver: it is taken apart once, its arrays are lent to each symbol, and it is put together again at the end.
+fn hear_piece(rx: Receiver, marked: bool, marks: &[u8], samples: &[i32], out: &mut [u32]) -> Answer
+    ensures { λ r. ⌜ Hears rx (pieceWith marked (now (marks .entry)) (now (samples .entry))) (now (out .entry)) r (now (out .exit)) ⌝ }
 {
     let live = rx.live;
     let core = rx.core;
     let mut sums = rx.sums;
     let mut planes = rx.planes;
     let mut picks = rx.picks;
-    let h = hear_lent(live, core, samples, &mut sums, &mut planes, &mut picks, out);
+    let h = hear_piece_lent(
+        live,
+        core,
+        marked,
+        marks,
+        samples,
+        &mut sums,
+        &mut planes,
+        &mut picks,
+        out,
+    );
     let after = h.core;
     let why = h.why;
     Answer {
@@ -102,6 +132,22 @@ pub fn hear(rx: Receiver, samples: &[i32], out: &mut [u32]) -> Answer
         written: h.written,
         why: why,
     }
+}
+
+// A piece of four coordinates to a symbol. Refused as a whole where the receiver is closed or the length is no multiple of 4.
+pub fn hear(rx: Receiver, samples: &[i32], out: &mut [u32]) -> Answer
+    ensures { λ r. ⌜ Hears rx (pieceOf (now (samples .entry))) (now (out .entry)) r (now (out .exit)) ⌝ }
+{
+    let none = [0u8; 0];
+    hear_piece(rx, false, &none, samples, out)
+}
+
+// The same with a mark for each symbol: 0 both points heard, 1 the first missing, 2 the second, 3 both. The coordinates of a missing
+// point are there, and are not looked at. Refused as a whole, with 10, also where the marks are not one for each symbol or one is above 3.
+pub fn hear_marked(rx: Receiver, samples: &[i32], marks: &[u8], out: &mut [u32]) -> Answer
+    ensures { λ r. ⌜ Hears rx (markedPiece (now (marks .entry)) (now (samples .entry))) (now (out .entry)) r (now (out .exit)) ⌝ }
+{
+    hear_piece(rx, true, marks, samples, out)
 }
 
 // The pending words of the answer, and a closed receiver. Refused where there is no room for all of them.

@@ -10,7 +10,6 @@ use Prim.Native.Nat.{ℕ, _≤_, _<_}
 use native.Mathlib.Omega.{arith}
 use borrow.Author.Tests.{le-ltb, lt-ltb}
 use lib.Dec.{eqb, ltb}
-use lib.IntN.{ℤ}
 use lib.ListN.{length, getD, take, drop}
 use Rattle.points.specs.declared.Accord.{Accord}
 use Rattle.reasons.specs.Reason.{givenOf}
@@ -18,7 +17,7 @@ use Rattle.openings.specs.declared.Start.the-variants.{Free}
 use Rattle.openings.specs.Given.{plainWindow, startAt}
 use Rattle.openings.specs.Opening.{opening}
 use Rattle.openings.proofs.Openings.{opening-opens}
-use Rattle.told.specs.Piece.{pieceOf}
+use Rattle.told.specs.Piece.{Piece}
 use Rattle.tape.specs.Front.{spaceOf}
 use Rattle.taping.specs.Taping.{Ran}
 use Rattle.recorder.specs.declared.Taped.{Taped}
@@ -74,13 +73,13 @@ answered c changed r state out bytes told e n state′ o b told′ a =
     }
 
 module _ (state out bytes told : List ℕ) (n : ℕ) (state′ o b told′ : List ℕ) where
-  abbrev heard : List ℤ → Ran
-  heard piece = tapedHearing (receiverIn state) (pieceOf piece) (length out) (length bytes)
+  abbrev heard : Piece → Ran
+  heard piece = tapedHearing (receiverIn state) piece (length out) (length bytes)
 
   abbrev finished : Ran
   finished = tapedFinishing (receiverIn state) (length out) (length bytes)
 
-  heard-by : 4 ≤ length told → (piece : List ℤ) → Records (hearCall state piece out bytes told) n state′ o b told′ → Answered (heard piece) out bytes n state′ o b told′
+  heard-by : 4 ≤ length told → (piece : Piece) → Records (hearCall state piece out bytes told) n state′ o b told′ → Answered (heard piece) out bytes n state′ o b told′
   unfolding hearCall
   heard-by long piece a =
       answered (hearCall state piece out bytes told) (ltb 0 (heard piece .taken)) (heard piece) state out bytes told (rw (le-ltb (length told) 4 long)) n state′ o b told′ a
@@ -90,7 +89,7 @@ module _ (state out bytes told : List ℕ) (n : ℕ) (state′ o b told′ : Lis
   ended-by long a =
       answered (finishCall state out bytes told) (eqb (givenOf (finished .why) .number) 0) finished state out bytes told (rw (le-ltb (length told) 4 long)) n state′ o b told′ a
 
-  untold : length told < 4 → (piece : List ℤ) → Records (hearCall state piece out bytes told) n state′ o b told′ → receiverIn state′ ≡ receiverIn state
+  untold : length told < 4 → (piece : Piece) → Records (hearCall state piece out bytes told) n state′ o b told′ → receiverIn state′ ≡ receiverIn state
   unfolding hearCall
   untold few piece a = a .reads ∙ rw (lt-ltb (length told) 4 few)
 
@@ -129,9 +128,9 @@ module _ (k : Accord) (w s : ℕ) where
   recording ws bs state (opens before st m p z bytes b n t e) = opened before st m p z bytes b n t e
   recording ws bs state (hears {ws = vs} {bs = cs} {state = st} h piece out bytes told long n st′ o b told′ a) =
       let d = heard-by st out bytes told n st′ o b told′ long piece a in
-      let r = tapedHearing (receiverIn st) (pieceOf piece) (length out) (length bytes) in
+      let r = tapedHearing (receiverIn st) piece (length out) (length bytes) in
       rw (d .written-is, d .recorded-is, d .reads)
-      (doors.hears (recording vs cs st h) (pieceOf piece) out bytes o b (answer r) (tapes (receiverIn st) (pieceOf piece) out bytes (answer r) o b (d .is)))
+      (doors.hears (recording vs cs st h) piece out bytes o b (answer r) (tapes (receiverIn st) piece out bytes (answer r) o b (d .is)))
   recording ws bs state (refuses {ws = vs} {bs = cs} {state = st} h out bytes told long n st′ o b told′ a z) =
       let d = ended-by st out bytes told n st′ o b told′ long a in
       let r = tapedFinishing (receiverIn st) (length out) (length bytes) in

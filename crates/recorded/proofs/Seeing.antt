@@ -7,15 +7,18 @@ use mathlib.Core.List.{List, [], _∷_, _++_, append-nil}
 use Prim.Native.Nat.{ℕ, _+_, _*_, _^_, _<_, _≤_}
 use native.Mathlib.Nat.{add-zero}
 use native.Mathlib.Omega.{arith}
-use borrow.Author.Tests.{eq-eqb, le-ltb, leb-true}
-use lib.Dec.{leb, ltb}
-use lib.IntN.{ℤ}
+use borrow.Author.Tests.{eq-eqb, eqb-true, le-ltb, le-leb, leb-true}
+use lib.Dec.{eqb, leb, ltb}
+use lib.IntN.{ℤ, natAbs}
 use lib.ListN.{length}
 use lib.Pow.{pow-mono}
 use Rattle.calls.specs.Calls.{walk, fresh, rest}
 use Rattle.trellis.specs.Measure.{Two}
 use Rattle.trellis.specs.Lists.{Every}
+use Rattle.nearest.specs.declared.Spot.{Spot}
 use Rattle.nearest.specs.declared.Received.{Received}
+use Rattle.nearest.specs.declared.Received.the-variants.{Heard, Missing}
+use Rattle.nearest.specs.Line.{InRange}
 use Rattle.points.specs.declared.Accord.{Accord}
 use Rattle.machine.proofs.Owed.{fresh-most, rest-most}
 use Rattle.reasons.specs.Reason.{Reason, reason}
@@ -23,14 +26,14 @@ use Rattle.openings.specs.Given.{startAt}
 use Rattle.openings.specs.Given as given
 use Rattle.openings.specs.Opening.{openingOwed}
 use Rattle.told.specs.Told.{Told, withHeard, speakerOf, pendingAfter, faultOf, judgeSymbol, Fine}
-use Rattle.told.specs.Piece.{symbolFrom, pieceOf}
+use Rattle.told.specs.Piece.{markedSymbol, markedPiece}
 use Rattle.told.specs.Owed.{Owed, pieceOwed, FinishOwed, finishOwed}
 use Rattle.told.proofs.Telling.{telling-judge}
 use Rattle.told.proofs.Speaks.{fresh-below, rest-below}
 use Rattle.records.specs.Kinds.{kindOf}
-use Rattle.records.specs.Values.{Entry, openEntry, wordEntry, finishEntry, coordinatesOf}
+use Rattle.records.specs.Values.{Entry, openEntry, symbolEntry, markedEntry, wordEntry, finishEntry, halfBytes, coordinatesFrom}
 use Rattle.records.proofs.Back.{word-back, coordinate-back}
-use Rattle.tape.specs.Front.{symbolRecord, wordEntries, symbolRecords, finishRecords}
+use Rattle.tape.specs.Front.{spotOf, markFor, symbolRecord, wordEntries, symbolRecords, finishRecords}
 use Rattle.replay_step.specs.declared.Verdict.the-variants.{Agree}
 use Rattle.replay.specs.Meaning.{Line, closed, told, Seen, nothingSeen, answered, taking, takings}
 
@@ -74,11 +77,28 @@ module _ (t : Told) (ys : List (Two Received)) (y : Two Received) where
       go false false false d e = refl
 
 -- the piece of one symbol
-one-owed : (t : Told) (a b c d : ℤ) → judgeSymbol t (t .heard) (symbolFrom a b c d) 65 ≡ reason 0 →
-    pieceOwed t (pieceOf (a ∷ b ∷ c ∷ d ∷ [])) 65
-    ≡ record { reason = reason 0; taken = 1; words = fresh (speakerOf t) (t .heard) (symbolFrom a b c d); told = withHeard t (symbolFrom a b c d ∷ t .heard) }
+one-owed : (t : Told) (m : ℕ) (a b c d : ℤ) (y : Two Received) → markedSymbol m a b c d ≡ y → m ≤ 3 → judgeSymbol t (t .heard) y 65 ≡ reason 0 →
+    pieceOwed t (markedPiece (m ∷ []) (a ∷ b ∷ c ∷ d ∷ [])) 65
+    ≡ record { reason = reason 0; taken = 1; words = fresh (speakerOf t) (t .heard) y; told = withHeard t (y ∷ t .heard) }
 unfolding pieceOwed walk
-one-owed t a b c d j = rw (j, append-nil (fresh (speakerOf t) (t .heard) (symbolFrom a b c d)))
+one-owed t m a b c d y e few j = rw (le-leb m 3 few, e, j, append-nil (fresh (speakerOf t) (t .heard) y))
+
+-- ---- what the record of a symbol says
+
+abbrev Near : Spot → Type 0
+Near s = (natAbs (s .x) < 32768) × (natAbs (s .y) < 32768)
+
+spot-near : (h : Received) → InRange h → Near (spotOf h)
+spot-near (Heard s) r = (omega (arith, r .x-in), omega (arith, r .y-in))
+spot-near Missing r = (omega arith, omega arith)
+
+-- the mark and the spots are those of the symbol
+symbol-back : (a b : Received) → let p = spotOf a in let q = spotOf b in
+    (markedSymbol (markFor (record { first = a; second = b })) (p .x) (p .y) (q .x) (q .y) ≡ record { first = a; second = b }) × (markFor (record { first = a; second = b }) ≤ 3)
+symbol-back (Heard a) (Heard b) = (refl, omega arith)
+symbol-back (Heard a) Missing = (refl, omega arith)
+symbol-back Missing (Heard b) = (refl, omega arith)
+symbol-back Missing Missing = (refl, omega arith)
 
 -- words of a line fit 32 bits
 word-small : (u w : ℕ) → u ≤ 8 → w < 2 ^ (3 + 2 * u) → w < 4294967296
@@ -104,24 +124,43 @@ module _ (t : Told) (ys : List (Two Received)) (f : Fine (withHeard t ys)) (y : 
   again : judgeSymbol (withHeard t ys) ys y 65 ≡ reason 0
   again = telling-judge t ys ys y 65 ∙ roomy t ys y room z (omega (arith, few))
 
-  read : coordinatesOf (symbolRecord y .body) ≡ y .first .x ∷ y .first .y ∷ y .second .x ∷ y .second .y ∷ []
-  read =
-      let r = g .each .0 in
-      rw (
-        coordinate-back (y .first .x) (omega (arith, r .first-in .x-in)),
-        coordinate-back (y .first .y) (omega (arith, r .first-in .y-in)),
-        coordinate-back (y .second .x) (omega (arith, r .second-in .x-in)),
-        coordinate-back (y .second .y) (omega (arith, r .second-in .y-in)),
-      )
+  abbrev p : Spot
+  p = spotOf (y .first)
+
+  abbrev q : Spot
+  q = spotOf (y .second)
+
+  abbrev mark : ℕ
+  mark = markFor y
+
+  -- a record of kind 2 or 5 is heard as the piece of the symbol
+  owed : pieceOwed (withHeard t ys) (markedPiece (mark ∷ []) (p .x ∷ p .y ∷ q .x ∷ q .y ∷ [])) 65
+      ≡ record { reason = reason 0; taken = 1; words = ws; told = withHeard t (y ∷ ys) }
+  owed = let b = symbol-back (y .first) (y .second) in one-owed (withHeard t ys) mark (p .x) (p .y) (q .x) (q .y) y (b .0) (b .1) again
 
   taken : (m n : ℕ) → taking (seen (told (withHeard t ys)) [] m n) (symbolRecord y) ≡ seen (told (withHeard t (y ∷ ys))) ws (m + 1) n
   unfolding taking kindOf
-  taken m n =
-      ap (λ (xs : List ℤ). heardAs m n (pieceOwed (withHeard t ys) (pieceOf xs) 65)) read
-      ∙ ap (heardAs m n) (one-owed (withHeard t ys) (y .first .x) (y .first .y) (y .second .x) (y .second .y) again)
+  taken m n = go (eqb mark 0) refl
     where
-      heardAs : ℕ → ℕ → Owed → Seen
-      heardAs m n d = answered (seen (told (withHeard t ys)) [] m n) (d .reason .number) (told (d .told)) (d .words)
+      a : Near p
+      a = spot-near (y .first) (g .each .0 .first-in)
+
+      b : Near q
+      b = spot-near (y .second) (g .each .0 .second-in)
+
+      heardAs : Owed → Seen
+      heardAs d = answered (seen (told (withHeard t ys)) [] m n) (d .reason .number) (told (d .told)) (d .words)
+
+      heard : ℕ → List ℤ → Seen
+      heard k xs = heardAs (pieceOwed (withHeard t ys) (markedPiece (k ∷ []) xs) 65)
+
+      read : _≡_ {A = List ℤ} (coordinatesFrom 0 (halfBytes (p .x) (halfBytes (p .y) (halfBytes (q .x) (halfBytes (q .y) []))))) (p .x ∷ p .y ∷ q .x ∷ q .y ∷ [])
+      read = rw (coordinate-back (p .x) (a .0), coordinate-back (p .y) (a .1), coordinate-back (q .x) (b .0), coordinate-back (q .y) (b .1))
+
+      go : (c : Bool) → eqb mark 0 ≡ c → taking (seen (told (withHeard t ys)) [] m n) (cond c (symbolEntry (p .x) (p .y) (q .x) (q .y)) (markedEntry mark (p .x) (p .y) (q .x) (q .y)))
+          ≡ seen (told (withHeard t (y ∷ ys))) ws (m + 1) n
+      go true e = ap (heard 0) read ∙ ap (λ (k : ℕ). heard k (p .x ∷ p .y ∷ q .x ∷ q .y ∷ [])) (sym (eqb-true mark 0 e)) ∙ ap heardAs owed
+      go false e = ap (heard mark) read ∙ ap heardAs owed
 
   pub symbol-seen : (m n : ℕ) → takings (seen (told (withHeard t ys)) [] m n) (symbolRecords y ws) ≡ seen (told (withHeard t (y ∷ ys))) [] (m + 1 + length ws) (n + length ws)
   unfolding takings

@@ -6,10 +6,10 @@
 use Prim.Native.Nat.{ℕ, _≤_, _<_}
 use mathlib.Core.Path.{_≡_}
 use mathlib.Core.List.{List, [], _++_}
-use lib.IntN.{ℤ}
 use lib.ListN.{length, getD, take}
 use Rattle.points.specs.declared.Accord.{Accord}
 use Rattle.openings.specs.Given.{startAt}
+use Rattle.told.specs.Piece.{Piece}
 use Rattle.recorder.specs.Promise.{OpenTaped}
 use Rattle.stored.specs.State.{receiverIn}
 use Rattle.taped.specs.Calls.{hearCall, finishCall}
@@ -28,15 +28,16 @@ pub data LibraryRecords (k : Accord) (w s : ℕ) : List ℕ → List ℕ → Lis
   -- the plain opening is the one with its own window and the start number 16
   opens : (before state : List ℕ) (m : ℕ) → library.Opens receiverIn (receiverOpening before k w (startAt s)) m state → m ≡ 0 →
       (bytes b : List ℕ) (n : ℕ) → OpenTaped k w s bytes n b → n ≡ 0 → LibraryRecords k w s [] (take 4 b) state
+  -- a piece with marks or without them
   hears : {ws bs state : List ℕ} → LibraryRecords k w s ws bs state →
-      (piece : List ℤ) (out bytes told : List ℕ) → 4 ≤ length told → (n : ℕ) (state′ o b told′ : List ℕ) → Records (hearCall state piece out bytes told) n state′ o b told′ →
+      (piece : Piece) (out bytes told : List ℕ) → 4 ≤ length told → (n : ℕ) (state′ o b told′ : List ℕ) → Records (hearCall state piece out bytes told) n state′ o b told′ →
       LibraryRecords k w s (ws ++ take (written told′) o) (bs ++ take (recorded told′) b) state′
   refuses : {ws bs state : List ℕ} → LibraryRecords k w s ws bs state →
       (out bytes told : List ℕ) → 4 ≤ length told → (n : ℕ) (state′ o b told′ : List ℕ) → Records (finishCall state out bytes told) n state′ o b told′ → (n ≡ 0 → ⊥) →
       LibraryRecords k w s (ws ++ take (written told′) o) (bs ++ take (recorded told′) b) state′
   -- a `told` that is too short is an 8, and nothing happens
   short : {ws bs state : List ℕ} → LibraryRecords k w s ws bs state →
-      (piece : List ℤ) (out bytes told : List ℕ) → length told < 4 → (n : ℕ) (state′ o b told′ : List ℕ) → Records (hearCall state piece out bytes told) n state′ o b told′ →
+      (piece : Piece) (out bytes told : List ℕ) → length told < 4 → (n : ℕ) (state′ o b told′ : List ℕ) → Records (hearCall state piece out bytes told) n state′ o b told′ →
       LibraryRecords k w s ws bs state′
   short-finish : {ws bs state : List ℕ} → LibraryRecords k w s ws bs state →
       (out bytes told : List ℕ) → length told < 4 → (n : ℕ) (state′ o b told′ : List ℕ) → Records (finishCall state out bytes told) n state′ o b told′ →

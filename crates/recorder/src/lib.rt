@@ -7,7 +7,7 @@ use points::Accord;
 use reasons::Why;
 use taping::Kept;
 ghost use mathlib.Core.Path.{_≡_};
-ghost use Rattle.told.specs.Piece.{pieceOf};
+ghost use Rattle.told.specs.Piece.{pieceWith, markedPiece, pieceOf};
 ghost use Rattle.receiver.specs.Promise.{partsOf};
 ghost use Rattle.recorder.specs.Promise.{OpenTaped, TapesLent, Tapes, FinishTaped};
 
@@ -50,10 +50,12 @@ fn nothing_kept(core: Core, why: Why) -> Kept
     }
 }
 
-// A piece to a receiver in its parts, whose lists are lent, as `receiver::hear_lent` takes it.
-pub fn hear_lent(
+// A piece, with the marks where `marked` says so, to a receiver in its parts, whose lists are lent, as `receiver::hear_piece_lent` takes it.
+pub fn hear_piece_lent(
     live: bool,
     core: Core,
+    marked: bool,
+    marks: &[u8],
     samples: &[i32],
     sums: &mut [u64; 16],
     planes: &mut [u64; 48],
@@ -61,7 +63,7 @@ pub fn hear_lent(
     out: &mut [u32],
     bytes: &mut [u8],
 ) -> Kept
-    ensures { λ r. ⌜ TapesLent (partsOf live core (now (sums .entry)) (now (planes .entry)) (now (picks .entry))) (pieceOf (now (samples .entry)))
+    ensures { λ r. ⌜ TapesLent (partsOf live core (now (sums .entry)) (now (planes .entry)) (now (picks .entry))) (pieceWith marked (now (marks .entry)) (now (samples .entry)))
         (now (out .entry)) (now (bytes .entry))
         r (now (sums .exit)) (now (planes .exit)) (now (picks .exit)) (now (out .exit)) (now (bytes .exit)) ⌝ }
 {
@@ -71,24 +73,43 @@ pub fn hear_lent(
     if !openings::parts_fit(live, core, sums) {
         return nothing_kept(core, Why::Closed);
     }
-    if samples.len() % 4 != 0 {
+    if !pieces::fits(marked, marks, samples.len()) {
         return nothing_kept(core, Why::Uneven);
     }
-    taping::record_symbols(core, samples, sums, planes, picks, out, bytes)
+    taping::record_symbols(
+        core,
+        marked,
+        marks,
+        samples,
+        sums,
+        planes,
+        picks,
+        out,
+        bytes,
+    )
 }
 
-// A piece of four coordinates to a symbol.
-pub fn hear(rx: Receiver, samples: &[i32], out: &mut [u32], bytes: &mut [u8]) -> Taped
-    ensures { λ r. ⌜ Tapes rx (pieceOf (now (samples .entry))) (now (out .entry)) (now (bytes .entry)) r (now (out .exit)) (now (bytes .exit)) ⌝ }
+// A piece to a whole receiver.
+fn hear_piece(
+    rx: Receiver,
+    marked: bool,
+    marks: &[u8],
+    samples: &[i32],
+    out: &mut [u32],
+    bytes: &mut [u8],
+) -> Taped
+    ensures { λ r. ⌜ Tapes rx (pieceWith marked (now (marks .entry)) (now (samples .entry))) (now (out .entry)) (now (bytes .entry)) r (now (out .exit)) (now (bytes .exit)) ⌝ }
 {
     let live = rx.live;
     let core = rx.core;
     let mut sums = rx.sums;
     let mut planes = rx.planes;
     let mut picks = rx.picks;
-    let h = hear_lent(
+    let h = hear_piece_lent(
         live,
         core,
+        marked,
+        marks,
         samples,
         &mut sums,
         &mut planes,
@@ -111,6 +132,27 @@ pub fn hear(rx: Receiver, samples: &[i32], out: &mut [u32], bytes: &mut [u8]) ->
         recorded: h.recorded,
         why: why,
     }
+}
+
+// A piece of four coordinates to a symbol.
+pub fn hear(rx: Receiver, samples: &[i32], out: &mut [u32], bytes: &mut [u8]) -> Taped
+    ensures { λ r. ⌜ Tapes rx (pieceOf (now (samples .entry))) (now (out .entry)) (now (bytes .entry)) r (now (out .exit)) (now (bytes .exit)) ⌝ }
+{
+    let none = [0u8; 0];
+    hear_piece(rx, false, &none, samples, out, bytes)
+}
+
+// The same with a mark for each symbol. The record of one with a missing point has its mark, and zeros in the places of that point.
+pub fn hear_marked(
+    rx: Receiver,
+    samples: &[i32],
+    marks: &[u8],
+    out: &mut [u32],
+    bytes: &mut [u8],
+) -> Taped
+    ensures { λ r. ⌜ Tapes rx (markedPiece (now (marks .entry)) (now (samples .entry))) (now (out .entry)) (now (bytes .entry)) r (now (out .exit)) (now (bytes .exit)) ⌝ }
+{
+    hear_piece(rx, true, marks, samples, out, bytes)
 }
 
 fn stopped(rx: Receiver, why: Why) -> Taped

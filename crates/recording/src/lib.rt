@@ -49,15 +49,26 @@ fn end_line(
     line: &[u8],
     coordinates: &mut [i32],
     words: &mut [u32],
+    marks: &mut [u8],
     bytes: &mut [u8],
     page: &mut [u8],
 ) -> Turn
-    requires { ⌜ (length (now coordinates) ≡ 4096) × (length (now words) ≡ 4096) × (length (now page) ≡ 98304) × (t .part .held ≤ length (now line)) ⌝ }
+    requires { ⌜ (length (now coordinates) ≡ 4096) × (length (now words) ≡ 4096) × (length (now marks) ≡ 1024) × (length (now page) ≡ 98304) × (t .part .held ≤ length (now line)) ⌝ }
     ensures { λ r. ⌜ r .part .held ≡ 0 ⌝ }
 {
     let part = t.part;
     let rx = t.receiver;
-    let n = noting::line(rx, t.begun, part, line, coordinates, words, bytes, page);
+    let n = noting::line(
+        rx,
+        t.begun,
+        part,
+        line,
+        coordinates,
+        words,
+        marks,
+        bytes,
+        page,
+    );
     let after = n.receiver;
     let on = put_out(n, bytes, page);
     Turn {
@@ -75,14 +86,15 @@ fn byte(
     line: &mut [u8],
     coordinates: &mut [i32],
     words: &mut [u32],
+    marks: &mut [u8],
     bytes: &mut [u8],
     page: &mut [u8],
 ) -> Turn
-    requires { ⌜ (length (now coordinates) ≡ 4096) × (length (now words) ≡ 4096) × (length (now page) ≡ 98304) × (t .part .held ≤ length (now line)) ⌝ }
+    requires { ⌜ (length (now coordinates) ≡ 4096) × (length (now words) ≡ 4096) × (length (now marks) ≡ 1024) × (length (now page) ≡ 98304) × (t .part .held ≤ length (now line)) ⌝ }
     ensures { λ r. ⌜ r .part .held ≤ length (now (line .entry)) ⌝ }
 {
     if b == b'\n' {
-        return end_line(t, line, coordinates, words, bytes, page);
+        return end_line(t, line, coordinates, words, marks, bytes, page);
     }
     let rx = t.receiver;
     let part = t.part;
@@ -102,10 +114,11 @@ fn hear_chunk(
     line: &mut [u8],
     coordinates: &mut [i32],
     words: &mut [u32],
+    marks: &mut [u8],
     bytes: &mut [u8],
     page: &mut [u8],
 ) -> Turn
-    requires { ⌜ (length (now coordinates) ≡ 4096) × (length (now words) ≡ 4096) × (length (now page) ≡ 98304) × (t .part .held ≤ length (now line)) ⌝ }
+    requires { ⌜ (length (now coordinates) ≡ 4096) × (length (now words) ≡ 4096) × (length (now marks) ≡ 1024) × (length (now page) ≡ 98304) × (t .part .held ≤ length (now line)) ⌝ }
     ensures { λ r. ⌜ r .part .held ≤ length (now (line .entry)) ⌝ }
 {
     let mut now = t;
@@ -113,7 +126,7 @@ fn hear_chunk(
     while i < chunk.len() && now.on {
         let b = chunk[i];
         i += 1;
-        now = byte(now, b, line, coordinates, words, bytes, page);
+        now = byte(now, b, line, coordinates, words, marks, bytes, page);
     }
     now
 }
@@ -132,17 +145,18 @@ fn at_end(
     line: &[u8],
     coordinates: &mut [i32],
     words: &mut [u32],
+    marks: &mut [u8],
     bytes: &mut [u8],
     page: &mut [u8],
 ) -> Turn
-    requires { ⌜ (length (now coordinates) ≡ 4096) × (length (now words) ≡ 4096) × (length (now page) ≡ 98304) × (t .part .held ≤ length (now line)) ⌝ }
+    requires { ⌜ (length (now coordinates) ≡ 4096) × (length (now words) ≡ 4096) × (length (now marks) ≡ 1024) × (length (now page) ≡ 98304) × (t .part .held ≤ length (now line)) ⌝ }
     ensures { λ r. ⌜ r .part .held ≤ length (now (line .entry)) ⌝ }
 {
     let part = t.part;
     if part.held == 0 && !part.long {
         return stopped(t);
     }
-    stopped(end_line(t, line, coordinates, words, bytes, page))
+    stopped(end_line(t, line, coordinates, words, marks, bytes, page))
 }
 
 // One read. Where it fails, what was gathered is no line.
@@ -152,10 +166,11 @@ fn read_once(
     line: &mut [u8],
     coordinates: &mut [i32],
     words: &mut [u32],
+    marks: &mut [u8],
     bytes: &mut [u8],
     page: &mut [u8],
 ) -> Turn
-    requires { ⌜ (length (now coordinates) ≡ 4096) × (length (now words) ≡ 4096) × (length (now page) ≡ 98304) × (t .part .held ≤ length (now line)) ⌝ }
+    requires { ⌜ (length (now coordinates) ≡ 4096) × (length (now words) ≡ 4096) × (length (now marks) ≡ 1024) × (length (now page) ≡ 98304) × (t .part .held ≤ length (now line)) ⌝ }
     ensures { λ r. ⌜ r .part .held ≤ length (now (line .entry)) ⌝ }
 {
     let got = libc::read(STDIN_FILENO, chunk);
@@ -164,19 +179,20 @@ fn read_once(
         return stopped(t);
     }
     if got == 0 {
-        return at_end(t, line, coordinates, words, bytes, page);
+        return at_end(t, line, coordinates, words, marks, bytes, page);
     }
     let n = io::count(got, chunk);
-    hear_chunk(t, &chunk[..n], line, coordinates, words, bytes, page)
+    hear_chunk(t, &chunk[..n], line, coordinates, words, marks, bytes, page)
 }
 
-// The bytes hold the records of any line: 9 for each of 1,024 symbols, 5 for each of 4096 words. So no line is refused for want of them.
+// The bytes hold the records of any line: 10 at most for each of 1,024 symbols, 5 for each of 4096 words. So no line is refused for want of them.
 pub fn run() {
     let mut chunk = [0u8; 65536];
     let mut line = [0u8; 65536];
     let mut coordinates = [0i32; 4096];
     let mut words = [0u32; 4096];
-    let mut bytes = [0u8; 29696];
+    let mut marks = [0u8; 1024];
+    let mut bytes = [0u8; 30720];
     let mut page = [0u8; 98304];
     let mut now = Turn {
         receiver: openings::closed_receiver(),
@@ -193,6 +209,7 @@ pub fn run() {
             &mut line,
             &mut coordinates,
             &mut words,
+            &mut marks,
             &mut bytes,
             &mut page,
         );

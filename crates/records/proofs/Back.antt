@@ -17,8 +17,9 @@ use lib.Seq.{take-append-seam, drop-append-seam, length-take-le}
 use Rattle.records.specs.declared.Phase.{Phase}
 use Rattle.records.specs.declared.Phase.the-variants.{Start}
 use Rattle.records.specs.Kinds.{kindOf, mayStand, afterRole, begins}
-use Rattle.records.specs.Values.{Entry, entry, numberOf, coordinateOf, halfOf, bytesOf}
-use Rattle.records.specs.Reading.{clean, malformed, Reading, stopsAt, followedBy, nothingMore, readingFrom, readingOf, WellFormed}
+use Rattle.records.specs.Values.{Entry, entry, numberOf, coordinateOf, halfOf, bodyFits, bytesOf}
+use Rattle.records.specs.Reading.{clean, malformed, Reading, stopsAt, followedBy, nothingMore, stands, readingFrom, readingOf, WellFormed}
+use Rattle.records.proofs.Fits.{both-true}
 
 -- ---- values
 
@@ -64,8 +65,8 @@ read-back-from (suc n) p at (r ∷ rs) h l =
     let e : length (b ++ bytesOf rs) ≡ length b + length (bytesOf rs) = length-append b (bytesOf rs) in
     let q = afterRole p (kindOf (r .kind) .role) in
     let ih : readingFrom n q (at + 1 + length b) (bytesOf rs) ≡ record { records = rs; ending = clean } =
-    read-back-from n q (at + 1 + length b) rs (h .2) (omega arith) in
-    rw (h .0, sym (h .1), le-leb (length b) (length (b ++ bytesOf rs)) (omega arith), take-append-seam b (bytesOf rs), drop-append-seam b (bytesOf rs), ih)
+    read-back-from n q (at + 1 + length b) rs (h .3) (omega arith) in
+    rw (h .0, sym (h .1), le-leb (length b) (length (b ++ bytesOf rs)) (omega arith), take-append-seam b (bytesOf rs), drop-append-seam b (bytesOf rs), h .2, ih)
 
 pub read-back : (rs : List Entry) → WellFormed Start rs → readingOf (bytesOf rs) ≡ record { records = rs; ending = clean }
 unfolding readingOf
@@ -92,7 +93,7 @@ exact-from zero p at [] l = nothing-exact p at
 exact-from zero p at (b ∷ bs) l = absurd (none-left (length bs) l)
 exact-from (suc n) p at [] l = nothing-exact p at
 exact-from (suc n) p at (k ∷ bs) l =
-    go (mayStand p (kindOf k .role)) refl (leb m (length bs)) refl
+    go (mayStand p (kindOf k .role)) refl (stands k bs) refl
     (exact-from n (afterRole p (kindOf k .role)) (at + 1 + m) (drop m bs) (omega (arith, length-drop m bs)))
   where
     m : ℕ
@@ -101,14 +102,15 @@ exact-from (suc n) p at (k ∷ bs) l =
     rest : Reading
     rest = readingFrom n (afterRole p (kindOf k .role)) (at + 1 + m) (drop m bs)
 
-    go : (s : Bool) → mayStand p (kindOf k .role) ≡ s → (t : Bool) → leb m (length bs) ≡ t → Exact (afterRole p (kindOf k .role)) (drop m bs) rest
+    go : (s : Bool) → mayStand p (kindOf k .role) ≡ s → (t : Bool) → stands k bs ≡ t → Exact (afterRole p (kindOf k .role)) (drop m bs) rest
         → Exact p (k ∷ bs) (cond s (cond t (followedBy (entry k (take m bs)) rest) (stopsAt (malformed at))) (stopsAt (malformed at)))
     go false a t w ih = never-clean p (k ∷ bs) at
     go true a false w ih = never-clean p (k ∷ bs) at
     go true a true w ih =
+        let v = both-true (leb m (length bs)) (bodyFits k (take m bs)) w in
         record {
           bytes = λ z. ap (λ (r : List ℕ). k ∷ r) (ap (λ (r : List ℕ). take m bs ++ r) (ih .bytes z) ∙ take-append-drop m bs);
-          formed = λ z. (a, length-take-le m bs (leb-true m (length bs) w), ih .formed z);
+          formed = λ z. (a, length-take-le m bs (leb-true m (length bs) (v .0)), v .1, ih .formed z);
         }
 
 pub read-exact : (bs : List ℕ) → Exact Start bs (readingOf bs)

@@ -7,8 +7,8 @@ ghost use mathlib.Core.Path.{_≡_};
 ghost use Prim.Native.Nat.{_+_, _≤_};
 ghost use lib.IntN.{natAbs};
 ghost use Rattle.records.specs.Kinds.{kindOf, mayStand, afterRole};
-ghost use Rattle.records.specs.Values.{coordinateOf, numberOf};
-ghost use Rattle.records.specs.Frames.{capped, stageAt, begun, grown, fresh, pushed};
+ghost use Rattle.records.specs.Values.{byteFits, leadOf, coordinateOf, numberOf};
+ghost use Rattle.records.specs.Frames.{capped, stageAt, begun, mayGrow, grown, fresh, pushed};
 
 // What a record is for.
 pub enum Role {
@@ -48,7 +48,7 @@ pub struct Frame {
     pub phase: Phase,
     pub kind: u8,
     pub have: usize,
-    pub body: [u8; 8],
+    pub body: [u8; 9],
     pub at: u64,
     pub fed: u64,
 }
@@ -79,6 +79,12 @@ pub fn kind_of(k: u8) -> Kind
         return Kind {
             role: Role::Finish,
             size: 0,
+        };
+    }
+    if k == 5 {
+        return Kind {
+            role: Role::Symbol,
+            size: 9,
         };
     }
     Kind {
@@ -160,7 +166,7 @@ pub fn start() -> Frame
         phase: Phase::Start,
         kind: 0,
         have: 0,
-        body: [0u8; 8],
+        body: [0u8; 9],
         at: 0,
         fed: 0,
     }
@@ -196,14 +202,47 @@ fn begin(f: Frame, k: u8) -> Frame
     }
 }
 
-// A byte of a body. (A frame that has eight bytes and waits for more is none that `push` gave.)
+// Whether b may be the byte i of a body that begins with `mark`. A symbol of which points are missing has a mark first, and zeros in their
+// places; nothing else is asked.
+pub fn byte_fits(kind: u8, mark: u8, i: usize, b: u8) -> bool
+    ensures { λ r. ⌜ r ≡ byteFits kind mark i b ⌝ }
+{
+    if kind != 5 {
+        return true;
+    }
+    if i == 0 {
+        return 1 <= b && b <= 3;
+    }
+    if b == 0 {
+        return true;
+    }
+    if i < 5 {
+        return mark % 2 != 1;
+    }
+    mark < 2
+}
+
+// Whether the byte b may come next in a body. (A frame that has nine bytes and waits for more is none that `push` gave.)
+fn may_grow(f: Frame, b: u8) -> bool
+    ensures { λ r. ⌜ r ≡ mayGrow f b ⌝ }
+{
+    let i = f.have;
+    let body = f.body;
+    let mark = body[0];
+    if i >= 9 {
+        return false;
+    }
+    byte_fits(f.kind, mark, i, b)
+}
+
+// A byte of a body.
 fn grow(f: Frame, b: u8) -> Frame
     ensures { λ r. ⌜ r ≡ grown f b ⌝ }
 {
     let phase = f.phase;
     let have = f.have;
     let mut body = f.body;
-    if have >= 8 {
+    if !may_grow(f, b) {
         return Frame {
             stage: Stage::Bad,
             phase: phase,
@@ -238,6 +277,13 @@ pub fn push(f: Frame, b: u8) -> Frame
         Stage::Whole => begin(f, b),
         Stage::Bad => f,
     }
+}
+
+// How many bytes stand before a symbol's coordinates: its mark, in a record of kind 5.
+pub fn lead(k: u8) -> usize
+    ensures { λ r. ⌜ (r ≡ leadOf k) × (r ≤ 1) ⌝ }
+{
+    if k == 5 { 1 } else { 0 }
 }
 
 // A coordinate: a signed number of 16 bits, low byte first.

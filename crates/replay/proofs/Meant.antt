@@ -19,7 +19,7 @@ use Rattle.reasons.specs.declared.Why.{Why}
 use Rattle.reasons.specs.Reason.{Reason, reason, givenOf}
 use Rattle.calls.specs.Calls.{rest}
 use Rattle.told.specs.Told.{Told, Fine, FineList, speakerOf, pendingAfter}
-use Rattle.told.specs.Piece.{Piece, pieceOf}
+use Rattle.told.specs.Piece.{Piece, markedPiece}
 use Rattle.told.specs.Owed.{pieceOwed, FinishOwed, finishOwed}
 use Rattle.openings.specs.Given.{startAt}
 use Rattle.openings.specs.Opening.{Opening, opening, openingOwed, Opens}
@@ -34,7 +34,7 @@ use Rattle.records.specs.declared.Stage.{Stage}
 use Rattle.records.specs.declared.Stage.the-variants.{Fresh, Part, Whole, Bad}
 use Rattle.records.specs.declared.Frame.{Frame}
 use Rattle.records.specs.Kinds.{kindOf}
-use Rattle.records.specs.Values.{Entry, widthOf, windowOf, startOf, coordinatesOf, wordOf}
+use Rattle.records.specs.Values.{Entry, widthOf, windowOf, startOf, markIn, coordinatesOf, wordOf}
 use Rattle.records.specs.Reading.{Ending, clean, malformed, readingOf}
 use Rattle.records.specs.Frames.{capped, fresh, following, endingOf, endingAt, cappedEnding}
 use Rattle.records.proofs.Counts.{capped-more}
@@ -163,15 +163,19 @@ module _ (s : State) (m : Seen) (p : Shows s m) where
   abbrev heardAs : Told → Piece → Seen
   heardAs t q = let d = pieceOwed t q 65 in answered m (d .reason .number) (told (d .told)) (d .words)
 
-  answers-symbol : (l : Line) (q : Piece) → s .receiver ≡ receiverOf l → FineLine l → (b : List ℕ) → q ≡ pieceOf (coordinatesOf b)
-      → Shows (code.answered s (hearing (s .receiver) q (length (s .due)))) (hears m l b)
-  answers-symbol closed q e f b z =
+  -- the piece that a symbol's record is
+  abbrev pieceIn : ℕ → List ℕ → Piece
+  pieceIn k b = markedPiece (markIn k b ∷ []) (coordinatesOf k b)
+
+  answers-symbol : (l : Line) (q : Piece) → s .receiver ≡ receiverOf l → FineLine l → (k : ℕ) (b : List ℕ) → q ≡ pieceIn k b
+      → Shows (code.answered s (hearing (s .receiver) q (length (s .due)))) (hears m l k b)
+  answers-symbol closed q e f k b z =
       let g : hearing (s .receiver) q (length (s .due)) ≡ _ = ap (λ (rx : Receiver). hearing rx q (length (s .due))) e ∙ shut-hears q (length (s .due)) in
       subst (λ (r : Ran). Shows (code.answered s r) (answered m 9 closed [])) (sym g) (either _ 9 closed [] refl (λ k. absurd (nine k)))
     where
       nine : _≡_ {A = ℕ} 9 0 → ⊥
       nine k = omega arith
-  answers-symbol (told t) q e f b z =
+  answers-symbol (told t) q e f k b z =
       let w : s .receiver ≡ machineOf t = e in
       let d : OwedBy (hearing (machineOf t) q 65) (pieceOwed t q 65) = hearing-owes t f q 65 in
       let g : hearing (s .receiver) q (length (s .due)) ≡ hearing (machineOf t) q 65 = rw (e, p .long) in
@@ -218,16 +222,16 @@ module _ (s : State) (m : Seen) (p : Shows s m) where
 
   -- ---- a record
 
-  shows-role : (r : Role) (n : ℕ) (b : List ℕ) → Shows (code.byRole r s (capped n) b) (byRole r m n b)
+  shows-role : (r : Role) (n k : ℕ) (b : List ℕ) → Shows (code.byRole r s (capped n) k b) (byRole r m n k b)
   unfolding code.heard code.finished
-  shows-role Open n b = shows-open b
-  shows-role Symbol n b = unless-left _ _ (answers-symbol (m .line) (pieceOf (coordinatesOf b)) (p .receiver) (p .fine) b refl)
-  shows-role Word n b = subst (λ (l : List ℕ). Shows (code.worded s (capped n) (wordOf b) l) (says m n (wordOf b) (m .due))) (sym (p .due)) (says-word n (wordOf b) (m .due) (p .due))
-  shows-role Finish n b = unless-left _ _ (answers-finish (m .line) (p .receiver) (p .fine))
-  shows-role Unknown n b = p
+  shows-role Open n k b = shows-open b
+  shows-role Symbol n k b = unless-left _ _ (answers-symbol (m .line) (pieceIn k b) (p .receiver) (p .fine) k b refl)
+  shows-role Word n k b = subst (λ (l : List ℕ). Shows (code.worded s (capped n) (wordOf b) l) (says m n (wordOf b) (m .due))) (sym (p .due)) (says-word n (wordOf b) (m .due) (p .due))
+  shows-role Finish n k b = unless-left _ _ (answers-finish (m .line) (p .receiver) (p .fine))
+  shows-role Unknown n k b = p
 
   shows-upon : (v : Verdict) (r : Entry) → m .verdict ≡ v → Shows (code.upon (cappedVerdict v) s r) (upon v m r)
-  shows-upon (Agree n) r e = shows-role (kindOf (r .kind) .role) n (r .body)
+  shows-upon (Agree n) r e = shows-role (kindOf (r .kind) .role) n (r .kind) (r .body)
   shows-upon (Differs n g h) r e = p
   shows-upon (Extra n g) r e = p
   shows-upon (Missing n h) r e = p
@@ -354,6 +358,6 @@ pending-few t f = go (t .heard) (f .each)
     go [] h = omega arith
     go (y ∷ ys) h = omega (arith, h .1, f .small-window)
 
--- no symbol record is refused with 8
-pub never-eight : (t : Told) → Fine t → (b : List ℕ) → pieceOwed t (pieceOf (coordinatesOf b)) room .reason .number ≡ 8 → ⊥
-never-eight t f b = never-short t f (pieceOf (coordinatesOf b)) 65 (omega (arith, pending-few t f))
+-- no symbol's record is refused with 8
+pub never-eight : (t : Told) → Fine t → (k : ℕ) (b : List ℕ) → pieceOwed t (markedPiece (markIn k b ∷ []) (coordinatesOf k b)) room .reason .number ≡ 8 → ⊥
+never-eight t f k b = never-short t f (markedPiece (markIn k b ∷ []) (coordinatesOf k b)) 65 (omega (arith, pending-few t f))

@@ -1,8 +1,9 @@
 -- 02's whole case, and one capture for each kind of fault, computed: the machine is run on the bytes, and by `verdict-meant` what it finds is
 -- the verdict that is meant.
 --   whole w     02's whole case, whose last byte is w
---   rows        agree; another word; one missing; one too many; refused, an open and a symbol; no finish
---   form-rows   malformed: an empty capture, a cut record, kinds 5 and 6, a second open, a word after the open, a symbol after the finish
+--   rows        agree; another word; one missing; one too many; refused, an open and a symbol; no finish; a symbol whose first point is missing
+--   form-rows   malformed: an empty capture, a cut record, kind 5 with a wrong mark or filler, kind 6, a second open, a word after the open,
+--               a symbol after the finish
 use mathlib.Core.Path.{_≡_, refl, sym, _∙_}
 use mathlib.Core.List.{List, [], _∷_, _++_}
 use Prim.Native.Nat.{ℕ}
@@ -23,13 +24,13 @@ use Rattle.planes.specs.Planes.{carried, movedWords, movedOf, sameFrom, oldest}
 use Rattle.select.specs.Select.{arrive, winner, sumAt, firstStep, reachedOf, liveOf, followed, stepAt}
 use Rattle.sums.specs.Sums.{endOf, allUpTo}
 use Rattle.picks.specs.Picks.{numbersOf, symbolBy, keptIn}
-use Rattle.told.specs.Told.{faultOf}
+use Rattle.told.specs.Told.{faultAt, faultOf}
 use Rattle.machine.specs.Machine.{freshSums, opened, shut, wayFrom, agreedOf, releasedOf, grown, taking, lastSymbols, soundCore, sound}
 use Rattle.openings.specs.Opening.{opening}
 use Rattle.pieces.specs.Running.{symbolAt, running}
 use Rattle.receiver.specs.Doors.{hearing, finishing}
 use Rattle.records.specs.Kinds.{kindOf}
-use Rattle.records.specs.Values.{coordinateOf, numberOf}
+use Rattle.records.specs.Values.{coordinateOf, numberOf, byteFits}
 use Rattle.records.specs.Frames as frames
 use Rattle.replay_step.specs.declared.Verdict.{Verdict}
 use Rattle.replay_step.specs.declared.Verdict.the-variants.{Agree, Differs, Extra, Missing, Refused, Malformed}
@@ -60,11 +61,14 @@ meant bs v e = sym (verdict-meant bs) ∙ e
 
 computed-form : (replayed [] ≡ Malformed 0)
     × (replayed (open-record ++ (5 ∷ [])) ≡ Malformed 4)
+    × (replayed (open-record ++ (5 ∷ 4 ∷ [])) ≡ Malformed 4)
+    × (replayed (open-record ++ (5 ∷ 2 ∷ 1 ∷ 0 ∷ 0 ∷ 0 ∷ 1 ∷ [])) ≡ Malformed 4)
     × (replayed (6 ∷ 0 ∷ 64 ∷ 16 ∷ []) ≡ Malformed 0)
     × (replayed (open-record ++ open-record) ≡ Malformed 4)
     × (replayed (open-record ++ the-word 0) ≡ Malformed 4)
-unfolding feedings stepped settled code.took code.opened code.left frames.pushed frames.begun frames.grown frames.capped kindOf opening opened freshSums shut
-computed-form = (refl, refl, refl, refl, refl)
+unfolding feedings stepped settled code.took code.opened code.left frames.pushed frames.begun frames.grown frames.mayGrow frames.capped kindOf byteFits
+    opening opened freshSums shut
+computed-form = (refl, refl, refl, refl, refl, refl, refl)
 
 computed : (replayed (whole 0) ≡ Agree 1)
     × (replayed (whole 1) ≡ Differs 3 16777216 0)
@@ -75,12 +79,13 @@ computed : (replayed (whole 0) ≡ Agree 1)
     × (replayed (open-record ++ symbol) ≡ Agree 0)
     × (replayed (open-record ++ symbol ++ (4 ∷ 3 ∷ 0 ∷ [])) ≡ Malformed 14)
     × (replayed (whole 0 ++ symbol) ≡ Malformed 19)
+    × (replayed (open-record ++ (5 ∷ 1 ∷ 0 ∷ 0 ∷ 0 ∷ 0 ∷ 0 ∷ 0 ∷ 0 ∷ 0 ∷ []) ++ (4 ∷ []) ++ the-word 0) ≡ Agree 1)
 unfolding feedings stepped settled code.took code.opened code.heard code.finished code.answered code.unlessDue code.left frames.pushed frames.begun
-    frames.grown frames.capped kindOf coordinateOf numberOf opening hearing finishing sound soundCore allUpTo opened shut freshSums running symbolAt
-    faultOf taking agreedOf grown releasedOf oldest sameFrom carried movedWords movedOf tabled followed liveOf reachedOf sumAt stepAt firstStep winner
+    frames.grown frames.mayGrow frames.capped kindOf byteFits coordinateOf numberOf opening hearing finishing sound soundCore allUpTo opened shut freshSums running symbolAt
+    faultAt faultOf taking agreedOf grown releasedOf oldest sameFrom carried movedWords movedOf tabled followed liveOf reachedOf sumAt stepAt firstStep winner
     arrive weighedOf costOf bestI3 typeSum counted gapOf near least lineDistance distance pointOf aPoint coordinates secondLabel before between
     carryI1 carryI2 wayFrom range speak after endOf lastSymbols symbolBy numbersOf keptIn word wordParts packed
-computed = (refl, refl, refl, refl, refl, refl, refl, refl, refl)
+computed = (refl, refl, refl, refl, refl, refl, refl, refl, refl, refl)
 
 abbrev says : List ℕ → Verdict → Type 0
 says bs v = cappedVerdict (verdictOf bs) ≡ v
@@ -92,10 +97,23 @@ pub rows : says (whole 0) (Agree 1)
     × says (1 ∷ 9 ∷ 64 ∷ 16 ∷ []) (Refused 0 1)
     × says (open-record ++ (2 ∷ 255 ∷ 127 ∷ 0 ∷ 0 ∷ 0 ∷ 0 ∷ 0 ∷ 0 ∷ [])) (Refused 1 5)
     × says (open-record ++ symbol) (Agree 0)
-rows = (meant _ _ (computed .0), meant _ _ (computed .1), meant _ _ (computed .2), meant _ _ (computed .3), meant _ _ (computed .4), meant _ _ (computed .5), meant _ _ (computed .6))
+    × says (open-record ++ (5 ∷ 1 ∷ 0 ∷ 0 ∷ 0 ∷ 0 ∷ 0 ∷ 0 ∷ 0 ∷ 0 ∷ []) ++ (4 ∷ []) ++ the-word 0) (Agree 1)
+rows = (
+  meant _ _ (computed .0),
+  meant _ _ (computed .1),
+  meant _ _ (computed .2),
+  meant _ _ (computed .3),
+  meant _ _
+      (computed .4),
+  meant _ _ (computed .5),
+  meant _ _ (computed .6),
+  meant _ _ (computed .9),
+)
 
 pub form-rows : says [] (Malformed 0)
     × says (open-record ++ (5 ∷ [])) (Malformed 4)
+    × says (open-record ++ (5 ∷ 4 ∷ [])) (Malformed 4)
+    × says (open-record ++ (5 ∷ 2 ∷ 1 ∷ 0 ∷ 0 ∷ 0 ∷ 1 ∷ [])) (Malformed 4)
     × says (6 ∷ 0 ∷ 64 ∷ 16 ∷ []) (Malformed 0)
     × says (open-record ++ open-record) (Malformed 4)
     × says (open-record ++ the-word 0) (Malformed 4)
@@ -107,6 +125,8 @@ form-rows = (
   meant _ _ (computed-form .2),
   meant _ _ (computed-form .3),
   meant _ _ (computed-form .4),
+  meant _ _ (computed-form .5),
+  meant _ _ (computed-form .6),
   meant _ _ (computed .7),
   meant _ _ (computed .8),
 )

@@ -1,4 +1,4 @@
--- The verdict on a capture, in the words of 02, Wish 2, record by record: what a reader believes. The receiver stands here as what it has
+-- The verdict on a capture, in the words of 02, Wishes 2 and 4, record by record: what a reader believes. The receiver stands here as what it has
 -- been told and what it owes for it (told/specs), not as a machine.
 --   Line            what the receiver has been told; closed before the open and after a finish
 --   Seen            the line, the words still due, the number of the next record, and the verdict so far: `Agree`, as long as no fault is found
@@ -11,7 +11,7 @@ use mathlib.Core.Bool.{cond}
 use mathlib.Core.List.{List, [], _∷_}
 use lib.Dec.{eqb}
 use Rattle.told.specs.Told.{Told}
-use Rattle.told.specs.Piece.{pieceOf}
+use Rattle.told.specs.Piece.{markedPiece}
 use Rattle.told.specs.Owed.{pieceOwed, finishOwed}
 use Rattle.openings.specs.Given.{startAt}
 use Rattle.openings.specs.Given as given
@@ -19,7 +19,7 @@ use Rattle.openings.specs.Opening.{openingOwed}
 use Rattle.records.specs.declared.Role.{Role}
 use Rattle.records.specs.declared.Role.the-variants.{Open, Symbol, Word, Finish, Unknown}
 use Rattle.records.specs.Kinds.{kindOf}
-use Rattle.records.specs.Values.{Entry, widthOf, windowOf, startOf, coordinatesOf, wordOf}
+use Rattle.records.specs.Values.{Entry, widthOf, windowOf, startOf, markIn, coordinatesOf, wordOf}
 use Rattle.records.specs.Reading.{Ending, clean, malformed, readingOf}
 use Rattle.replay_step.specs.declared.Verdict.{Verdict}
 use Rattle.replay_step.specs.declared.Verdict.the-variants.{Agree, Differs, Extra, Missing, Refused, Malformed}
@@ -60,10 +60,12 @@ opened b = record { accord = record { u = widthOf b }; window = windowOf b; star
 abbrev pub opens : Seen → List ℕ → Seen
 opens s b = answered s (openingOwed (record { u = widthOf b }) (windowOf b) (startAt (startOf b))) (told (opened b)) []
 
--- "Kind 2, symbol taken"; a line that is closed answers 9
-abbrev pub hears : Seen → Line → List ℕ → Seen
-hears s closed b = answered s 9 closed []
-hears s (told t) b = let d = pieceOwed t (pieceOf (coordinatesOf b)) room in answered s (d .reason .number) (told (d .told)) (d .words)
+-- "Kind 2, symbol taken", and kind 5, a symbol with missing points: a piece of one symbol with its mark, in kind 2 none; a closed line answers 9
+abbrev pub hears : Seen → Line → ℕ → List ℕ → Seen
+hears s closed k b = answered s 9 closed []
+hears s (told t) k b =
+    let d = pieceOwed t (markedPiece (markIn k b ∷ []) (coordinatesOf k b)) room in
+    answered s (d .reason .number) (told (d .told)) (d .words)
 
 -- "Kind 4, finish"
 abbrev pub ends : Seen → Line → Seen
@@ -80,15 +82,15 @@ abbrev pub says : Seen → ℕ → ℕ → List ℕ → Seen
 says s n g [] = fault s (Extra (s .number) g)
 says s n g (h ∷ hs) = cond (eqb g h) (record { line = s .line; due = hs; number = s .number + 1; verdict = Agree (n + 1) }) (fault s (Differs (s .number) g h))
 
-abbrev pub byRole : Role → Seen → ℕ → List ℕ → Seen
-byRole Open s n b = opens s b
-byRole Symbol s n b = unlessDue s (s .due) (hears s (s .line) b)
-byRole Word s n b = says s n (wordOf b) (s .due)
-byRole Finish s n b = unlessDue s (s .due) (ends s (s .line))
-byRole Unknown s n b = s
+abbrev pub byRole : Role → Seen → ℕ → ℕ → List ℕ → Seen
+byRole Open s n k b = opens s b
+byRole Symbol s n k b = unlessDue s (s .due) (hears s (s .line) k b)
+byRole Word s n k b = says s n (wordOf b) (s .due)
+byRole Finish s n k b = unlessDue s (s .due) (ends s (s .line))
+byRole Unknown s n k b = s
 
 abbrev pub upon : Verdict → Seen → Entry → Seen
-upon (Agree n) s r = byRole (kindOf (r .kind) .role) s n (r .body)
+upon (Agree n) s r = byRole (kindOf (r .kind) .role) s n (r .kind) (r .body)
 upon (Differs n g h) s r = s
 upon (Extra n g) s r = s
 upon (Missing n h) s r = s

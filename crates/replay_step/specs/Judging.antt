@@ -2,7 +2,7 @@
 --   State, stateOf j ..    a judge together with the receiver's lists and the words that are due
 --   left shown given due   the words that are still due; firstDue the next of them
 --   answeredBy j why ..    the judge after the receiver's answer; tookWord j n g: after a word, where n agreed before it
---   opened s u w b         an open; heard s body: a symbol; finished s: a finish
+--   opened s u w b         an open; heard s k body: a symbol, in a record of kind k; finished s: a finish
 --   took s r               a record: after a fault nothing is looked at
 use Prim.Native.Nat.{ℕ, _+_}
 use mathlib.Core.Bool.{Bool, cond}
@@ -13,7 +13,7 @@ use Rattle.machine.specs.declared.Core.{Core}
 use Rattle.machine.specs.declared.Receiver.{Receiver}
 use Rattle.reasons.specs.declared.Why.{Why}
 use Rattle.reasons.specs.Reason.{givenOf, isDone}
-use Rattle.told.specs.Piece.{pieceOf}
+use Rattle.told.specs.Piece.{markedPiece}
 use Rattle.openings.specs.Given.{startAt}
 use Rattle.openings.specs.Opening.{opening}
 use Rattle.receiver.specs.Doors.{Ran, hearing, finishing}
@@ -21,7 +21,7 @@ use Rattle.receiver.specs.Promise.{partsOf}
 use Rattle.records.specs.declared.Role.{Role}
 use Rattle.records.specs.declared.Role.the-variants.{Open, Symbol, Word, Finish, Unknown}
 use Rattle.records.specs.Kinds.{kindOf}
-use Rattle.records.specs.Values.{Entry, widthOf, windowOf, startOf, coordinatesOf, wordOf}
+use Rattle.records.specs.Values.{Entry, widthOf, windowOf, startOf, markIn, coordinatesOf, wordOf}
 use Rattle.records.specs.Frames.{capped}
 use Rattle.replay_step.specs.declared.Verdict.{Verdict}
 use Rattle.replay_step.specs.declared.Verdict.the-variants.{Agree, Differs, Extra, Missing, Refused, Malformed}
@@ -113,14 +113,14 @@ abbrev pub leftOf : State → List ℕ
 leftOf s = left (s .shown) (s .given) (s .due)
 
 -- a symbol or a finish where no word is due
-abbrev pub hears : State → List ℕ → State
-hears s body = answered s (hearing (s .receiver) (pieceOf (coordinatesOf body)) (length (s .due)))
+abbrev pub hears : State → ℕ → List ℕ → State
+hears s k body = answered s (hearing (s .receiver) (markedPiece (markIn k body ∷ []) (coordinatesOf k body)) (length (s .due)))
 
 abbrev pub finishes : State → State
 finishes s = answered s (finishing (s .receiver) (length (s .due)))
 
-unfoldable pub heard : State → List ℕ → State
-heard s body = unlessDue s (leftOf s) (hears s body)
+unfoldable pub heard : State → ℕ → List ℕ → State
+heard s k body = unlessDue s (leftOf s) (hears s k body)
 
 unfoldable pub finished : State → State
 finished s = unlessDue s (leftOf s) (finishes s)
@@ -141,15 +141,16 @@ abbrev pub worded : State → ℕ → ℕ → List ℕ → State
 worded s n g [] = faulted s (Extra (s .records) g)
 worded s n g (h ∷ hs) = cond (eqb g h) (agreedMore s n) (faulted s (Differs (s .records) g h))
 
-abbrev pub byRole : Role → State → ℕ → List ℕ → State
-byRole Open s n body = opened s (widthOf body) (windowOf body) (startOf body)
-byRole Symbol s n body = heard s body
-byRole Word s n body = worded s n (wordOf body) (leftOf s)
-byRole Finish s n body = finished s
-byRole Unknown s n body = s
+-- a record of kind k, where n words have agreed before it
+abbrev pub byRole : Role → State → ℕ → ℕ → List ℕ → State
+byRole Open s n k body = opened s (widthOf body) (windowOf body) (startOf body)
+byRole Symbol s n k body = heard s k body
+byRole Word s n k body = worded s n (wordOf body) (leftOf s)
+byRole Finish s n k body = finished s
+byRole Unknown s n k body = s
 
 abbrev pub upon : Verdict → State → Entry → State
-upon (Agree n) s r = byRole (kindOf (r .kind) .role) s n (r .body)
+upon (Agree n) s r = byRole (kindOf (r .kind) .role) s n (r .kind) (r .body)
 upon (Differs n g h) s r = s
 upon (Extra n g) s r = s
 upon (Missing n h) s r = s

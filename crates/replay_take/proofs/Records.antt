@@ -6,14 +6,14 @@
 --   role-is, symbol-role, finish-role, word-state   a record by its role
 --   took-agree, took-still      a record by the verdict so far
 --   four                        the coordinates that the code reads
-use mathlib.Core.Path.{_≡_, refl, sym, ap, subst, _∙_}
+use mathlib.Core.Path.{_≡_, refl, sym, ap, ap₂, subst, _∙_}
 use mathlib.Core.Bool.{Bool, true, false, cond}
 use mathlib.Core.List.{List, [], _∷_, _++_}
-use Prim.Native.Nat.{ℕ, _-_, _≤_}
+use Prim.Native.Nat.{ℕ, _+_, _-_, _≤_}
 use native.Mathlib.Omega.{arith}
 use lib.Dec.{eqb}
 use lib.IntN.{ℤ, natAbs}
-use lib.ListN.{length, drop}
+use lib.ListN.{getD, length, drop}
 use mir.Syntax.{w32}
 use mir.Val.{toZ, ofZ}
 use Rattle.points.proofs.Signed.{reads}
@@ -21,9 +21,9 @@ use Rattle.machine.specs.declared.Core.{Core}
 use Rattle.machine.specs.declared.Receiver.{Receiver}
 use Rattle.machine.specs.Machine.{sound, Outcome}
 use Rattle.reasons.specs.declared.Why.{Why}
-use Rattle.reasons.specs.declared.Why.the-variants.{Done, Closed}
+use Rattle.reasons.specs.declared.Why.the-variants.{Done, Closed, Uneven}
 use Rattle.reasons.specs.Reason.{Reason, givenOf, isDone}
-use Rattle.told.specs.Piece.{pieceOf, symbolFrom}
+use Rattle.told.specs.Piece.{Piece, markedPiece, markedSymbol}
 use Rattle.openings.specs.declared.Opened.{Opened}
 use Rattle.openings.specs.Given.{startAt}
 use Rattle.openings.specs.Opening.{opening, Opens}
@@ -38,7 +38,7 @@ use Rattle.records.specs.declared.Kind.{Kind}
 use Rattle.records.specs.declared.Role.{Role}
 use Rattle.records.specs.declared.Role.the-variants.{Symbol, Finish}
 use Rattle.records.specs.Kinds.{kindOf}
-use Rattle.records.specs.Values.{Entry, coordinatesOf}
+use Rattle.records.specs.Values.{Entry, leadOf, markIn, coordinateOf, coordinatesOf}
 use Rattle.replay_step.specs.declared.Verdict.{Verdict}
 use Rattle.replay_step.specs.declared.Verdict.the-variants.{Agree, Differs, Missing}
 use Rattle.replay_step.specs.declared.Judge.{Judge}
@@ -63,25 +63,29 @@ record Still (rx : Receiver) (r : Ran) : Type 0 where
   receiver : r .receiver ≡ rx
   words : r .words ≡ []
 
-abbrev heardOne : Receiver → ℤ → ℤ → ℤ → ℤ → ℕ → Ran
-heardOne rx a b c d room = hearing rx (pieceOf (a ∷ b ∷ c ∷ d ∷ [])) room
+abbrev heardOne : Receiver → ℕ → ℤ → ℤ → ℤ → ℤ → ℕ → Ran
+heardOne rx m a b c d room = hearing rx (markedPiece (m ∷ []) (a ∷ b ∷ c ∷ d ∷ [])) room
 
-hearing-still : (rx : Receiver) (a b c d : ℤ) (room : ℕ) → isDone (heardOne rx a b c d room .why) ≡ false → Still rx (heardOne rx a b c d room)
+hearing-still : (rx : Receiver) (m : ℕ) (a b c d : ℤ) (room : ℕ) → isDone (heardOne rx m a b c d room .why) ≡ false → Still rx (heardOne rx m a b c d room)
 unfolding hearing running
-hearing-still rx a b c d room = go (sound rx) (isDone (o .why)) refl
+hearing-still rx m a b c d room = go (sound rx) (markedPiece (m ∷ []) (a ∷ b ∷ c ∷ d ∷ []) .fits) (isDone (o .why)) refl
   where
     o : Outcome
-    o = symbolAt rx (symbolFrom a b c d) (room - 0)
+    o = symbolAt rx (markedSymbol m a b c d) (room - 0)
 
     one : Bool → Ran
     one t =
         cond t (record { receiver = o .receiver; taken = 1; words = o .words; why = Done })
         (record { receiver = rx; taken = 0; words = []; why = o .why })
 
-    go : (s t : Bool) → isDone (o .why) ≡ t → isDone (cond s (one t) (stopped rx Closed) .why) ≡ false → Still rx (cond s (one t) (stopped rx Closed))
-    go false t e h = record { receiver = refl; words = refl }
-    go true false e h = record { receiver = refl; words = refl }
-    go true true e h = absurd (not-done h)
+    all : Bool → Bool → Bool → Ran
+    all s f t = cond s (cond f (one t) (stopped rx Uneven)) (stopped rx Closed)
+
+    go : (s f t : Bool) → isDone (o .why) ≡ t → isDone (all s f t .why) ≡ false → Still rx (all s f t)
+    go false f t e h = record { receiver = refl; words = refl }
+    go true false t e h = record { receiver = refl; words = refl }
+    go true true false e h = record { receiver = refl; words = refl }
+    go true true true e h = absurd (not-done h)
 
 -- ---- the lists after an answer
 
@@ -153,29 +157,40 @@ module _ (j : Judge) (sums planes picks due : List ℕ) where
             let t = kept h in
             rw (z, d, h, number-is e, t .lists .sums-is, t .lists .planes-is, t .lists .picks-is, t .due-is)
 
-  module _ (body : List ℕ) (xs : List ℤ) (x : xs ≡ coordinatesOf body) (l : length picks ≡ 72) (h : Heard) (sums₁ planes₁ picks₁ due₁ : List ℕ)
-      (k : HearsLent (j .live) (j .core) sums planes picks (pieceOf xs) due h sums₁ planes₁ picks₁ due₁) where
+  module _ (kind : ℕ) (body : List ℕ) (m : ℕ) (n : m ≡ markIn kind body) (xs : List ℤ) (x : xs ≡ coordinatesOf kind body) (l : length picks ≡ 72)
+      (h : Heard) (sums₁ planes₁ picks₁ due₁ : List ℕ)
+      (k : HearsLent (j .live) (j .core) sums planes picks (markedPiece (m ∷ []) xs) due h sums₁ planes₁ picks₁ due₁) where
+    abbrev piece : Piece
+    piece = markedPiece (markIn kind body ∷ []) (coordinatesOf kind body)
+
+    abbrev i : ℕ
+    i = leadOf kind
+
+    abbrev at : ℕ → ℕ → ℤ
+    at a b = coordinateOf (getD body a 0) (getD body b 0)
+
     ran : Ran
-    ran = hearing (s .receiver) (pieceOf (coordinatesOf body)) (length due)
+    ran = hearing (s .receiver) piece (length due)
 
     is : Is ran due (answerOf (j .live) h sums₁ planes₁ picks₁) due₁
     unfolding ran
     is =
-        subst (λ (ys : List ℤ). Is (hearing (s .receiver) (pieceOf ys) (length due)) due (answerOf (j .live) h sums₁ planes₁ picks₁) due₁) x
-        (subst (λ (b : Bool). Is (hearing (partsOf b (j .core) sums planes picks) (pieceOf xs) (length due)) due (answerOf b h sums₁ planes₁ picks₁) due₁)
+        let e : markedPiece (m ∷ []) xs ≡ piece = ap₂ (λ (z : ℕ) (ys : List ℤ). markedPiece (z ∷ []) ys) n x in
+        subst (λ (p : Piece). Is (hearing (s .receiver) p (length due)) due (answerOf (j .live) h sums₁ planes₁ picks₁) due₁) e
+        (subst (λ (b : Bool). Is (hearing (partsOf b (j .core) sums planes picks) (markedPiece (m ∷ []) xs) (length due)) due (answerOf b h sums₁ planes₁ picks₁) due₁)
         (lent-live (j .live) picks l) k)
 
     kept : isDone (ran .why) ≡ false → Kept sums₁ planes₁ picks₁ due₁
     unfolding ran
     kept g =
-        let t : Still (s .receiver) ran = hearing-still (s .receiver) _ _ _ _ (length due) g in
+        let t : Still (s .receiver) ran = hearing-still (s .receiver) (markIn kind body) (at i (i + 1)) (at (i + 2) (i + 3)) (at (i + 4) (i + 5)) (at (i + 6) (i + 7)) (length due) g in
         let a : partsOf (j .live) (h .core) sums₁ planes₁ picks₁ ≡ s .receiver = is .receiver ∙ t .receiver in
         record {
           lists = record { sums-is = ap (λ (v : Receiver). v .sums) a; planes-is = ap (λ (v : Receiver). v .planes) a; picks-is = ap (λ (v : Receiver). v .picks) a };
           due-is = is .output ∙ rw (t .words);
         }
 
-    pub symbol-is : (r : Judge) → r ≡ answeredBy j (h .why) (j .live) (h .core) (h .written) → stateOf r sums₁ planes₁ picks₁ due₁ ≡ hears s body
+    pub symbol-is : (r : Judge) → r ≡ answeredBy j (h .why) (j .live) (h .core) (h .written) → stateOf r sums₁ planes₁ picks₁ due₁ ≡ hears s kind body
     unfolding ran
     symbol-is r z =
         answer-is ran (h .why) (j .live) (h .core) (h .written) r sums₁ planes₁ picks₁ due₁ (is .given) z
@@ -204,19 +219,19 @@ module _ (j : Judge) (sums planes picks due : List ℕ) where
 
   -- ---- a word that is due
 
-  module _ (ends : Bool) (body : List ℕ) where
-    pub undue-missing : (h : ℕ) → firstDue (leftOf s) ≡ Next h → (r : Judge) → r ≡ ruled j (Missing (j .records) h) → stateOf r sums planes picks due ≡ undue ends s body
+  module _ (ends : Bool) (kind : ℕ) (body : List ℕ) where
+    pub undue-missing : (h : ℕ) → firstDue (leftOf s) ≡ Next h → (r : Judge) → r ≡ ruled j (Missing (j .records) h) → stateOf r sums planes picks due ≡ undue ends s kind body
     unfolding undue
     undue-missing h e r z = rw z (missing-is s _ (leftOf s) h e)
 
     module _ (f : firstDue (leftOf s) ≡ None) (n : State) where
-      pub undue-ends : ends ≡ true → n ≡ finishes s → n ≡ undue ends s body
+      pub undue-ends : ends ≡ true → n ≡ finishes s → n ≡ undue ends s kind body
       unfolding undue
       undue-ends e z = rw e (z ∙ nothing-due s (finishes s) (leftOf s) f)
 
-      pub undue-hears : ends ≡ false → n ≡ hears s body → n ≡ undue ends s body
+      pub undue-hears : ends ≡ false → n ≡ hears s kind body → n ≡ undue ends s kind body
       unfolding undue
-      undue-hears e z = rw e (z ∙ nothing-due s (hears s body) (leftOf s) f)
+      undue-hears e z = rw e (z ∙ nothing-due s (hears s kind body) (leftOf s) f)
 
 -- ---- the coordinates that the code reads
 
@@ -243,12 +258,12 @@ pub role-is : {a b : Kind} {r : Role} → a ≡ b → a .role ≡ r → b .role 
 role-is e f = sym (ap (λ (k : Kind). k .role) e) ∙ f
 
 -- by its role: a symbol and a finish stand where no word is due
-module _ (s n : State) (w : ℕ) (body : List ℕ) {r : Role} where
-  pub symbol-role : r ≡ Symbol → n ≡ undue false s body → n ≡ byRole r s w body
+module _ (s n : State) (w k : ℕ) (body : List ℕ) {r : Role} where
+  pub symbol-role : r ≡ Symbol → n ≡ undue false s k body → n ≡ byRole r s w k body
   unfolding undue heard
   symbol-role e z = rw e z
 
-  pub finish-role : r ≡ Finish → n ≡ undue true s body → n ≡ byRole r s w body
+  pub finish-role : r ≡ Finish → n ≡ undue true s k body → n ≡ byRole r s w k body
   unfolding undue finished
   finish-role e z = rw e z
 
@@ -267,7 +282,7 @@ word-state j sums planes picks due n g w (h ∷ hs) r e z = rw (z, e) (go (eqb w
     go false = refl
 
 module _ (s : State) (r : Entry) where
-  pub took-agree : (n : ℕ) → s .verdict ≡ Agree n → byRole (kindOf (r .kind) .role) s n (r .body) ≡ took s r
+  pub took-agree : (n : ℕ) → s .verdict ≡ Agree n → byRole (kindOf (r .kind) .role) s n (r .kind) (r .body) ≡ took s r
   unfolding took
   took-agree n e = ap (λ (v : Verdict). upon v s r) (sym e)
 

@@ -1,7 +1,7 @@
 -- What the steps of a record do to the judge and the lists lent. What a whole record does is `took` (replay_step/specs/Judging).
 --   Laid why rx ..        the receiver's lists after an answer
 --   OpensLent j body ..   an open, whatever words lie in the list of those that are due
---   undue ends s body     a symbol, or a finish: a word that is due is missed first
+--   undue ends s k body   a symbol, or a finish: a word that is due is missed first
 use Prim.Native.Nat.{ℕ}
 use mathlib.Core.Path.{_≡_}
 use mathlib.Core.Bool.{Bool, cond}
@@ -22,5 +22,5 @@ abbrev pub OpensLent : Judge → List ℕ → List ℕ → List ℕ → List ℕ
 OpensLent j body sums planes picks r sums₁ planes₁ picks₁ =
     (due : List ℕ) → stateOf r sums₁ planes₁ picks₁ due ≡ opened (stateOf j sums planes picks due) (widthOf body) (windowOf body) (startOf body)
 
-unfoldable pub undue : Bool → State → List ℕ → State
-undue ends s body = unlessDue s (leftOf s) (cond ends (finishes s) (hears s body))
+unfoldable pub undue : Bool → State → ℕ → List ℕ → State
+undue ends s k body = unlessDue s (leftOf s) (cond ends (finishes s) (hears s k body))

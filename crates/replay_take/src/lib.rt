@@ -10,7 +10,7 @@ use replay_step::Judge;
 use replay_step::Verdict;
 ghost use mathlib.Core.Path.{_≡_};
 ghost use Rattle.records.specs.Kinds.{kindOf};
-ghost use Rattle.records.specs.Values.{coordinatesOf, entry};
+ghost use Rattle.records.specs.Values.{coordinatesOf, markIn, entry};
 ghost use Rattle.replay_step.specs.Judging.{stateOf, hears, finishes, byRole, took};
 ghost use Rattle.replay_take.specs.Lent.{Laid, OpensLent, undue};
 
@@ -31,7 +31,7 @@ fn lay(why: Why, rx: Receiver, sums: &mut [u64; 16], planes: &mut [u64; 48], pic
 
 fn take_open(
     j: Judge,
-    body: [u8; 8],
+    body: [u8; 9],
     sums: &mut [u64; 16],
     planes: &mut [u64; 48],
     picks: &mut [u64; 72],
@@ -49,32 +49,45 @@ fn take_open(
 }
 
 // A symbol's coordinates.
-fn piece_of(body: [u8; 8]) -> [i32; 4]
-    ensures { λ r. ⌜ r ≡ coordinatesOf body ⌝ }
+fn piece_of(k: u8, body: [u8; 9]) -> [i32; 4]
+    ensures { λ r. ⌜ r ≡ coordinatesOf k body ⌝ }
 {
+    let i = records::lead(k);
     [
-        records::coordinate(body[0], body[1]),
-        records::coordinate(body[2], body[3]),
-        records::coordinate(body[4], body[5]),
-        records::coordinate(body[6], body[7]),
+        records::coordinate(body[i], body[i + 1]),
+        records::coordinate(body[i + 2], body[i + 3]),
+        records::coordinate(body[i + 4], body[i + 5]),
+        records::coordinate(body[i + 6], body[i + 7]),
     ]
+}
+
+// A symbol's mark: 0, nothing missing, where its record has none.
+fn mark_of(k: u8, body: [u8; 9]) -> u8
+    ensures { λ r. ⌜ r ≡ markIn k body ⌝ }
+{
+    if k == 5 {
+        return body[0];
+    }
+    0
 }
 
 fn take_symbol(
     j: Judge,
-    body: [u8; 8],
+    k: u8,
+    body: [u8; 9],
     sums: &mut [u64; 16],
     planes: &mut [u64; 48],
     picks: &mut [u64; 72],
     due: &mut [u32],
 ) -> Judge
     ensures { λ r. ⌜ stateOf r (now (sums .exit)) (now (planes .exit)) (now (picks .exit)) (now (due .exit))
-        ≡ hears (stateOf j (now (sums .entry)) (now (planes .entry)) (now (picks .entry)) (now (due .entry))) body ⌝ }
+        ≡ hears (stateOf j (now (sums .entry)) (now (planes .entry)) (now (picks .entry)) (now (due .entry))) k body ⌝ }
 {
     let core = j.core;
-    let piece = piece_of(body);
+    let piece = piece_of(k, body);
+    let marks = [mark_of(k, body); 1];
     let lent: &mut [u64] = picks;
-    let h = receiver::hear_lent(j.live, core, &piece, sums, planes, lent, due);
+    let h = receiver::hear_piece_lent(j.live, core, true, &marks, &piece, sums, planes, lent, due);
     let why = h.why;
     let after = h.core;
     replay_step::answer(j, why, j.live, after, h.written)
@@ -110,14 +123,15 @@ fn take_finish(
 fn take_undue(
     j: Judge,
     ends: bool,
-    body: [u8; 8],
+    k: u8,
+    body: [u8; 9],
     sums: &mut [u64; 16],
     planes: &mut [u64; 48],
     picks: &mut [u64; 72],
     due: &mut [u32],
 ) -> Judge
     ensures { λ r. ⌜ stateOf r (now (sums .exit)) (now (planes .exit)) (now (picks .exit)) (now (due .exit))
-        ≡ undue ends (stateOf j (now (sums .entry)) (now (planes .entry)) (now (picks .entry)) (now (due .entry))) body ⌝ }
+        ≡ undue ends (stateOf j (now (sums .entry)) (now (planes .entry)) (now (picks .entry)) (now (due .entry))) k body ⌝ }
 {
     let d = replay_step::next_due(j, due);
     if let Due::Word(h) = d {
@@ -126,7 +140,7 @@ fn take_undue(
     if ends {
         return take_finish(j, sums, planes, picks, due);
     }
-    take_symbol(j, body, sums, planes, picks, due)
+    take_symbol(j, k, body, sums, planes, picks, due)
 }
 
 // A record of the kind k, where `words` words have agreed before it.
@@ -134,25 +148,25 @@ fn take_kind(
     j: Judge,
     words: u64,
     k: u8,
-    body: [u8; 8],
+    body: [u8; 9],
     sums: &mut [u64; 16],
     planes: &mut [u64; 48],
     picks: &mut [u64; 72],
     due: &mut [u32],
 ) -> Judge
     ensures { λ r. ⌜ stateOf r (now (sums .exit)) (now (planes .exit)) (now (picks .exit)) (now (due .exit))
-        ≡ byRole (kindOf k .role) (stateOf j (now (sums .entry)) (now (planes .entry)) (now (picks .entry)) (now (due .entry))) words body ⌝ }
+        ≡ byRole (kindOf k .role) (stateOf j (now (sums .entry)) (now (planes .entry)) (now (picks .entry)) (now (due .entry))) words k body ⌝ }
 {
     let kind = records::kind_of(k);
     let role = kind.role;
     match role {
         Role::Open => take_open(j, body, sums, planes, picks),
-        Role::Symbol => take_undue(j, false, body, sums, planes, picks, due),
+        Role::Symbol => take_undue(j, false, k, body, sums, planes, picks, due),
         Role::Word => {
             let g = records::number(body[0], body[1], body[2], body[3]);
             replay_step::take_word(j, words, g, due)
         }
-        Role::Finish => take_undue(j, true, body, sums, planes, picks, due),
+        Role::Finish => take_undue(j, true, k, body, sums, planes, picks, due),
         Role::Unknown => j,
     }
 }
@@ -161,7 +175,7 @@ fn take_kind(
 pub fn take(
     j: Judge,
     k: u8,
-    body: [u8; 8],
+    body: [u8; 9],
     sums: &mut [u64; 16],
     planes: &mut [u64; 48],
     picks: &mut [u64; 72],

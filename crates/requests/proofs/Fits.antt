@@ -14,10 +14,13 @@ use Rattle.wholes.specs.declared.Many.the-variants as many
 use Rattle.text.specs.declared.number.Number.{Number}
 use Rattle.text.specs.declared.number.Number.the-variants as number
 use Rattle.text.proofs.Digits.{got-most}
+use Rattle.marks.specs.Row.{countOf, rowOf}
+use Rattle.marks.proofs.Rows.{row-most}
 use Rattle.wholes.proofs.Lists.{many-most}
 use Rattle.requests.specs.declared.Request.{Request}
 use Rattle.requests.specs.declared.Request.the-variants as request
-use Rattle.requests.specs.Verb.{anyNumber, capNumber, just, both, one, two, senderOf, finishOf, sendOf, sampleOf, startOf, windowOf, openOf, receiverOf, heardOf, pieceOf, sentOf, listOf, Fit}
+use Rattle.requests.specs.Verb.{anyNumber, capNumber, just, both, one, two, Fit}
+use Rattle.requests.specs.Verb.{senderOf, finishOf, sendOf, sampleOf, startOf, windowOf, openOf, receiverOf, heardOf, pieceOf, markedBy, markedOf, sentOf, listOf}
 
 module _ (room : ℕ) where
   pub fit-cond : (b : Bool) {x y : Request} → Fit room x → Fit room y → Fit room (cond b x y)
@@ -48,7 +51,9 @@ module _ (room : ℕ) where
   fit-finish ts = fit-one (λ c. just request.Finish (capNumber c)) ts (λ c. fit-just request.Finish (capNumber c) (λ n e. record { sizes = got-most 10 4096 c e }))
 
   pub fit-sample : (ts : List (List ℕ)) → Fit room (sampleOf ts)
-  fit-sample ts = fit-two (λ x y. both request.Sample (hexOf x) (hexOf y)) ts (λ x y. fit-both request.Sample (hexOf x) (hexOf y) (λ m n e. record { sizes = tt }))
+  fit-sample [] = record { sizes = tt }
+  fit-sample (m ∷ []) = fit-cond (sameBytes m (bytes "missing")) (record { sizes = tt }) (record { sizes = tt })
+  fit-sample (x ∷ y ∷ ts) = fit-two _ (x ∷ y ∷ ts) (λ x y. fit-both request.Sample (hexOf x) (hexOf y) (λ m n e. record { sizes = tt }))
 
   pub fit-send : (ts : List (List ℕ)) → Fit room (sendOf ts)
   fit-send ts = fit-two (λ w c. both request.Send (anyNumber w) (capNumber c)) ts (λ w c. fit-both request.Send (anyNumber w) (capNumber c) (λ m n e. record { sizes = got-most 10 4096 c e }))
@@ -82,6 +87,18 @@ module _ (room : ℕ) where
   pub fit-piece : (ts : List (List ℕ)) → Fit room (pieceOf room ts)
   fit-piece [] = record { sizes = tt }
   fit-piece (c ∷ ts) = fit-heard (capNumber c) (manyOf wholeIn room ts) (λ n e. got-most 10 4096 c e) (λ n e. many-most wholeIn room ts e)
+
+  fit-marked-by : (o : Number) (k m : Many) → ((c : ℕ) → number.Got c ≡ o → c ≤ 4096) → ((n : ℕ) → many.Got n ≡ k → n ≤ 1024) → ((n : ℕ) → many.Got n ≡ m → n ≤ room) → Fit room (markedBy o k m)
+  fit-marked-by (number.Got c) (many.Got k) (many.Got n) f g h = record { sizes = (f c refl, g k refl, h n refl) }
+  fit-marked-by (number.Got c) (many.Got k) many.Bad f g h = record { sizes = tt }
+  fit-marked-by (number.Got c) many.Bad m f g h = record { sizes = tt }
+  fit-marked-by number.Bad k m f g h = record { sizes = tt }
+
+  pub fit-marked : (most : ℕ) (ts : List (List ℕ)) → Fit room (markedOf room most ts)
+  fit-marked most [] = record { sizes = tt }
+  fit-marked most (c ∷ []) = record { sizes = tt }
+  fit-marked most (c ∷ r ∷ ts) =
+      fit-marked-by (capNumber c) (countOf (rowOf most r)) (manyOf wholeIn room ts) (λ n e. got-most 10 4096 c e) (λ n e. row-most most r e) (λ n e. many-most wholeIn room ts e)
 
   fit-sent : (o : Number) (m : Many) → ((c : ℕ) → number.Got c ≡ o → c ≤ 4096) → Fit room (sentOf o m)
   fit-sent number.Bad m f = record { sizes = tt }

@@ -13,7 +13,8 @@ use lib.Seq.{take-all}
 use Rattle.text.specs.Bytes.{bytes}
 use Rattle.text.specs.Token.{tokens, lengthBefore, Cuts, sameBytes}
 use Rattle.text.specs.Number.{hexOf}
-use Rattle.wholes.specs.Many.{wholeIn, numberIn, Lists}
+use Rattle.wholes.specs.Many.{wholeIn, numberIn, manyOf, Lists}
+use Rattle.marks.specs.Row.{Row}
 use Rattle.wholes.specs.declared.Many.{Many}
 use Rattle.text.specs.declared.number.Number.{Number}
 use Rattle.text.specs.declared.number.Number.the-variants as number
@@ -21,7 +22,8 @@ use Rattle.text.proofs.Digits.{to-end}
 use Rattle.text.proofs.Tokens.{last-token, more-tokens, first-token, not-empty, spaced-number, spaced-hex, at-most-all}
 use Rattle.requests.specs.declared.Request.{Request}
 use Rattle.requests.specs.declared.Request.the-variants as request
-use Rattle.requests.specs.Verb.{anyNumber, capNumber, just, both, one, two, startOf, windowOf, openOf, receiverOf, heardOf, pieceOf, pieceFills, sentOf, listOf, listFills}
+use Rattle.requests.specs.Verb.{anyNumber, capNumber, just, both, one, two, coordinateFills, markedFills, marksAfter, marksOf, listFills}
+use Rattle.requests.specs.Verb.{startOf, windowOf, openOf, receiverOf, heardOf, pieceOf, markedBy, markedAfter, markedOf, sentOf, listOf, sampleOf}
 
 -- the text after the token that ends at n
 abbrev pub after : ℕ → List ℕ → List ℕ
@@ -109,15 +111,39 @@ module _ {s : List ℕ} {n : ℕ} (cut : Cuts 32 s n) where
     more [] g = absurd (g refl)
     more (t ∷ ts) g = refl
 
-  pub piece-bad : (list : List ℤ) → number.Bad ≡ capNumber (take n s) → (request.Unread ≡ pieceOf (length list) (tokens s)) × (list ≡ pieceFills (tokens s) list)
-  piece-bad list e = (rw (first-token s n (cut .is) .1, ← e), rw (first-token s n (cut .is) .1, ← e))
+  -- the tokens after the first, where the code has cut it off or found no more
+  pub no-more : n ≡ length s → drop 1 (tokens s) ≡ []
+  no-more h = rw (alone cut h)
 
-  pub piece-alone : (list : List ℤ) {c : ℕ} → n ≡ length s → number.Got c ≡ capNumber (take n s) → (request.Piece c 0 ≡ pieceOf (length list) (tokens s)) × (list ≡ pieceFills (tokens s) list)
-  piece-alone list h e = (rw (alone cut h, ← whole h) (rw (← e)), rw (alone cut h, ← whole h) (rw (← e)))
+  pub some-more : (n ≡ length s → ⊥) → drop 1 (tokens s) ≡ tokens (after n s)
+  some-more h = rw (cut-off cut h)
 
-  pub piece-more : {list list' : List ℤ} {c : ℕ} {m : Many} → (n ≡ length s → ⊥) → number.Got c ≡ capNumber (take n s) → Lists wholeIn (after n s) list m list'
-      → (heardOf (number.Got c) m ≡ pieceOf (length list) (tokens s)) × (list' ≡ pieceFills (tokens s) list)
-  piece-more h e l = (rw (cut-off cut h, ← e, l .answer), rw (cut-off cut h, ← e) (l .filled))
+  -- the cap, and what stands after it
+  pub piece-read : (room : ℕ) {o : Number} {m : Many} {r : Request} → o ≡ capNumber (take n s) → m ≡ manyOf wholeIn room (drop 1 (tokens s)) → r ≡ heardOf o m → r ≡ pieceOf room (tokens s)
+  piece-read room e f g = g ∙ rw (e, f, first-token s n (cut .is) .1)
+
+  pub marked-alone : (list : List ℤ) (marks : List ℕ) → n ≡ length s
+      → (request.Unread ≡ markedOf (length list) (length marks) (tokens s)) × ((list ≡ markedFills (tokens s) list) × (marks ≡ marksOf (tokens s) marks))
+  marked-alone list marks h = (rw (alone cut h), (rw (alone cut h), rw (alone cut h)))
+
+  -- the marks, and what stands after them
+  pub marked-after : (room : ℕ) (cap : Number) {marks marks' : List ℕ} {k m : Many} {r : Request} → Row (take n s) marks k marks' → m ≡ manyOf wholeIn room (drop 1 (tokens s)) → r ≡ markedBy cap k m
+      → (r ≡ markedAfter room (length marks) cap (tokens s)) × (marks' ≡ marksAfter (tokens s) marks)
+  marked-after room cap row f g = (g ∙ rw (row .count, f, first-token s n (cut .is) .1), row .filled ∙ rw (first-token s n (cut .is) .1))
+
+  pub marked-read : (list : List ℤ) (marks : List ℕ) {cap : Number} {list' : List ℤ} {marks' : List ℕ} {r : Request} → (n ≡ length s → ⊥) → cap ≡ capNumber (take n s)
+      → r ≡ markedAfter (length list) (length marks) cap (tokens (after n s)) → list' ≡ coordinateFills (drop 1 (tokens (after n s))) list → marks' ≡ marksAfter (tokens (after n s)) marks
+      → (r ≡ markedOf (length list) (length marks) (tokens s)) × ((list' ≡ markedFills (tokens s) list) × (marks' ≡ marksOf (tokens s) marks))
+  marked-read list marks h e f g k = (f ∙ rw (e, cut-off cut h), (g ∙ rw (cut-off cut h), k ∙ rw (cut-off cut h)))
+
+  pub sample-alone : (b : Bool) → n ≡ length s → b ≡ sameBytes s (bytes "missing") → cond b request.Missing request.Unread ≡ sampleOf (tokens s)
+  sample-alone b h e = rw (alone cut h, e)
+
+  pub sample-more : (n ≡ length s → ⊥) → two (λ x y. both request.Sample (hexOf x) (hexOf y)) (tokens s) ≡ sampleOf (tokens s)
+  sample-more h = rw (cut-off cut h) (more (tokens (after n s)) (not-empty (after n s))) where
+    more : (ts : List (List ℕ)) → (length ts ≡ 0 → ⊥) → two (λ x y. both request.Sample (hexOf x) (hexOf y)) (take n s ∷ ts) ≡ sampleOf (take n s ∷ ts)
+    more [] g = absurd (g refl)
+    more (t ∷ ts) g = refl
 
   pub list-bad : (list : List ℕ) → number.Bad ≡ capNumber (take n s) → (request.Unread ≡ listOf (length list) (tokens s)) × (list ≡ listFills (tokens s) list)
   list-bad list e = (rw (first-token s n (cut .is) .1, ← e), rw (first-token s n (cut .is) .1, ← e))

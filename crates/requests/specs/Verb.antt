@@ -7,21 +7,26 @@
 --   one g, two g            g of just one token or two, unread for any other count of them
 --   senderOf, sendOf, finishOf, sampleOf   what the tokens after these verbs ask for
 --   receiverOf              plain with a width alone, else a window and the start: `free`, or `at` and a state
+--   coordinateFills ts list the list lent for coordinates after the tokens ts: those at its start, up to the first that is none
 --   pieceOf room            a cap and the coordinates, no more than there is room for; none is the empty piece
---   pieceFills ts list      the list lent for coordinates after that: those of the piece at its start, up to the first that is none
+--   pieceFills ts list      the list lent for coordinates after that
+--   markedOf room most      a cap, the marks, for so many at most, and the coordinates: "MARKS absent, longer than 1,024 or with any other
+--                           character is `?`"; a count of marks that is not that of the symbols is the receiver's to refuse
+--   markedFills, marksOf    the lists lent for coordinates and for marks after that
 --   listOf room             a cap and the words, "at most 1,024"; none is the empty list
 --   listFills ts list       the list lent for words after that, in the same way
---   Sizes room r, Fit room r   the sizes that a request names: outputs of 4096 at most, coordinates that are in the list, words of 1,024 at most
+--   Sizes room r, Fit room r   the sizes that a request names: outputs of 4096 at most, coordinates that are in the list, words and marks of
+--                           1,024 at most
 use Prim.Native.Nat.{ℕ, _≤_}
 use mathlib.Core.Bool.{cond}
 use mathlib.Core.List.{List, [], _∷_, _++_}
-use mathlib.Core.Option.{Option}
 use lib.Dec.{leb}
 use lib.IntN.{ℤ}
 use lib.ListN.{length, drop}
 use Rattle.text.specs.Bytes.{bytes}
 use Rattle.text.specs.Token.{sameBytes}
 use Rattle.text.specs.Number.{numberOf, hexOf}
+use Rattle.marks.specs.Row.{countOf, rowOf, markFills}
 use Rattle.wholes.specs.Many.{wholeIn, numberIn, firstOf, manyOf}
 use Rattle.text.specs.declared.number.Number.{Number}
 use Rattle.text.specs.declared.number.Number.the-variants as number
@@ -63,7 +68,9 @@ abbrev pub sendOf : List (List ℕ) → Request
 sendOf ts = two (λ w c. both request.Send (anyNumber w) (capNumber c)) ts
 
 abbrev pub sampleOf : List (List ℕ) → Request
-sampleOf ts = two (λ x y. both request.Sample (hexOf x) (hexOf y)) ts
+sampleOf [] = request.Unread
+sampleOf (m ∷ []) = cond (sameBytes m (bytes "missing")) request.Missing request.Unread
+sampleOf (x ∷ y ∷ ts) = two (λ x y. both request.Sample (hexOf x) (hexOf y)) (x ∷ y ∷ ts)
 
 abbrev pub startOf : ℕ → ℕ → List (List ℕ) → Request
 startOf u w [] = request.Unread
@@ -92,6 +99,20 @@ abbrev pub pieceOf : ℕ → List (List ℕ) → Request
 pieceOf room [] = request.Unread
 pieceOf room (c ∷ ts) = heardOf (capNumber c) (manyOf wholeIn room ts)
 
+abbrev pub markedBy : Number → Many → Many → Request
+markedBy (number.Got c) (many.Got k) (many.Got n) = request.Marked c k n
+markedBy (number.Got c) (many.Got k) many.Bad = request.Unread
+markedBy (number.Got c) many.Bad m = request.Unread
+markedBy number.Bad row m = request.Unread
+
+abbrev pub markedAfter : ℕ → ℕ → Number → List (List ℕ) → Request
+markedAfter room most cap [] = request.Unread
+markedAfter room most cap (r ∷ ts) = markedBy cap (countOf (rowOf most r)) (manyOf wholeIn room ts)
+
+abbrev pub markedOf : ℕ → ℕ → List (List ℕ) → Request
+markedOf room most [] = request.Unread
+markedOf room most (c ∷ ts) = markedAfter room most (capNumber c) ts
+
 abbrev pub sentOf : Number → Many → Request
 sentOf number.Bad m = request.Unread
 sentOf (number.Got c) (many.Got n) = cond (leb n 1024) (request.List c n) request.Unread
@@ -105,20 +126,30 @@ listOf room (c ∷ ts) = sentOf (capNumber c) (manyOf numberIn room ts)
 abbrev pub atStart : {A : Type 0} → List A → List A → List A
 atStart zs list = zs ++ drop (length zs) list
 
-abbrev pub filledBy : {A : Type 0} → (List ℕ → Option A) → Number → List (List ℕ) → List A → List A
-filledBy p (number.Got c) ts list = atStart (firstOf p (length list) ts) list
-filledBy p number.Bad ts list = list
-
--- by what the tokens after the cap write
-abbrev pub fills : {A : Type 0} → (List ℕ → Option A) → List (List ℕ) → List A → List A
-fills p [] list = list
-fills p (c ∷ ts) list = filledBy p (capNumber c) ts list
+abbrev pub coordinateFills : List (List ℕ) → List ℤ → List ℤ
+coordinateFills ts list = atStart (firstOf wholeIn (length list) ts) list
 
 abbrev pub pieceFills : List (List ℕ) → List ℤ → List ℤ
-pieceFills ts list = fills wholeIn ts list
+pieceFills ts list = coordinateFills (drop 1 ts) list
+
+abbrev pub markedFills : List (List ℕ) → List ℤ → List ℤ
+markedFills ts list = coordinateFills (drop 2 ts) list
+
+abbrev pub marksAfter : List (List ℕ) → List ℕ → List ℕ
+marksAfter [] list = list
+marksAfter (r ∷ ts) list = markFills (rowOf (length list) r) list
+
+abbrev pub marksOf : List (List ℕ) → List ℕ → List ℕ
+marksOf ts list = marksAfter (drop 1 ts) list
+
+-- by what the tokens after the cap write, if it is one
+abbrev pub filledBy : Number → List (List ℕ) → List ℕ → List ℕ
+filledBy (number.Got c) ts list = atStart (firstOf numberIn (length list) ts) list
+filledBy number.Bad ts list = list
 
 abbrev pub listFills : List (List ℕ) → List ℕ → List ℕ
-listFills ts list = fills numberIn ts list
+listFills [] list = list
+listFills (c ∷ ts) list = filledBy (capNumber c) ts list
 
 abbrev pub Sizes : ℕ → Request → Type 0
 Sizes room (request.Send w c) = c ≤ 4096
@@ -133,6 +164,8 @@ Sizes room (request.Free u w) = Unit {0}
 Sizes room (request.At u w s) = Unit {0}
 Sizes room (request.Sample x y) = Unit {0}
 Sizes room request.Pending = Unit {0}
+Sizes room request.Missing = Unit {0}
+Sizes room (request.Marked c k n) = (c ≤ 4096) × (k ≤ 1024) × (n ≤ room)
 
 pub record Fit (room : ℕ) (r : Request) : Type 0 where
   pub sizes : Sizes room r

@@ -1,4 +1,4 @@
-// `sample HEX HEX`: the bits of two floats. The digits are read by `text`.
+// `sample HEX HEX`: the bits of two floats; `sample missing`: none. The digits are read by `text`.
 use crate::Request;
 use text::number;
 use text::number::Number;
@@ -12,6 +12,9 @@ pub fn read(rest: &[u8]) -> Request
 {
     let n = token::before(rest, b' ');
     if n == rest.len() {
+        if token::same(rest, b"missing") {
+            return Request::Missing;
+        }
         return Request::Unread;
     }
     let Number::Got(x) = number::hex(&rest[..n]) else {

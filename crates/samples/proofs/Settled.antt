@@ -1,8 +1,8 @@
--- The contracts of `hear_coordinate` and `hear_sample` allow one result each, since the definitions that give 01's numbers and values
+-- The contracts of `hear_coordinate`, `hear_sample` and `hear_sampled` allow one result each, since the definitions that give 01's numbers and values
 -- tell all cases of the answers apart: from what is given the answer can be read back. It leans on specs/Given.antt alone.
 --   coordinate-is, sample-is             an answer, from what it gives
 --   coordinate-apart, sample-apart       answers that give the same are equal
---   coordinate-settled, sample-settled   any two answers that a contract allows are equal
+--   coordinate-settled, sample-settled, sampled-settled   any two answers that a contract allows are equal
 use mathlib.Core.Path.{_≡_, refl, sym, ap, _∙_}
 use mathlib.Core.Bool.{cond}
 use mathlib.Core.Option.{Option·getD}
@@ -14,6 +14,10 @@ use Rattle.samples.specs.declared.Pair.{Pair}
 use Rattle.samples.specs.declared.Pair.the-variants as pair
 use Rattle.samples.specs.Given.{GivenCoordinate, GivenSample, coordinateGiven, sampleGiven}
 use Rattle.samples.specs.Heard.{heardCoordinate, heardSample}
+use Rattle.samples.specs.declared.Sampled.{Sampled}
+use Rattle.samples.specs.declared.Marked.{Marked}
+use Rattle.samples.specs.declared.Marked.the-variants as marked
+use Rattle.samples.specs.Sampled.{GivenSampled, heardSampled, markedGiven}
 
 abbrev pub coordinateOf : GivenCoordinate → Coordinate
 coordinateOf g = cond (eqb (g .number) 0) (coordinate.Heard (g .value)) coordinate.Refused
@@ -40,3 +44,14 @@ coordinate-settled v r s p q = coordinate-apart r s (p ∙ sym q)
 
 pub sample-settled : (x y : Float) (r s : Pair) → sampleGiven r ≡ heardSample x y → sampleGiven s ≡ heardSample x y → r ≡ s
 sample-settled x y r s p q = sample-apart r s (p ∙ sym q)
+
+abbrev pub markedOf : GivenSampled → Marked
+markedOf g = cond (g .missing) marked.Missing (cond (eqb (g .given .number) 0) (marked.Heard (g .given .x) (g .given .y)) (marked.Refused (Option·getD (g .given .place) 0)))
+
+pub marked-is : (r : Marked) → r ≡ markedOf (markedGiven r)
+marked-is (marked.Heard x y) = refl
+marked-is (marked.Refused p) = refl
+marked-is marked.Missing = refl
+
+pub sampled-settled : (v : Sampled) (r s : Marked) → markedGiven r ≡ heardSampled v → markedGiven s ≡ heardSampled v → r ≡ s
+sampled-settled v r s p q = marked-is r ∙ ap markedOf (p ∙ sym q) ∙ sym (marked-is s)

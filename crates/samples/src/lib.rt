@@ -3,10 +3,12 @@
 // A front end hands over each 2D sample as a pair of f32. On the line a coordinate is a whole number from -8192 to
 // 8192, and point coordinate c stands at 128 c. So a float v is heard as the whole number nearest to 128 v, a half
 // going to the even neighbour, and it is refused if that number is out of range or v is no number at all.
-// What is given back, in numbers, is in specs/Given.antt; what is heard, read from the bits, in specs/Heard.antt.
+// What is given back, in numbers, is in specs/Given.antt; what is heard, read from the bits, in specs/Heard.antt. A front end that loses
+// samples says which are missing: specs/Sampled.antt.
 ghost use mathlib.Core.Path.{_≡_};
 ghost use Rattle.samples.specs.Given.{coordinateGiven, sampleGiven};
 ghost use Rattle.samples.specs.Heard.{heardCoordinate, heardSample};
+ghost use Rattle.samples.specs.Sampled.{markedGiven, heardSampled};
 
 // What is heard of one float: a whole number from -8192 to 8192, or nothing.
 pub enum Coordinate {
@@ -54,4 +56,30 @@ pub fn hear_sample(s: Sample) -> Pair
         return Pair::Refused { place: 1 };
     };
     Pair::Heard { x, y }
+}
+
+// A sample as a front end gives it that may lose some: heard, with its two floats, or missing.
+pub enum Sampled {
+    Heard(f32, f32),
+    Missing,
+}
+
+// What is heard of it: what is heard of its floats, or that it is missing.
+pub enum Marked {
+    Heard { x: i32, y: i32 },
+    Refused { place: u8 },
+    Missing,
+}
+
+pub fn hear_sampled(s: Sampled) -> Marked
+    ensures { λ r. ⌜ markedGiven r ≡ heardSampled s ⌝ }
+{
+    let Sampled::Heard(x, y) = s else {
+        return Marked::Missing;
+    };
+    let p = hear_sample(Sample { x: x, y: y });
+    match p {
+        Pair::Heard { x: a, y: b } => Marked::Heard { x: a, y: b },
+        Pair::Refused { place } => Marked::Refused { place: place },
+    }
 }

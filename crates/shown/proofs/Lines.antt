@@ -1,9 +1,10 @@
 -- Laws of a record's line: its parts as the code puts them, and any two lines that the promise allows are one.
 --   start-free, start-named     the start of an open
+--   head-marked, head-plain     a symbol's kind in words
 --   symbol-is                   the coordinates of a symbol
 --   values-as                   by the kind's role
 --   record-settled              the promise of `put_record` allows one result alone
-use Prim.Native.Nat.{ℕ}
+use Prim.Native.Nat.{ℕ, _+_}
 use mathlib.Core.Path.{_≡_, sym, ap, _∙_}
 use mathlib.Core.List.{List, [], _++_, append-assoc, append-nil}
 use borrow.Author.Tests.{eq-eqb, ne-eqb}
@@ -14,12 +15,11 @@ use Rattle.page.specs.Page.{Puts}
 use Rattle.page.proofs.Pages.{one-result}
 use Rattle.phrases.specs.Phrase.{decimal, whole}
 use Rattle.records.specs.declared.Role.{Role}
-use Rattle.records.specs.declared.Role.the-variants.{Symbol}
 use Rattle.records.specs.declared.Kind.{Kind}
 use Rattle.records.specs.declared.Frame.{Frame}
 use Rattle.records.specs.Kinds.{kindOf}
-use Rattle.records.specs.Values.{coordinateOf}
-use Rattle.shown.specs.Shown.{startText, valuesText, recordLine}
+use Rattle.records.specs.Values.{leadOf, coordinateOf}
+use Rattle.shown.specs.Shown.{startText, symbolHead, symbolText, valuesText, recordLine}
 
 pub start-free : (s : ℕ) → s ≡ 16 → bytes " start free" ≡ startText s
 unfolding startText
@@ -36,15 +36,28 @@ regroup t s a b c d = simp (append-assoc, append-nil)
 abbrev pub after : ℤ → List ℕ
 after z = bytes " " ++ whole z
 
-pub symbol-is : (body : List ℕ) → bytes " symbol" ++ after (coordinateOf (getD body 0 0) (getD body 1 0)) ++ after (coordinateOf (getD body 2 0) (getD body 3 0))
-    ++ after (coordinateOf (getD body 4 0) (getD body 5 0)) ++ after (coordinateOf (getD body 6 0) (getD body 7 0)) ≡ valuesText Symbol body
-unfolding valuesText
-symbol-is body =
-    regroup (bytes " symbol") (bytes " ") (whole (coordinateOf (getD body 0 0) (getD body 1 0))) (whole (coordinateOf (getD body 2 0) (getD body 3 0)))
-    (whole (coordinateOf (getD body 4 0) (getD body 5 0))) (whole (coordinateOf (getD body 6 0) (getD body 7 0)))
+pub head-marked : (k : ℕ) (body : List ℕ) (n : ℕ) → k ≡ 5 → n ≡ getD body 0 0 → bytes " marked " ++ decimal n ≡ symbolHead k body
+unfolding symbolHead
+head-marked k body n e w = rw w (sym (rw (eq-eqb k 5 e)))
 
-pub values-as : (k : ℕ) (row : Kind) (r : Role) (body : List ℕ) → row ≡ kindOf k → row .role ≡ r → valuesText r body ≡ valuesText (kindOf k .role) body
-values-as k row r body is e = ap (λ (q : Role). valuesText q body) (sym e ∙ ap (λ (q : Kind). q .role) is)
+pub head-plain : (k : ℕ) (body : List ℕ) → (k ≡ 5 → ⊥) → bytes " symbol" ≡ symbolHead k body
+unfolding symbolHead
+head-plain k body e = sym (rw (ne-eqb k 5 e))
+
+module _ (k : ℕ) (body : List ℕ) where
+  abbrev place : ℕ → ℕ → List ℕ
+  place i j = after (coordinateOf (getD body i 0) (getD body j 0))
+
+  pub symbol-is : (i : ℕ) → i ≡ leadOf k → symbolHead k body ++ place i (i + 1) ++ place (i + 2) (i + 3) ++ place (i + 4) (i + 5) ++ place (i + 6) (i + 7) ≡ symbolText k body
+  unfolding symbolText
+  symbol-is i e =
+      rw e
+      (regroup (symbolHead k body) (bytes " ") (whole (coordinateOf (getD body (leadOf k) 0) (getD body (leadOf k + 1) 0)))
+      (whole (coordinateOf (getD body (leadOf k + 2) 0) (getD body (leadOf k + 3) 0))) (whole (coordinateOf (getD body (leadOf k + 4) 0) (getD body (leadOf k + 5) 0)))
+      (whole (coordinateOf (getD body (leadOf k + 6) 0) (getD body (leadOf k + 7) 0))))
+
+pub values-as : (k : ℕ) (row : Kind) (r : Role) (body : List ℕ) → row ≡ kindOf k → row .role ≡ r → valuesText r k body ≡ valuesText (kindOf k .role) k body
+values-as k row r body is e = ap (λ (q : Role). valuesText q k body) (sym e ∙ ap (λ (q : Kind). q .role) is)
 
 pub record-settled : (n : ℕ) (f : Frame) (page : List ℕ) (at q r : ℕ) (o p : List ℕ) → Puts page at (recordLine n f) q o → Puts page at (recordLine n f) r p → (q ≡ r) × (o ≡ p)
 record-settled n f page at q r o p a b = one-result a b

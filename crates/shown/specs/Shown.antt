@@ -1,8 +1,9 @@
 -- The text of a record, as `capture show` prints it: "one readable line for each record (number, offset, kind in words, its values)".
 -- Definitions only.
 --   startText s       of an open: "start (0 to 15, 16 for free)"
---   valuesText r b    the kind in words, and what the body b says: the numbers of an open, the coordinates of a symbol, a word as eight
---                     hexadecimal digits
+--   openText, symbolText, wordText   the kind in words, and what a body says: the numbers of an open, the coordinates of a symbol, behind its
+--                     mark where points of it are missing, a word as eight hexadecimal digits
+--   valuesText r k b  of the kind k and its role r
 --   recordLine n f    the line of record n, which the frame f holds
 --   lineRoom          what a line takes at most
 --   isWhole s         a record has just become whole
@@ -19,7 +20,7 @@ use Rattle.records.specs.declared.Stage.{Stage}
 use Rattle.records.specs.declared.Stage.the-variants.{Fresh, Part, Whole, Bad}
 use Rattle.records.specs.declared.Frame.{Frame}
 use Rattle.records.specs.Kinds.{kindOf}
-use Rattle.records.specs.Values.{widthOf, windowOf, startOf, coordinatesOf, wordOf}
+use Rattle.records.specs.Values.{widthOf, windowOf, startOf, markIn, coordinatesOf, wordOf}
 
 abbrev pub isWhole : Stage → Bool
 isWhole Whole = true
@@ -30,15 +31,27 @@ isWhole Bad = false
 unfoldable pub startText : ℕ → List ℕ
 startText s = cond (eqb s 16) (bytes " start free") (bytes " start " ++ decimal s)
 
-unfoldable pub valuesText : Role → List ℕ → List ℕ
-valuesText Open b = (bytes " open u " ++ decimal (widthOf b)) ++ (bytes " window " ++ decimal (windowOf b)) ++ startText (startOf b)
-valuesText Symbol b = bytes " symbol" ++ afterSpaces (map whole (coordinatesOf b))
-valuesText Word b = bytes " word " ++ hex (wordOf b)
-valuesText Finish b = bytes " finish"
-valuesText Unknown b = bytes " unknown"
+unfoldable pub openText : List ℕ → List ℕ
+openText b = (bytes " open u " ++ decimal (widthOf b)) ++ (bytes " window " ++ decimal (windowOf b)) ++ startText (startOf b)
+
+unfoldable pub symbolHead : ℕ → List ℕ → List ℕ
+symbolHead k b = cond (eqb k 5) (bytes " marked " ++ decimal (markIn k b)) (bytes " symbol")
+
+unfoldable pub symbolText : ℕ → List ℕ → List ℕ
+symbolText k b = symbolHead k b ++ afterSpaces (map whole (coordinatesOf k b))
+
+unfoldable pub wordText : List ℕ → List ℕ
+wordText b = bytes " word " ++ hex (wordOf b)
+
+unfoldable pub valuesText : Role → ℕ → List ℕ → List ℕ
+valuesText Open k b = openText b
+valuesText Symbol k b = symbolText k b
+valuesText Word k b = wordText b
+valuesText Finish k b = bytes " finish"
+valuesText Unknown k b = bytes " unknown"
 
 unfoldable pub recordLine : ℕ → Frame → List ℕ
-recordLine n f = (bytes "record " ++ decimal n) ++ (bytes " offset " ++ decimal (f .at)) ++ valuesText (kindOf (f .kind) .role) (f .body) ++ bytes "\n"
+recordLine n f = (bytes "record " ++ decimal n) ++ (bytes " offset " ++ decimal (f .at)) ++ valuesText (kindOf (f .kind) .role) (f .kind) (f .body) ++ bytes "\n"
 
 abbrev pub lineRoom : ℕ
-lineRoom = 160
+lineRoom = 180

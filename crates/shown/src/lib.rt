@@ -12,7 +12,7 @@ ghost use Rattle.text.specs.Bytes.{bytes};
 ghost use Rattle.phrases.specs.Phrase.{decimal, whole};
 ghost use Rattle.records.specs.Kinds.{kindOf};
 ghost use Rattle.records.specs.Values.{coordinateOf};
-ghost use Rattle.shown.specs.Shown.{isWhole, startText, valuesText, recordLine, lineRoom};
+ghost use Rattle.shown.specs.Shown.{isWhole, startText, openText, symbolHead, symbolText, wordText, valuesText, recordLine, lineRoom};
 
 pub fn is_whole(stage: Stage) -> bool
     ensures { λ r. ⌜ r ≡ isWhole stage ⌝ }
@@ -52,10 +52,10 @@ fn put_start(page: &mut [u8], at: usize, start: u8) -> usize
     put_named(page, at, b" start ", start as u64)
 }
 
-fn put_open(page: &mut [u8], at: usize, body: &[u8; 8]) -> usize
-    requires { ⌜ at + 100 ≤ length (now page) ⌝ }
-    ensures { λ r. ⌜ Puts (now (page .entry)) at (valuesText Role.Open (now (body .entry))) r (now (page .exit)) ⌝ }
-    ensures { λ r. ⌜ r ≤ at + 100 ⌝ }
+fn put_open(page: &mut [u8], at: usize, body: &[u8; 9]) -> usize
+    requires { ⌜ at + 120 ≤ length (now page) ⌝ }
+    ensures { λ r. ⌜ Puts (now (page .entry)) at (openText (now (body .entry))) r (now (page .exit)) ⌝ }
+    ensures { λ r. ⌜ r ≤ at + 120 ⌝ }
 {
     let u = wide(body[0]);
     let window = wide(body[1]);
@@ -73,23 +73,37 @@ fn put_coordinate(page: &mut [u8], at: usize, lo: u8, hi: u8) -> usize
     phrases::next_whole(page, at, records::coordinate(lo, hi))
 }
 
-fn put_symbol(page: &mut [u8], at: usize, body: &[u8; 8]) -> usize
-    requires { ⌜ at + 100 ≤ length (now page) ⌝ }
-    ensures { λ r. ⌜ Puts (now (page .entry)) at (valuesText Role.Symbol (now (body .entry))) r (now (page .exit)) ⌝ }
-    ensures { λ r. ⌜ r ≤ at + 100 ⌝ }
+// A symbol's kind in words, and its mark where points are missing.
+fn put_head(page: &mut [u8], at: usize, kind: u8, body: &[u8; 9]) -> usize
+    requires { ⌜ at + 28 ≤ length (now page) ⌝ }
+    ensures { λ r. ⌜ Puts (now (page .entry)) at (symbolHead kind (now (body .entry))) r (now (page .exit)) ⌝ }
+    ensures { λ r. ⌜ r ≤ at + 28 ⌝ }
 {
-    let p = page::put_text(page, at, b" symbol");
-    let p = put_coordinate(page, p, body[0], body[1]);
-    let p = put_coordinate(page, p, body[2], body[3]);
-    let p = put_coordinate(page, p, body[4], body[5]);
-    put_coordinate(page, p, body[6], body[7])
+    if kind == 5 {
+        let mark = wide(body[0]);
+        return put_named(page, at, b" marked ", mark);
+    }
+    page::put_text(page, at, b" symbol")
+}
+
+fn put_symbol(page: &mut [u8], at: usize, kind: u8, body: &[u8; 9]) -> usize
+    requires { ⌜ at + 120 ≤ length (now page) ⌝ }
+    ensures { λ r. ⌜ Puts (now (page .entry)) at (symbolText kind (now (body .entry))) r (now (page .exit)) ⌝ }
+    ensures { λ r. ⌜ r ≤ at + 120 ⌝ }
+{
+    let i = records::lead(kind);
+    let p = put_head(page, at, kind, body);
+    let p = put_coordinate(page, p, body[i], body[i + 1]);
+    let p = put_coordinate(page, p, body[i + 2], body[i + 3]);
+    let p = put_coordinate(page, p, body[i + 4], body[i + 5]);
+    put_coordinate(page, p, body[i + 6], body[i + 7])
 }
 
 // Eight hexadecimal digits.
-fn put_word(page: &mut [u8], at: usize, body: &[u8; 8]) -> usize
-    requires { ⌜ at + 100 ≤ length (now page) ⌝ }
-    ensures { λ r. ⌜ Puts (now (page .entry)) at (valuesText Role.Word (now (body .entry))) r (now (page .exit)) ⌝ }
-    ensures { λ r. ⌜ r ≤ at + 100 ⌝ }
+fn put_word(page: &mut [u8], at: usize, body: &[u8; 9]) -> usize
+    requires { ⌜ at + 120 ≤ length (now page) ⌝ }
+    ensures { λ r. ⌜ Puts (now (page .entry)) at (wordText (now (body .entry))) r (now (page .exit)) ⌝ }
+    ensures { λ r. ⌜ r ≤ at + 120 ⌝ }
 {
     let p = page::put_text(page, at, b" word ");
     let mut digits = [0u8; 16];
@@ -99,16 +113,16 @@ fn put_word(page: &mut [u8], at: usize, body: &[u8; 8]) -> usize
 }
 
 // What a record says. A kind that is added later is one arm more.
-fn put_values(page: &mut [u8], at: usize, kind: u8, body: &[u8; 8]) -> usize
-    requires { ⌜ at + 100 ≤ length (now page) ⌝ }
-    ensures { λ r. ⌜ Puts (now (page .entry)) at (valuesText (kindOf kind .role) (now (body .entry))) r (now (page .exit)) ⌝ }
-    ensures { λ r. ⌜ r ≤ at + 100 ⌝ }
+fn put_values(page: &mut [u8], at: usize, kind: u8, body: &[u8; 9]) -> usize
+    requires { ⌜ at + 120 ≤ length (now page) ⌝ }
+    ensures { λ r. ⌜ Puts (now (page .entry)) at (valuesText (kindOf kind .role) kind (now (body .entry))) r (now (page .exit)) ⌝ }
+    ensures { λ r. ⌜ r ≤ at + 120 ⌝ }
 {
     let row = records::kind_of(kind);
     let role = row.role;
     match role {
         Role::Open => put_open(page, at, body),
-        Role::Symbol => put_symbol(page, at, body),
+        Role::Symbol => put_symbol(page, at, kind, body),
         Role::Word => put_word(page, at, body),
         Role::Finish => page::put_text(page, at, b" finish"),
         Role::Unknown => page::put_text(page, at, b" unknown"),

@@ -9,6 +9,7 @@ ghost use mathlib.Core.Path.{_≡_};
 ghost use mathlib.Core.Bool.{false};
 ghost use Prim.Native.Nat.{_≤_, _<_};
 ghost use lib.ListN.{length, take};
+ghost use Rattle.requests.specs.Named.{named};
 ghost use Rattle.desk.specs.Room.{Lent};
 ghost use Rattle.stream.specs.Stream.{streaming, lastLine, Moves, Turns, Reads, took as Stream·took};
 
@@ -52,8 +53,9 @@ fn hear_chunk(
     page: &mut [u8],
     coordinates: &mut [i32],
     words: &mut [u32],
+    marks: &mut [u8],
 ) -> Heard
-    requires { ⌜ Lent (now page) (now coordinates) (now words) ⌝ }
+    requires { ⌜ Lent (now page) (named (now coordinates) (now words) (now marks)) ⌝ }
     requires { ⌜ (lab .at ≤ 32768) × (lab .part .held ≤ length (now line)) ⌝ }
     ensures { λ r. ⌜ (r .lab .at ≤ 131072) × (r .lab .part .held ≤ length (now (line .entry))) ⌝ }
     ensures { λ r. ⌜ (r .count ≤ length (now (chunk .entry))) × (0 < length (now (chunk .entry)) → 0 < r .count) ⌝ }
@@ -74,7 +76,7 @@ fn hear_chunk(
                 count: end,
             };
         }
-        now = lines::reply(now, line, page, coordinates, words);
+        now = lines::reply(now, line, page, coordinates, words, marks);
         from = end + 1;
     }
     Heard {
@@ -90,8 +92,9 @@ fn hear_end(
     page: &mut [u8],
     coordinates: &mut [i32],
     words: &mut [u32],
+    marks: &mut [u8],
 ) -> Lab
-    requires { ⌜ Lent (now page) (now coordinates) (now words) ⌝ }
+    requires { ⌜ Lent (now page) (named (now coordinates) (now words) (now marks)) ⌝ }
     requires { ⌜ (lab .at ≤ 32768) × (lab .part .held ≤ length (now line)) ⌝ }
     ensures { λ r. ⌜ (r .at ≤ 131072) × (r .part .held ≤ length (now (line .entry))) ⌝ }
     ensures { λ r. ⌜ Moves (lastLine (length (now (line .entry)))) (now (line .entry)) lab (now (page .entry)) (now (line .entry)) r (now (page .exit)) ⌝ }
@@ -100,7 +103,7 @@ fn hear_end(
     if part.held == 0 && !part.long {
         return lab;
     }
-    lines::reply(lab, line, page, coordinates, words)
+    lines::reply(lab, line, page, coordinates, words, marks)
 }
 
 // One turn: a page begun anew, and at its end handed out.
@@ -111,8 +114,9 @@ fn answer(
     page: &mut [u8],
     coordinates: &mut [i32],
     words: &mut [u32],
+    marks: &mut [u8],
 ) -> Turn
-    requires { ⌜ Lent (now page) (now coordinates) (now words) ⌝ }
+    requires { ⌜ Lent (now page) (named (now coordinates) (now words) (now marks)) ⌝ }
     requires { ⌜ (last .from ≤ last .to) × (last .to ≤ length (now chunk)) × (last .lab .part .held ≤ length (now line)) ⌝ }
     ensures { λ r. ⌜ (r .from ≤ r .to) × (r .to ≡ last .to) × (r .ends ≡ last .ends) × (r .lab .part .held ≤ length (now (line .entry))) ⌝ }
     ensures { λ r. ⌜ (last .ends ≡ false → last .from < last .to → last .from < r .from) ⌝ }
@@ -123,7 +127,7 @@ fn answer(
     let from = last.from;
     let to = last.to;
     if last.ends {
-        let ended = hear_end(lab, line, page, coordinates, words);
+        let ended = hear_end(lab, line, page, coordinates, words, marks);
         return Turn {
             lab: flush(ended, page),
             from,
@@ -131,7 +135,7 @@ fn answer(
             ends: true,
         };
     }
-    let heard = hear_chunk(lab, &chunk[from..to], line, page, coordinates, words);
+    let heard = hear_chunk(lab, &chunk[from..to], line, page, coordinates, words, marks);
     let next = heard.lab;
     let till = from + heard.count;
     Turn {
@@ -183,8 +187,9 @@ pub fn serve(
     page: &mut [u8],
     coordinates: &mut [i32],
     words: &mut [u32],
+    marks: &mut [u8],
 )
-    requires { ⌜ Lent (now page) (now coordinates) (now words) ⌝ }
+    requires { ⌜ Lent (now page) (named (now coordinates) (now words) (now marks)) ⌝ }
 {
     let lab = Lab {
         desk: desk::closed(),
@@ -201,7 +206,7 @@ pub fn serve(
     let mut turns = u64::MAX;
     while turns > 0 {
         now = refill(now, chunk);
-        now = answer(now, chunk, line, page, coordinates, words);
+        now = answer(now, chunk, line, page, coordinates, words, marks);
         if now.ends || !now.lab.on {
             return;
         }

@@ -1,18 +1,22 @@
 -- Records at the front of bytes: what stores leave, and how many bytes records have.
 --   fronted        stores one after the other
 --   symbol-put     those of a symbol, where its halves are at hand
---   small-bits, small-symbol   coordinates that 16 bits hold, as their bits go to a call
---   nine-bytes, one-byte       what the records of a symbol and of a finish need
+--   handed, small-bits, kept, kept-reads, kept-small   a coordinate as a call is handed it, and as a record has it
+--   small-heard, plain-record                          the record of a symbol of which nothing is missing
+--   marked-record, small-first, small-second           the record of a symbol of which a point is missing
+--   nine-bytes, ten-bytes, one-byte                    what the records of a symbol and of a finish need
 --   bytes-append   the bytes of records, and of records after them
 --   word-bytes     a word has five
 --   symbol-space, finish-space   "5 for each word", after the symbol's own record or that of a finish
 --   words-more     one word more
 --   then-words     a record, and then words where the rest of the bytes was lent
-use mathlib.Core.Path.{_≡_, refl, sym, ap, _∙_}
+use mathlib.Core.Path.{_≡_, refl, sym, ap, subst, _∙_}
+use mathlib.Core.Bool.{Bool, true, false, cond}
 use mathlib.Core.List.{List, [], _∷_, _++_, append-assoc}
 use Prim.Native.Nat.{ℕ, _+_, _-_, _*_, _/_, _%_, _<_, _≤_}
 use native.Mathlib.Numerals.{add-one}
 use native.Mathlib.Omega.{arith}
+use borrow.Author.Tests.{eqb-true, eqb-false, leb-false}
 use lib.IntN.{ℤ, pos, natAbs}
 use lib.ListN.{getD, length, take, drop, length-append}
 use lib.Seq.{sets, take-suc}
@@ -22,35 +26,96 @@ use Rattle.points.proofs.Signed.{reads}
 use Rattle.layout.proofs.Lent.{stored, placed}
 use Rattle.trellis.specs.Measure.{Two}
 use Rattle.nearest.specs.declared.Received.{Received}
-use Rattle.told.specs.Piece.{symbolFrom}
-use Rattle.records.specs.Values.{Entry, halfOf, symbolEntry, wordEntry, finishEntry, bytesOf}
-use Rattle.tape.specs.Front.{symbolIn, symbolRecord, symbolSpace, spaceOf, wordEntries, symbolRecords, finishRecords, Fronted, Small}
+use Rattle.told.specs.Piece.{pointFrom, firstMissing, secondMissing}
+use Rattle.records.specs.Values.{Entry, entry, halfOf, halfBytes, symbolEntry, markedEntry, wordEntry, finishEntry, bytesOf}
+use Rattle.tape.specs.Front.{symbolIn, spotOf, symbolRecord, symbolSpace, spaceOf, wordEntries, symbolRecords, finishRecords, Fronted, SmallSpot, Small}
 
 pub fronted : (rs : List Entry) (l : List ℕ) → length (bytesOf rs) ≤ length l → Fronted rs l (sets l 0 (bytesOf rs))
 fronted rs l h = stored (bytesOf rs) l h
 
-pub symbol-put : (x0 x1 x2 x3 : ℤ) (a b c d : ℕ) → a ≡ halfOf x0 → b ≡ halfOf x1 → c ≡ halfOf x2 → d ≡ halfOf x3 → (l : List ℕ) → 9 ≤ length l →
-    Fronted (symbolEntry x0 x1 x2 x3 ∷ []) l (sets l 0 (2 ∷ (a % 256) ∷ (a / 256) ∷ (b % 256) ∷ (b / 256) ∷ (c % 256) ∷ (c / 256) ∷ (d % 256) ∷ (d / 256) ∷ []))
+-- the two bytes of a coordinate, whose half is at hand
+abbrev two-bytes : ℕ → List ℕ → List ℕ
+two-bytes a rest = (a % 256) ∷ (a / 256) ∷ rest
+
+pub symbol-put : (k : ℕ) (p : List ℕ) (x0 x1 x2 x3 : ℤ) (a b c d : ℕ) → a ≡ halfOf x0 → b ≡ halfOf x1 → c ≡ halfOf x2 → d ≡ halfOf x3 →
+    let r = entry k (p ++ halfBytes x0 (halfBytes x1 (halfBytes x2 (halfBytes x3 [])))) in
+    (l : List ℕ) → spaceOf (r ∷ []) ≤ length l → Fronted (r ∷ []) l (sets l 0 (k ∷ ((p ++ two-bytes a (two-bytes b (two-bytes c (two-bytes d [])))) ++ [])))
 unfolding bytesOf
-symbol-put x0 x1 x2 x3 a b c d e0 e1 e2 e3 l h = rw (e0, e1, e2, e3) (fronted (symbolEntry x0 x1 x2 x3 ∷ []) l h)
+symbol-put k p x0 x1 x2 x3 a b c d e0 e1 e2 e3 l h =
+    rw (e0, e1, e2, e3) (fronted (entry k (p ++ halfBytes x0 (halfBytes x1 (halfBytes x2 (halfBytes x3 [])))) ∷ []) l h)
 
-module _ (xs : List ℤ) (s : Small xs) where
-  same : (i : ℕ) → toZ w32 (ofZ w32 (getD xs i (pos 0))) ≡ getD xs i (pos 0)
-  same i = reads w32 (getD xs i (pos 0)) (omega (arith, s i))
+-- ---- a coordinate as a call is handed it, and as a record has it
 
-  pub small-bits : (i : ℕ) → natAbs (toZ w32 (ofZ w32 (getD xs i (pos 0)))) ≤ 32768
-  small-bits i = rw (same i) (s i)
+abbrev pub handed : ℤ → ℤ
+handed x = toZ w32 (ofZ w32 x)
 
-  -- the coordinate in the place i, as a call is handed it
-  abbrev handed : ℕ → ℤ
-  handed i = toZ w32 (ofZ w32 (getD xs i (pos 0)))
+same : (x : ℤ) → natAbs x ≤ 32768 → handed x ≡ x
+same x h = reads w32 x (omega arith)
 
-  pub small-symbol : symbolRecord (symbolFrom (handed 0) (handed 1) (handed 2) (handed 3)) ≡ symbolRecord (symbolIn xs)
-  small-symbol = rw (same 0, same 1, same 2, same 3)
+pub small-bits : (x : ℤ) → natAbs x ≤ 32768 → natAbs (handed x) ≤ 32768
+small-bits x h = rw (same x h) h
 
-pub nine-bytes : (y : Two Received) → symbolSpace y ≡ 9
+-- 0 for a missing point
+abbrev pub kept : Bool → ℤ → ℤ
+kept b x = cond b (pos 0) x
+
+pub kept-reads : (b : Bool) (x r : ℤ) → natAbs (kept b x) ≤ 32768 → r ≡ kept b (handed x) → handed r ≡ kept b x
+kept-reads true x r h e = rw e (same (pos 0) (omega arith))
+kept-reads false x r h e = rw (e, same x h) (same x h)
+
+pub kept-small : (b : Bool) (x r : ℤ) → natAbs (kept b x) ≤ 32768 → r ≡ kept b (handed x) → natAbs (handed r) ≤ 32768
+kept-small b x r h e = rw (kept-reads b x r h e) h
+
+-- ---- the record of a symbol, by its mark
+
+spot-is : (b : Bool) (x y : ℤ) → spotOf (pointFrom b x y) ≡ record { x = kept b x; y = kept b y }
+spot-is true x y = refl
+spot-is false x y = refl
+
+module _ (m : ℕ) (xs : List ℤ) where
+  abbrev at : ℕ → ℤ
+  at i = getD xs i (pos 0)
+
+  abbrev first : Bool
+  first = firstMissing m
+
+  abbrev second : Bool
+  second = secondMissing m
+
+  pub small-first : Small (symbolIn m xs) → (natAbs (kept first (at 0)) ≤ 32768) × (natAbs (kept first (at 1)) ≤ 32768)
+  small-first s = subst SmallSpot (spot-is first (at 0) (at 1)) (s .0)
+
+  pub small-second : Small (symbolIn m xs) → (natAbs (kept second (at 2)) ≤ 32768) × (natAbs (kept second (at 3)) ≤ 32768)
+  small-second s = subst SmallSpot (spot-is second (at 2) (at 3)) (s .1)
+
+  pub small-heard : m ≡ 0 → Small (symbolIn m xs) → (natAbs (at 0) ≤ 32768) × (natAbs (at 1) ≤ 32768) × (natAbs (at 2) ≤ 32768) × (natAbs (at 3) ≤ 32768)
+  small-heard e s = let t : Small (symbolIn 0 xs) = subst (λ (n : ℕ). Small (symbolIn n xs)) e s in (t .0 .0, t .0 .1, t .1 .0, t .1 .1)
+
+  -- as the call is handed its coordinates
+  pub plain-record : m ≡ 0 → Small (symbolIn m xs) → symbolEntry (handed (at 0)) (handed (at 1)) (handed (at 2)) (handed (at 3)) ≡ symbolRecord (symbolIn m xs)
+  plain-record e s =
+      let t = small-heard e s in
+      (λ i. symbolEntry (same (at 0) (t .0) i) (same (at 1) (t .1) i) (same (at 2) (t .2) i) (same (at 3) (t .3) i)) ∙ ap (λ (n : ℕ). symbolRecord (symbolIn n xs)) (sym e)
+
+  pub marked-record : (m ≡ 0 → ⊥) → symbolRecord (symbolIn m xs)
+      ≡ markedEntry (cond second (2 + m % 2) m) (kept first (at 0)) (kept first (at 1)) (kept second (at 2)) (kept second (at 3))
+  marked-record some = go first refl second refl
+    where
+      go : (f : Bool) → first ≡ f → (s : Bool) → second ≡ s → symbolRecord (record { first = pointFrom f (at 0) (at 1); second = pointFrom s (at 2) (at 3) })
+          ≡ markedEntry (cond s (2 + m % 2) m) (kept f (at 0)) (kept f (at 1)) (kept s (at 2)) (kept s (at 3))
+      go false e false h = absurd (some (omega (arith, eqb-false (m % 2) 1 e, leb-false 2 m h)))
+      go true e false h = let z : m ≡ 1 = omega (arith, eqb-true (m % 2) 1 e, leb-false 2 m h) in rw z
+      go false e true h = let z : m % 2 ≡ 0 = omega (arith, eqb-false (m % 2) 1 e) in rw z
+      go true e true h = let z : m % 2 ≡ 1 = eqb-true (m % 2) 1 e in rw z
+
+  -- kind 2 has nine bytes, and kind 5 ten
+  pub ten-bytes : (m ≡ 0 → ⊥) → symbolSpace (symbolIn m xs) ≡ 10
+  unfolding bytesOf
+  ten-bytes some = rw (marked-record some)
+
+pub nine-bytes : (m : ℕ) (xs : List ℤ) → m ≡ 0 → symbolSpace (symbolIn m xs) ≡ 9
 unfolding bytesOf
-nine-bytes y = refl
+nine-bytes m xs e = rw e
 
 pub one-byte : spaceOf (finishEntry ∷ []) ≡ 1
 unfolding bytesOf
@@ -68,7 +133,9 @@ word-bytes (w ∷ ws) = let h = word-bytes ws in omega arith
 
 pub symbol-space : (y : Two Received) (ws : List ℕ) → spaceOf (symbolRecords y ws) ≡ symbolSpace y + 5 * length ws
 unfolding bytesOf
-symbol-space y ws = let h = word-bytes ws in omega arith
+symbol-space y ws =
+    let body = symbolRecord y .body in
+    omega (arith, word-bytes ws, length-append body (bytesOf (wordEntries ws)), length-append body [])
 
 pub finish-space : (ws : List ℕ) → spaceOf (finishRecords ws) ≡ 1 + 5 * length ws
 unfolding bytesOf

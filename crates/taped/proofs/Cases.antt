@@ -10,13 +10,12 @@ use Prim.Native.Nat.{ℕ, _≤_, _<_}
 use native.Mathlib.Omega.{arith}
 use borrow.Author.Tests.{lt-ltb, le-ltb, eq-eqb, ne-eqb}
 use lib.Dec.{eqb, ltb}
-use lib.IntN.{ℤ}
 use lib.ListN.{length, drop, take-append-drop}
 use Rattle.machine.specs.declared.Receiver.{Receiver}
 use Rattle.machine.specs.Machine.{shut, sound}
 use Rattle.reasons.specs.declared.Why.the-variants.{Closed}
 use Rattle.reasons.specs.Reason.{Reason, givenOf}
-use Rattle.told.specs.Piece.{pieceOf}
+use Rattle.told.specs.Piece.{Piece}
 use Rattle.receiver.specs.Promise.{partsOf}
 use Rattle.receiver.proofs.Doors.{lent-live}
 use Rattle.tape.specs.Front.{spaceOf}
@@ -70,12 +69,12 @@ module _ (ran : Ran) (state out bytes told : List ℕ) (a : Taped) (n : ℕ) (o 
 
 -- ---- a piece
 
-module _ (state : List ℕ) (piece : List ℤ) (out bytes told : List ℕ) where
+module _ (state : List ℕ) (piece : Piece) (out bytes told : List ℕ) where
   abbrev rx : Receiver
   rx = receiverIn state
 
   abbrev ran : Ran
-  ran = tapedHearing rx (pieceOf piece) (length out) (length bytes)
+  ran = tapedHearing rx piece (length out) (length bytes)
 
   pub hear-short : length told < 4 → Records (hearCall state piece out bytes told) 8 state out bytes told
   unfolding hearCall
@@ -87,13 +86,13 @@ module _ (state : List ℕ) (piece : List ℤ) (out bytes told : List ℕ) where
     hear-kept h =
         let none = sym (w .is .taken) ∙ h in
         rw (le-ltb (length told) 4 enough)
-        (answered-kept ran state out bytes told a n o b t w (ltb 0 (ran .taken)) (rw none) (hearing-keeps rx (pieceOf piece) (length out) (length bytes) none))
+        (answered-kept ran state out bytes told a n o b t w (ltb 0 (ran .taken)) (rw none) (hearing-keeps rx piece (length out) (length bytes) none))
 
     hear-written : (l : List ℕ) → (a .taken ≡ 0 → ⊥) → ReceiverStored (a .receiver) state l → Records (hearCall state piece out bytes told) n l o b t
     unfolding hearCall
     hear-written l h f =
         let e = w .is .taken in
-        let itself = hearing-reads rx (pieceOf piece) (length out) (length bytes) (λ z. h (e ∙ z)) in
+        let itself = hearing-reads rx piece (length out) (length bytes) (λ z. h (e ∙ z)) in
         rw (le-ltb (length told) 4 enough)
         (answered-written ran state out bytes told a n o b t w (ltb 0 (ran .taken)) l (lt-ltb 0 (ran .taken) (omega arith)) f itself)
 
@@ -102,10 +101,10 @@ module _ (state : List ℕ) (piece : List ℤ) (out bytes told : List ℕ) where
       Records (hearCall state piece out bytes told) n state out bytes t
   unfolding receiverIn sound shut
   hear-none none enough t n number tells =
-      hear-kept enough (nothing rx Closed) n out bytes t (record { is = tape-closed rx out bytes (pieceOf piece) (rw none); number = number; tells = tells }) refl
+      hear-kept enough (nothing rx Closed) n out bytes t (record { is = tape-closed rx out bytes piece (rw none); number = number; tells = tells }) refl
 
 -- a piece to a receiver whose picks were lent in their place in the state
-pub record Lent (state : List ℕ) (piece : List ℤ) (out bytes told : List ℕ) : Type 0 where
+pub record Lent (state : List ℕ) (piece : Piece) (out bytes told : List ℕ) : Type 0 where
   pub yes : holds receiverLength receiverTag state ≡ true
   pub enough : 4 ≤ length told
   pub copied : Copied
@@ -116,13 +115,13 @@ pub record Lent (state : List ℕ) (piece : List ℤ) (out bytes told : List ℕ
   pub picks : List ℕ
   pub o : List ℕ
   pub b : List ℕ
-  pub was : recorder.TapesLent (partsOf true (copied .core) (copied .sums) (copied .planes) (picksIn state)) (pieceOf piece) out bytes kept sums planes picks o b
+  pub was : recorder.TapesLent (partsOf true (copied .core) (copied .sums) (copied .planes) (picksIn state)) piece out bytes kept sums planes picks o b
   pub t : List ℕ
   pub n : ℕ
   pub number : n ≡ givenOf (kept .why) .number
   pub tells : t ≡ toldFour (kept .taken) (kept .written) (givenOf (kept .why) .place) (kept .recorded) told
 
-module _ (state : List ℕ) (piece : List ℤ) (out bytes told : List ℕ) (l : Lent state piece out bytes told) where
+module _ (state : List ℕ) (piece : Piece) (out bytes told : List ℕ) (l : Lent state piece out bytes told) where
   abbrev a : Taped
   a = recorder.tapedParts true (l .kept) (l .sums) (l .planes) (l .picks)
 
@@ -131,12 +130,12 @@ module _ (state : List ℕ) (piece : List ℤ) (out bytes told : List ℕ) (l : 
 
   is : recorder.Is (ran state piece out bytes told) out bytes a (l .o) (l .b)
   is =
-      subst (λ (x : Receiver). recorder.Is (tapedHearing x (pieceOf piece) (length out) (length bytes)) out bytes a (l .o) (l .b)) (front-is state (l .yes) (l .copied) (l .loaded))
+      subst (λ (x : Receiver). recorder.Is (tapedHearing x piece (length out) (length bytes)) out bytes a (l .o) (l .b)) (front-is state (l .yes) (l .copied) (l .loaded))
       (subst Was (lent-live true (picksIn state) (all-there state (l .yes))) (l .was))
     where
       Was : Bool → Type 0
       Was v =
-          recorder.Is (tapedHearing (lived v) (pieceOf piece) (length out) (length bytes)) out bytes
+          recorder.Is (tapedHearing (lived v) piece (length out) (length bytes)) out bytes
           (recorder.tapedParts v (l .kept) (l .sums) (l .planes) (l .picks)) (l .o) (l .b)
 
   answered : Answered (ran state piece out bytes told) out bytes told a (l .n) (l .o) (l .b) (l .t)
@@ -145,7 +144,7 @@ module _ (state : List ℕ) (piece : List ℤ) (out bytes told : List ℕ) (l : 
   -- where nothing was taken they come back as they were
   unchanged : l .kept .taken ≡ 0 → around state (l .picks) ≡ state
   unchanged none =
-      let left = hearing-keeps (receiverIn state) (pieceOf piece) (length out) (length bytes) (sym (is .taken) ∙ none) in
+      let left = hearing-keeps (receiverIn state) piece (length out) (length bytes) (sym (is .taken) ∙ none) in
       let same : l .picks ≡ picksIn state = ap (λ (x : Receiver). x .picks) (is .receiver ∙ left) ∙ picks-at state (l .yes) in
       rw (same, take-append-drop 72 (drop picksAt state)) (take-append-drop picksAt state)
 

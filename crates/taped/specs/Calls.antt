@@ -2,16 +2,15 @@
 -- that the state then reads as. Each is the recorder's own function, between reading the state and writing it back.
 --   toldFour a b p n told      `told` with its first four places written: told[3] is how many bytes were recorded
 --   Call, callOf, withTold     a call; what the machine did, told to the caller; 8 where `told` is too short
---   hearCall, finishCall       a piece heard, a finish
+--   hearCall, finishCall       a piece heard, with marks or without; a finish
 use Prim.Native.Nat.{ℕ}
 use mathlib.Core.Bool.{Bool, cond}
 use mathlib.Core.List.{List, _∷_, _++_}
 use lib.Dec.{eqb, ltb}
-use lib.IntN.{ℤ}
 use lib.ListN.{length, drop}
 use Rattle.machine.specs.declared.Receiver.{Receiver}
 use Rattle.reasons.specs.Reason.{givenOf}
-use Rattle.told.specs.Piece.{pieceOf}
+use Rattle.told.specs.Piece.{Piece}
 use Rattle.records.specs.Values.{bytesOf}
 use Rattle.tape.specs.Front.{spaceOf}
 use Rattle.taping.specs.Taping.{Ran}
@@ -47,9 +46,9 @@ abbrev pub withTold : Call → List ℕ → List ℕ → List ℕ → List ℕ �
 withTold c state out bytes told = cond (ltb (length told) 4) (record { number = 8; state = state; receiver = receiverIn state; out = out; bytes = bytes; told = told }) c
 
 -- where no symbol was taken the state stays as it was
-unfoldable pub hearCall : List ℕ → List ℤ → List ℕ → List ℕ → List ℕ → Call
+unfoldable pub hearCall : List ℕ → Piece → List ℕ → List ℕ → List ℕ → Call
 hearCall state piece out bytes told =
-    let r = tapedHearing (receiverIn state) (pieceOf piece) (length out) (length bytes) in
+    let r = tapedHearing (receiverIn state) piece (length out) (length bytes) in
     withTold (callOf (ltb 0 (r .taken)) r state out bytes told) state out bytes told
 
 -- where the finish was refused the state stays as it was

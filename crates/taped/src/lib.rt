@@ -10,6 +10,7 @@ ghost use mathlib.Core.Path.{_≡_};
 ghost use Prim.Native.Nat.{_≤_};
 ghost use lib.ListN.{length};
 ghost use Rattle.reasons.specs.Reason.{givenOf};
+ghost use Rattle.told.specs.Piece.{pieceWith, markedPiece, pieceOf};
 ghost use Rattle.taped.specs.Calls.{toldFour, hearCall, finishCall};
 ghost use Rattle.taped.specs.Promise.{Records};
 
@@ -26,15 +27,18 @@ fn answer(told: &mut [u64], taken: usize, written: usize, recorded: usize, why: 
     reasons::number(why)
 }
 
-// The receiver is heard in its parts: its picks stay in the state, and the rest is copied out of it, and back where a symbol was taken.
-pub fn hear_recorded(
+// A piece, with the marks where `marked` says so. The receiver is heard in its parts: its picks stay in the state, and the rest is copied out
+// of it, and back where a symbol was taken.
+fn hear_piece(
     state: &mut [u64],
+    marked: bool,
+    marks: &[u8],
     piece: &[i32],
     out: &mut [u32],
     bytes: &mut [u8],
     told: &mut [u64],
 ) -> u32
-    ensures { λ r. ⌜ Records (hearCall (now (state .entry)) (now (piece .entry)) (now (out .entry)) (now (bytes .entry)) (now (told .entry)))
+    ensures { λ r. ⌜ Records (hearCall (now (state .entry)) (pieceWith marked (now (marks .entry)) (now (piece .entry))) (now (out .entry)) (now (bytes .entry)) (now (told .entry)))
         r (now (state .exit)) (now (out .exit)) (now (bytes .exit)) (now (told .exit)) ⌝ }
 {
     if told.len() < 4 {
@@ -47,9 +51,11 @@ pub fn hear_recorded(
     let core = copied.core;
     let mut sums = copied.sums;
     let mut planes = copied.planes;
-    let a = recorder::hear_lent(
+    let a = recorder::hear_piece_lent(
         true,
         core,
+        marked,
+        marks,
         piece,
         &mut sums,
         &mut planes,
@@ -65,6 +71,34 @@ pub fn hear_recorded(
     let after = a.core;
     store_front(true, after, sums, planes, state);
     n
+}
+
+pub fn hear_recorded(
+    state: &mut [u64],
+    piece: &[i32],
+    out: &mut [u32],
+    bytes: &mut [u8],
+    told: &mut [u64],
+) -> u32
+    ensures { λ r. ⌜ Records (hearCall (now (state .entry)) (pieceOf (now (piece .entry))) (now (out .entry)) (now (bytes .entry)) (now (told .entry)))
+        r (now (state .exit)) (now (out .exit)) (now (bytes .exit)) (now (told .exit)) ⌝ }
+{
+    let none = [0u8; 0];
+    hear_piece(state, false, &none, piece, out, bytes, told)
+}
+
+pub fn hear_marked_recorded(
+    state: &mut [u64],
+    piece: &[i32],
+    marks: &[u8],
+    out: &mut [u32],
+    bytes: &mut [u8],
+    told: &mut [u64],
+) -> u32
+    ensures { λ r. ⌜ Records (hearCall (now (state .entry)) (markedPiece (now (marks .entry)) (now (piece .entry))) (now (out .entry)) (now (bytes .entry)) (now (told .entry)))
+        r (now (state .exit)) (now (out .exit)) (now (bytes .exit)) (now (told .exit)) ⌝ }
+{
+    hear_piece(state, true, marks, piece, out, bytes, told)
 }
 
 // The state is written back, closed, where the finish was done.

@@ -7,11 +7,11 @@
 use mathlib.Core.Path.{_≡_, refl, sym, ap, ap₂, _∙_}
 use mathlib.Core.Bool.{true, false, cond}
 use mathlib.Core.List.{List, [], _∷_, _++_, append-nil}
-use Prim.Native.Nat.{ℕ, _+_, _-_, _%_, _<_, _≤_}
+use Prim.Native.Nat.{ℕ, _+_, _-_, _*_, _%_, _<_, _≤_}
 use native.Mathlib.Nat.{add-zero}
 use native.Mathlib.Omega.{arith}
 use lib.IntN.{ℤ}
-use lib.ListN.{length, take, drop, length-drop, take-append-drop, drop-of-length-le}
+use lib.ListN.{getD, length, take, drop, length-drop, take-append-drop, drop-of-length-le}
 use lib.Seq.{length-take-le, drop-drop}
 use Rattle.trellis.specs.Measure.{Two}
 use Rattle.nearest.specs.declared.Received.{Received}
@@ -23,7 +23,8 @@ use Rattle.reasons.specs.declared.Why.{Why}
 use Rattle.reasons.specs.declared.Why.the-variants.{Done}
 use Rattle.reasons.specs.Reason.{reason, givenOf, isDone}
 use Rattle.reasons.proofs.Apart.{done-given}
-use Rattle.told.specs.Piece.{symbolsOf}
+use Rattle.told.specs.Piece.{symbolsWith, markOf, laterMarks}
+use Rattle.pieces.proofs.Marks.{mark-from, later-from}
 use Rattle.pieces.proofs.Lent.{part, lent-fits, back-is, back-take, back-drop, back-length}
 use Rattle.records.specs.Values.{Entry, bytesOf}
 use Rattle.tape.specs.Front.{symbolIn, symbolRecords, spaceOf}
@@ -34,6 +35,7 @@ use Rattle.taping.specs.Lent.{StepIs, RunsTaped}
 use Rattle.taping.proofs.Left.{taped-refused, taped-sound}
 
 pub record Given : Type 0 where
+  pub ms : List ℕ
   pub xs : List ℤ
   pub out : List ℕ
   pub bytes : List ℕ
@@ -51,13 +53,12 @@ pub record Stand : Type 0 where
 
 -- the end of the whole piece
 abbrev pub allOf : Given → Ran
-allOf z = taping (symbolsOf (z .xs)) (z .rx) 0 [] [] (length (z .out)) (length (z .bytes))
+allOf z = taping (symbolsWith (z .ms) (z .xs)) (z .rx) 0 [] [] (length (z .out)) (length (z .bytes))
 
 pub record Going (z : Given) (s : Stand) : Type 0 where
   pub even : length (z .xs) % 4 ≡ 0
-  pub aligned : s .i % 4 ≡ 0
   pub within : s .i ≤ length (z .xs)
-  pub count : s .taken ≤ s .i
+  pub count : 4 * s .taken ≡ s .i
   pub room : s .written ≤ length (z .out)
   pub long : length (s .out) ≡ length (z .out)
   pub space : s .recorded ≤ length (z .bytes)
@@ -69,15 +70,15 @@ pub record Going (z : Given) (s : Stand) : Type 0 where
   pub rest-bytes : drop (s .recorded) (s .bytes) ≡ drop (s .recorded) (z .bytes)
   pub records : List Entry
   pub are : take (s .recorded) (s .bytes) ≡ bytesOf records
-  pub same : allOf z ≡ taping (symbolsOf (drop (s .i) (z .xs))) (s .rx) (s .taken) (take (s .written) (s .out)) records (length (z .out)) (length (z .bytes))
+  pub same : allOf z ≡ taping (symbolsWith (drop (s .taken) (z .ms)) (drop (s .i) (z .xs))) (s .rx) (s .taken) (take (s .written) (s .out)) records (length (z .out)) (length (z .bytes))
 
--- the symbol at the front of some coordinates, and those after it
-front-symbol : (zs : List ℤ) → 4 ≤ length zs → symbolsOf zs ≡ symbolIn (take 4 zs) ∷ symbolsOf (drop 4 zs)
-front-symbol [] h = absurd (omega arith)
-front-symbol (a ∷ []) h = absurd (omega arith)
-front-symbol (a ∷ b ∷ []) h = absurd (omega arith)
-front-symbol (a ∷ b ∷ c ∷ []) h = absurd (omega arith)
-front-symbol (a ∷ b ∷ c ∷ d ∷ zs) h = refl
+-- the symbol at the front of some coordinates, with its mark, and those after it
+front-symbol : (ms : List ℕ) (zs : List ℤ) → 4 ≤ length zs → symbolsWith ms zs ≡ symbolIn (markOf ms) (take 4 zs) ∷ symbolsWith (laterMarks ms) (drop 4 zs)
+front-symbol ms [] h = absurd (omega arith)
+front-symbol ms (a ∷ []) h = absurd (omega arith)
+front-symbol ms (a ∷ b ∷ []) h = absurd (omega arith)
+front-symbol ms (a ∷ b ∷ c ∷ []) h = absurd (omega arith)
+front-symbol ms (a ∷ b ∷ c ∷ d ∷ zs) h = refl
 
 -- one symbol of a run
 module _ (y : Two Received) (zs : List (Two Received)) (rx : Receiver) (n : ℕ) (ws : List ℕ) (rs : List Entry) (room bytes : ℕ)
@@ -107,9 +108,8 @@ module _ (z : Given) where
   start even fit of-72 =
       record {
         even = even;
-        aligned = refl;
         within = omega arith;
-        count = omega arith;
+        count = refl;
         room = omega arith;
         long = refl;
         space = omega arith;
@@ -139,7 +139,8 @@ module _ (z : Given) where
   end core sums planes picks out bytes taken w v why i g past =
       let s : Stand = record { out = out; bytes = bytes; rx = whole core sums planes picks; taken = taken; written = w; recorded = v; why = why; i = i } in
       let ran : allOf z ≡ record { receiver = s .rx; taken = taken; words = take w out; records = g .records; why = Done } =
-      g .same ∙ ap (λ (zs : List ℤ). taping (symbolsOf zs) (s .rx) taken (take w out) (g .records) (length (z .out)) (length (z .bytes))) (drop-of-length-le (z .xs) {i = i} past) in
+      g .same ∙ ap (λ (zs : List ℤ). taping (symbolsWith (drop taken (z .ms)) zs) (s .rx) taken (take w out) (g .records) (length (z .out)) (length (z .bytes)))
+      (drop-of-length-le (z .xs) {i = i} past) in
       rw ran
       (record {
         receiver = refl;
@@ -165,7 +166,7 @@ returned w l ys = take w l ++ (ys ++ drop (length l - w) (drop w l))
 
 module _ (z : Given) (s : Stand) (g : Going z s) (more : s .i < length (z .xs)) where
   pub four : s .i + 4 ≤ length (z .xs)
-  four = omega (arith, g .even, g .aligned, g .within)
+  four = omega (arith, g .even, g .count, g .within)
 
   pub four-long : length (fourAt (z .xs) (s .i)) ≡ 4
   four-long =
@@ -175,13 +176,15 @@ module _ (z : Given) (s : Stand) (g : Going z s) (more : s .i < length (z .xs)) 
 pub record Turn (z : Given) (s : Stand) : Type 0 where
   pub going : Going z s
   pub more : s .i < length (z .xs)
+  pub mark : ℕ
+  pub mark-is : mark ≡ getD (z .ms) (s .taken) 0
   pub step : Step
   pub sums : List ℕ
   pub planes : List ℕ
   pub picks : List ℕ
   pub ys : List ℕ
   pub zs : List ℕ
-  pub is : StepIs (s .rx) (symbolIn (fourAt (z .xs) (s .i))) (lentFrom (s .written) (s .out)) (lentFrom (s .recorded) (s .bytes)) step sums planes picks ys zs
+  pub is : StepIs (s .rx) (symbolIn mark (fourAt (z .xs) (s .i))) (lentFrom (s .written) (s .out)) (lentFrom (s .recorded) (s .bytes)) step sums planes picks ys zs
   pub kept : length ys ≡ length (lentFrom (s .written) (s .out))
   pub kept-bytes : length zs ≡ length (lentFrom (s .recorded) (s .bytes))
 
@@ -193,7 +196,7 @@ module _ (z : Given) (s : Stand) (t : Turn z s) where
   r = t .step
 
   abbrev y : Two Received
-  y = symbolIn (fourAt (z .xs) (s .i))
+  y = symbolIn (t .mark) (fourAt (z .xs) (s .i))
 
   abbrev left : ℕ
   left = length (lentFrom (s .written) (s .out))
@@ -208,7 +211,7 @@ module _ (z : Given) (s : Stand) (t : Turn z s) where
   new = recordsOf y o
 
   abbrev ahead : List (Two Received)
-  ahead = symbolsOf (drop (s .i + 4) (z .xs))
+  ahead = symbolsWith (drop (s .taken + 1) (z .ms)) (drop (s .i + 4) (z .xs))
 
   -- the output and the bytes after it
   abbrev pub outNext : List ℕ
@@ -217,10 +220,11 @@ module _ (z : Given) (s : Stand) (t : Turn z s) where
   abbrev pub bytesNext : List ℕ
   bytesNext = returned (s .recorded) (s .bytes) (t .zs)
 
-  symbols-are : symbolsOf (drop (s .i) (z .xs)) ≡ y ∷ ahead
+  symbols-are : symbolsWith (drop (s .taken) (z .ms)) (drop (s .i) (z .xs)) ≡ y ∷ ahead
   symbols-are =
       let n : s .i + 4 - s .i ≡ 4 = omega arith in
-      front-symbol (drop (s .i) (z .xs)) (rw length-drop (omega (arith, four z s g (t .more)))) ∙ rw (n, drop-drop 4 (s .i) (z .xs))
+      front-symbol (drop (s .taken) (z .ms)) (drop (s .i) (z .xs)) (rw length-drop (omega (arith, four z s g (t .more))))
+      ∙ rw (n, drop-drop 4 (s .i) (z .xs), mark-from (z .ms) (s .taken), later-from (z .ms) (s .taken), t .mark-is)
 
   here : tapedAt (s .rx) y (length (z .out) - length (take (s .written) (s .out))) (length (z .bytes) - spaceOf (g .records)) ≡ o
   here =
@@ -275,7 +279,6 @@ module _ (z : Given) (s : Stand) (t : Turn z s) where
       let k : new ≡ symbolRecords y (o .words) = rw d in
       record {
         even = g .even;
-        aligned = omega (arith, g .aligned);
         within = four z s g (t .more);
         count = omega (arith, g .count);
         room = more-fits;

@@ -7,7 +7,7 @@
 use mathlib.Core.Path.{_≡_, refl, sym, ap, subst, _∙_}
 use mathlib.Core.Bool.{Bool, true, false, cond}
 use mathlib.Core.List.{List, [], _∷_, _++_}
-use Prim.Native.Nat.{ℕ, zero, suc, _+_, _-_, _*_, _/_, _<_, _≤_, min}
+use Prim.Native.Nat.{ℕ, _+_, _-_, _*_, _/_, _<_, _≤_, min}
 use native.Mathlib.Nat.{sub-zero}
 use native.Mathlib.Omega.{arith}
 use lib.Dec.{T, ltb}
@@ -16,7 +16,8 @@ use lib.ListN.{length, take, drop, length-append, length-drop, take-append-drop}
 use lib.Seq.{length-take-le}
 use Rattle.trellis.specs.Measure.{Two}
 use Rattle.nearest.specs.declared.Received.{Received}
-use Rattle.nearest.specs.Line.{BothInRange}
+use Rattle.nearest.specs.declared.Received.the-variants.{Heard as At, Missing}
+use Rattle.nearest.specs.Line.{InRange, BothInRange}
 use Rattle.machine.specs.declared.Core.{Core}
 use Rattle.machine.specs.declared.Receiver.{Receiver}
 use Rattle.machine.specs.Machine.{Outcome, refused}
@@ -26,14 +27,14 @@ use Rattle.reasons.specs.declared.Why.the-variants.{Done, NoRoom}
 use Rattle.reasons.specs.Reason.{givenOf, isDone}
 use Rattle.reasons.proofs.Apart.{given-one, done-given}
 use Rattle.told.specs.Told.{faultOf}
-use Rattle.told.specs.Piece.{symbolFrom, symbolsOf}
+use Rattle.told.specs.Piece.{markedSymbol, symbolsWith}
 use Rattle.told.proofs.Telling.{in-range}
 use Rattle.pieces.specs.declared.Heard.{Heard}
 use Rattle.pieces.specs.Running.{symbolAt, Ran, running}
 use Rattle.pieces.specs.Lent.{RunsLent}
 use Rattle.pieces.proofs.Kept.{symbol-refused}
 use Rattle.records.specs.Values.{bytesOf}
-use Rattle.tape.specs.Front.{symbolIn, symbolSpace, symbolRecords, Fronted, Small}
+use Rattle.tape.specs.Front.{symbolIn, spotOf, symbolSpace, symbolRecords, Fronted, SmallSpot, Small}
 use Rattle.tape.proofs.Fronts.{symbol-space}
 use Rattle.taping.specs.Taping.{tapedAt}
 use Rattle.taping.specs.Lent.{Refuses, StepOf, StepIs}
@@ -52,14 +53,14 @@ stayed rx o = record { receiver = rx; taken = 0; words = []; why = o .why }
 abbrev one : Receiver → Outcome → Ran
 one rx o = cond (isDone (o .why)) (took o) (stayed rx o)
 
-run-one : (rx : Receiver) (xs : List ℤ) → length xs ≡ 4 → (room : ℕ) → running (symbolsOf xs) rx 0 [] room ≡ one rx (symbolAt rx (symbolIn xs) room)
+run-one : (rx : Receiver) (n : ℕ) (xs : List ℤ) → length xs ≡ 4 → (room : ℕ) → running (symbolsWith (n ∷ []) xs) rx 0 [] room ≡ one rx (symbolAt rx (symbolIn n xs) room)
 unfolding running
-run-one rx [] f room = absurd (omega arith)
-run-one rx (a ∷ []) f room = absurd (omega arith)
-run-one rx (a ∷ b ∷ []) f room = absurd (omega arith)
-run-one rx (a ∷ b ∷ c ∷ []) f room = absurd (omega arith)
-run-one rx (a ∷ b ∷ c ∷ d ∷ []) f room = ap (λ (m : ℕ). one rx (symbolAt rx (symbolFrom a b c d) m)) (sub-zero room)
-run-one rx (a ∷ b ∷ c ∷ d ∷ e ∷ xs) f room = absurd (omega arith)
+run-one rx n [] f room = absurd (omega arith)
+run-one rx n (a ∷ []) f room = absurd (omega arith)
+run-one rx n (a ∷ b ∷ []) f room = absurd (omega arith)
+run-one rx n (a ∷ b ∷ c ∷ []) f room = absurd (omega arith)
+run-one rx n (a ∷ b ∷ c ∷ d ∷ []) f room = ap (λ (m : ℕ). one rx (symbolAt rx (markedSymbol n a b c d) m)) (sub-zero room)
+run-one rx n (a ∷ b ∷ c ∷ d ∷ e ∷ xs) f room = absurd (omega arith)
 
 -- a symbol that is taken is in range
 taken-in-range : (rx : Receiver) (y : Two Received) (room : ℕ) → isDone (symbolAt rx y room .why) ≡ true → BothInRange y
@@ -69,32 +70,25 @@ taken-in-range rx y room e = go (ltb (faultOf y) 4) refl where
   go true k = absurd (let z : _≡_ {A = Bool} false true = rw k at e in subst T (sym z) tt)
   go false k = in-range y k
 
-in-four : (xs : List ℤ) → length xs ≡ 4 → BothInRange (symbolIn xs) → Small xs
-in-four [] f r i = absurd (omega arith)
-in-four (a ∷ []) f r i = absurd (omega arith)
-in-four (a ∷ b ∷ []) f r i = absurd (omega arith)
-in-four (a ∷ b ∷ c ∷ []) f r i = absurd (omega arith)
-in-four (a ∷ b ∷ c ∷ d ∷ []) f r zero = omega (arith, r .first-in .x-in)
-in-four (a ∷ b ∷ c ∷ d ∷ []) f r (suc zero) = omega (arith, r .first-in .y-in)
-in-four (a ∷ b ∷ c ∷ d ∷ []) f r (suc (suc zero)) = omega (arith, r .second-in .x-in)
-in-four (a ∷ b ∷ c ∷ d ∷ []) f r (suc (suc (suc zero))) = omega (arith, r .second-in .y-in)
-in-four (a ∷ b ∷ c ∷ d ∷ []) f r (suc (suc (suc (suc i)))) = omega arith
-in-four (a ∷ b ∷ c ∷ d ∷ e ∷ xs) f r i = absurd (omega arith)
+-- so 16 bits hold its coordinates
+spot-small : (h : Received) → InRange h → SmallSpot (spotOf h)
+spot-small (At s) r = (omega (arith, r .x-in), omega (arith, r .y-in))
+spot-small Missing r = (omega arith, omega arith)
 
 -- ---- what the machine left
 
-pub record Asked (rx : Receiver) (xs : List ℤ) (room : List ℕ) : Type 0 where
+pub record Asked (rx : Receiver) (n : ℕ) (xs : List ℤ) (room : List ℕ) : Type 0 where
   pub four : length xs ≡ 4
   pub heard : Heard
   pub sums : List ℕ
   pub planes : List ℕ
   pub picks : List ℕ
   pub after : List ℕ
-  pub was : RunsLent (running (symbolsOf xs) rx 0 [] (length room)) room heard sums planes picks after
+  pub was : RunsLent (running (symbolsWith (n ∷ []) xs) rx 0 [] (length room)) room heard sums planes picks after
 
-module _ (rx : Receiver) (xs : List ℤ) (room : List ℕ) (a : Asked rx xs room) where
+module _ (rx : Receiver) (n : ℕ) (xs : List ℤ) (room : List ℕ) (a : Asked rx n xs room) where
   abbrev y : Two Received
-  y = symbolIn xs
+  y = symbolIn n xs
 
   abbrev o : Outcome
   o = symbolAt rx y (length room)
@@ -103,7 +97,7 @@ module _ (rx : Receiver) (xs : List ℤ) (room : List ℕ) (a : Asked rx xs room
   Went r = RunsLent r room (a .heard) (a .sums) (a .planes) (a .picks) (a .after)
 
   is-one : Went (one rx o)
-  is-one = subst Went (run-one rx xs (a .four) (length room)) (a .was)
+  is-one = subst Went (run-one rx n xs (a .four) (length room)) (a .was)
 
   why-is : a .heard .why ≡ o .why
   why-is = given-one (a .heard .why) (o .why) (is-one .given ∙ go (isDone (o .why)) refl) where
@@ -149,24 +143,24 @@ unfolding bytesOf
 step-short core sums planes picks out bytes y w r few =
     rw (r .1 (length out) (length bytes) few) (record { receiver = refl; why = refl; written = refl; recorded = rw (r .0); output = refl; bytes-are = rw (r .0) })
 
-pub record Lends (rx : Receiver) (xs : List ℤ) (out bytes : List ℕ) : Type 0 where
+pub record Lends (rx : Receiver) (n : ℕ) (xs : List ℤ) (out bytes : List ℕ) : Type 0 where
   pub size : ℕ
-  pub size-is : size ≡ symbolSpace (symbolIn xs)
+  pub size-is : size ≡ symbolSpace (symbolIn n xs)
   pub wide : size ≤ length bytes
   pub m : ℕ
   pub m-is : m ≡ min (length out) ((length bytes - size) / 5)
-  pub asked : Asked rx xs (take m out)
+  pub asked : Asked rx n xs (take m out)
   pub kept : length (asked .after) ≡ length (take m out)
 
-module _ (rx : Receiver) (xs : List ℤ) (out bytes : List ℕ) (l : Lends rx xs out bytes) where
-  abbrev a : Asked rx xs (take (l .m) out)
+module _ (rx : Receiver) (n : ℕ) (xs : List ℤ) (out bytes : List ℕ) (l : Lends rx n xs out bytes) where
+  abbrev a : Asked rx n xs (take (l .m) out)
   a = l .asked
 
   abbrev h : Heard
   h = a .heard
 
   abbrev it : Two Received
-  it = symbolIn xs
+  it = symbolIn n xs
 
   abbrev said : Outcome
   said = symbolAt rx it (length (take (l .m) out))
@@ -190,14 +184,14 @@ module _ (rx : Receiver) (xs : List ℤ) (out bytes : List ℕ) (l : Lends rx xs
   pub step-refused : h .taken ≡ 0 → Steps 0 0 bytes (tapedAt rx it (length out) (length bytes))
   unfolding bytesOf
   step-refused z =
-      let e = not-taken rx xs (take (l .m) out) a z in
+      let e = not-taken rx n xs (take (l .m) out) a z in
       let k = symbol-refused rx it (length (take (l .m) out)) e in
-      let r = refused-is rx xs (take (l .m) out) a e in
+      let r = refused-is rx n xs (take (l .m) out) a e in
       let y-is : a .after ≡ take (l .m) out = r .output in
       subst (Steps 0 0 bytes) same
       (record {
         receiver = r .receiver ∙ sym (k .1);
-        why = why-is rx xs (take (l .m) out) a;
+        why = why-is rx n xs (take (l .m) out) a;
         written = rw (k .0);
         recorded = rw e;
         output = rw (k .0, y-is) (take-append-drop (l .m) out);
@@ -206,10 +200,10 @@ module _ (rx : Receiver) (xs : List ℤ) (out bytes : List ℕ) (l : Lends rx xs
 
   module _ (some : h .taken ≡ 0 → ⊥) where
     done : isDone (said .why) ≡ true
-    done = is-taken rx xs (take (l .m) out) a some
+    done = is-taken rx n xs (take (l .m) out) a some
 
     r : RunsLent (took said) (take (l .m) out) h (a .sums) (a .planes) (a .picks) (a .after)
-    r = taken-is rx xs (take (l .m) out) a done
+    r = taken-is rx n xs (take (l .m) out) a done
 
     few-words : length (said .words) ≤ l .m
     unfolding r
@@ -235,22 +229,24 @@ module _ (rx : Receiver) (xs : List ℤ) (out bytes : List ℕ) (l : Lends rx xs
     pub words-space : symbolSpace it + 5 * length (take (h .written) outAfter) ≤ length bytes
     words-space = omega (arith, words-many, space, l .size-is)
 
-    pub small : Small xs
+    pub small : Small it
     unfolding done
-    small = in-four xs (a .four) (taken-in-range rx it (length (take (l .m) out)) done)
+    small =
+        let r = taken-in-range rx it (length (take (l .m) out)) done in
+        (spot-small (it .first) (r .first-in), spot-small (it .second) (r .second-in))
 
     -- the records are put
     pub step-taken : (b : List ℕ) → Fronted (symbolRecords it (take (h .written) outAfter)) bytes b →
         Steps (h .written) (l .size + 5 * h .written) b (tapedAt rx it (length out) (length bytes))
     unfolding r done
     step-taken b put =
-        let n : h .written ≡ length (said .words) = r .written in
+        let w : h .written ≡ length (said .words) = r .written in
         subst (Steps (h .written) (l .size + 5 * h .written) b) same
         (record {
           receiver = r .receiver;
-          why = why-is rx xs (take (l .m) out) a;
-          written = n;
-          recorded = rw (done, symbol-space it (said .words), n, l .size-is);
+          why = why-is rx n xs (take (l .m) out) a;
+          written = w;
+          recorded = rw (done, symbol-space it (said .words), w, l .size-is);
           output = back out (said .words) (a .after) (l .m) m-in (r .output) (l .kept);
           bytes-are = rw done (subst (λ (v : List ℕ). Fronted (symbolRecords it v) bytes b) words-are put);
         })

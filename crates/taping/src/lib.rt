@@ -14,7 +14,7 @@ ghost use Prim.Native.Nat.{_/_, _%_, min};
 ghost use lib.ListN.{length};
 ghost use Rattle.machine.specs.Machine.{sound};
 ghost use Rattle.machine.specs.Taken.{whole};
-ghost use Rattle.told.specs.Piece.{symbolsOf};
+ghost use Rattle.told.specs.Piece.{symbolsWith, marksOf};
 ghost use Rattle.tape.specs.Front.{symbolIn};
 ghost use Rattle.taping.specs.Taping.{taping};
 ghost use Rattle.taping.specs.Lent.{Refuses, StepIs, RunsTaped};
@@ -37,16 +37,33 @@ struct Step {
 }
 
 // What is said to a symbol whose own record has no room: 5, 7 or 6 first, as a copy of the receiver says it, and else 8.
-fn refusal(core: Core, four: &[i32], sums: &[u64; 16], planes: &[u64; 48], picks: &[u64]) -> Why
+fn refusal(
+    core: Core,
+    mark: u8,
+    four: &[i32],
+    sums: &[u64; 16],
+    planes: &[u64; 48],
+    picks: &[u64],
+) -> Why
     requires { ⌜ (sound (whole core (now sums) (now planes) (now picks)) ≡ true) × (length (now picks) ≡ 72) × (length (now four) ≡ 4) ⌝ }
-    ensures { λ r. ⌜ Refuses (whole core (now (sums .entry)) (now (planes .entry)) (now (picks .entry))) (symbolIn (now (four .entry))) r ⌝ }
+    ensures { λ r. ⌜ Refuses (whole core (now (sums .entry)) (now (planes .entry)) (now (picks .entry))) (symbolIn mark (now (four .entry))) r ⌝ }
 {
     let mut s = *sums;
     let mut p = *planes;
     let mut k = [0u64; 72];
     layout::copy(picks, &mut k[0..]);
     let mut none = [0u32; 1];
-    let h = pieces::hear_symbols(core, four, &mut s, &mut p, &mut k, &mut none[..0]);
+    let marks = [mark];
+    let h = pieces::hear_symbols(
+        core,
+        true,
+        &marks,
+        four,
+        &mut s,
+        &mut p,
+        &mut k,
+        &mut none[..0],
+    );
     let why = h.why;
     if reasons::is_done(why) {
         return Why::NoRoom;
@@ -79,6 +96,7 @@ fn not_taken(core: Core, why: Why) -> Step
 // One symbol, and its records.
 fn record_symbol(
     core: Core,
+    mark: u8,
     four: &[i32],
     sums: &mut [u64; 16],
     planes: &mut [u64; 48],
@@ -87,23 +105,33 @@ fn record_symbol(
     bytes: &mut [u8],
 ) -> Step
     requires { ⌜ (sound (whole core (now sums) (now planes) (now picks)) ≡ true) × (length (now picks) ≡ 72) × (length (now four) ≡ 4) ⌝ }
-    ensures { λ r. ⌜ StepIs (whole core (now (sums .entry)) (now (planes .entry)) (now (picks .entry))) (symbolIn (now (four .entry))) (now (out .entry)) (now (bytes .entry))
+    ensures { λ r. ⌜ StepIs (whole core (now (sums .entry)) (now (planes .entry)) (now (picks .entry))) (symbolIn mark (now (four .entry))) (now (out .entry)) (now (bytes .entry))
         r (now (sums .exit)) (now (planes .exit)) (now (picks .exit)) (now (out .exit)) (now (bytes .exit)) ⌝ }
 {
-    let size = tape::symbol_space(four);
+    let size = tape::symbol_space(mark, four);
     if bytes.len() < size {
-        let why = refusal(core, four, sums, planes, picks);
+        let why = refusal(core, mark, four, sums, planes, picks);
         return not_taken(core, why);
     }
     let room = places(out.len(), bytes.len() - size);
-    let h = pieces::hear_symbols(core, four, sums, planes, picks, &mut out[..room]);
+    let marks = [mark];
+    let h = pieces::hear_symbols(
+        core,
+        true,
+        &marks,
+        four,
+        sums,
+        planes,
+        picks,
+        &mut out[..room],
+    );
     let after = h.core;
     let why = h.why;
     if h.taken == 0 {
         return not_taken(after, why);
     }
     let written = h.written;
-    tape::put_taken(four, &out[..written], bytes);
+    tape::put_taken(mark, four, &out[..written], bytes);
     Step {
         core: after,
         written: written,
@@ -112,9 +140,11 @@ fn record_symbol(
     }
 }
 
-// The symbols of a piece, one after another, up to the first that is refused.
+// The symbols of a piece, with their marks where it has any, one after another, up to the first that is refused.
 pub fn record_symbols(
     start: Core,
+    marked: bool,
+    marks: &[u8],
     samples: &[i32],
     sums: &mut [u64; 16],
     planes: &mut [u64; 48],
@@ -123,7 +153,7 @@ pub fn record_symbols(
     bytes: &mut [u8],
 ) -> Kept
     requires { ⌜ (sound (whole start (now sums) (now planes) (now picks)) ≡ true) × (length (now samples) % 4 ≡ 0) × (length (now picks) ≡ 72) ⌝ }
-    ensures { λ r. ⌜ RunsTaped (taping (symbolsOf (now (samples .entry))) (whole start (now (sums .entry)) (now (planes .entry)) (now (picks .entry))) 0 [] []
+    ensures { λ r. ⌜ RunsTaped (taping (symbolsWith (marksOf marked (now (marks .entry))) (now (samples .entry))) (whole start (now (sums .entry)) (now (planes .entry)) (now (picks .entry))) 0 [] []
         (length (now (out .entry))) (length (now (bytes .entry)))) (now (out .entry)) (now (bytes .entry))
         r (now (sums .exit)) (now (planes .exit)) (now (picks .exit)) (now (out .exit)) (now (bytes .exit)) ⌝ }
 {
@@ -135,8 +165,10 @@ pub fn record_symbols(
     let mut i: usize = 0;
     while i < samples.len() {
         let next = i + 4;
+        let mark = pieces::mark_at(marked, marks, taken);
         let t = record_symbol(
             core,
+            mark,
             &samples[i..next],
             sums,
             planes,

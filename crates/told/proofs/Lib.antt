@@ -1,3 +1,4 @@
 pub mod Telling
 pub mod Cases
 pub mod Speaks
+pub mod Marked

@@ -29,7 +29,7 @@ pieceGoes t p room = let e = endedOf t p room in record { reason = e .why; taken
 abbrev pub pieceUneven : Told → Owed
 pieceUneven t = record { reason = reason 10; taken = 0; words = []; told = t }
 
--- "piece length not a multiple of 4: nothing taken"; else symbol by symbol
+-- "piece length not a multiple of 4: nothing taken", or marks that do not fit it; else symbol by symbol
 unfoldable pub pieceOwed : Told → Piece → ℕ → Owed
 pieceOwed t p room = cond (p .fits) (pieceGoes t p room) (pieceUneven t)
 

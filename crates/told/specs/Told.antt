@@ -6,10 +6,10 @@
 --   withHeard t ys    the same opening, and the symbols ys
 --   speakerOf t       what is spoken of a list of symbols, and its answer
 --   pendingAfter t ys how many symbols of ys are taken and not released
---   faultOf y         the place of the first coordinate out of range, 0 to 3; 4 if there is none
+--   faultOf y         the place of the first coordinate out of range, 0 to 3; 4 if there is none. faultAt h, of one point: 0, 1; 2
 --   judgeOf t         what is said to a symbol, heard after ys with room for so many words: 5, 7, 6, 8 in this order, or 0
 --   Fine t            a history that calls can tell: no symbol of it was one to refuse
-use Prim.Native.Nat.{ℕ, _-_, _≤_}
+use Prim.Native.Nat.{ℕ, _+_, _-_, _≤_}
 use mathlib.Core.Path.{_≡_}
 use mathlib.Core.Bool.{true, cond}
 use mathlib.Core.List.{List, [], _∷_}
@@ -24,6 +24,7 @@ use Rattle.trellis.specs.Measure.{Start, GoodStart, Two, weiCode}
 use Rattle.trellis.specs.Words.{words}
 use Rattle.trellis.specs.Said.{spokenWords, answerWords}
 use Rattle.nearest.specs.declared.Received.{Received}
+use Rattle.nearest.specs.declared.Received.the-variants.{Heard, Missing}
 use Rattle.nearest.specs.Line.{isCoordinate, BothInRange, lineMeasure, lineChoice}
 use Rattle.reasons.specs.Reason.{Reason, reason}
 
@@ -56,12 +57,14 @@ speakerOf t =
 abbrev pub pendingAfter : Told → List (Two Received) → ℕ
 pendingAfter t ys = length ys - length (speakerOf t .spoken ys)
 
+-- "a missing point is never a 5" (02, Wish 4)
+unfoldable pub faultAt : Received → ℕ
+faultAt (Heard s) = cond (isCoordinate (s .x)) (cond (isCoordinate (s .y)) 2 1) 0
+faultAt Missing = 2
+
 -- "which of the four coordinates was first at fault"
 unfoldable pub faultOf : Two Received → ℕ
-faultOf y =
-    cond (isCoordinate (y .first .x))
-    (cond (isCoordinate (y .first .y)) (cond (isCoordinate (y .second .x)) (cond (isCoordinate (y .second .y)) 4 3) 2) 1)
-    0
+faultOf y = cond (ltb (faultAt (y .first)) 2) (faultAt (y .first)) (2 + faultAt (y .second))
 
 -- "symbol by symbol 5, 7, 6, 8"
 unfoldable pub judgeSymbol : Told → List (Two Received) → Two Received → ℕ → Reason

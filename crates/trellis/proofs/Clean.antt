@@ -19,6 +19,7 @@ use Rattle.trellis.specs.Pick.{Choice, Chooses, weiSearch}
 use Rattle.trellis.specs.Words.{words, asHeard}
 use Rattle.trellis.specs.Said.{answerWords}
 use Rattle.trellis.specs.Clean.{Hits, Exact}
+use Rattle.trellis.proofs.Lists.{every-reverse}
 use Rattle.trellis.proofs.Common.{path-length}
 use Rattle.trellis.proofs.Onward.{some-answer}
 use Rattle.trellis.proofs.WeiLaws.{wei-laws, wei-onward}
@@ -55,32 +56,32 @@ module _ (u : ℕ) (M : Measure) (b : Start) where
       let (r, z) = hits-last M (reverse ys) (symbols p) y c l (rw (reverse-cons y ys) at h) in
       omega (arith, sum-zero ys p (a .2) r, z)
 
-  one-zero : Exact u M → (ys : List Heard) (p q : Path Symbol) → Allowed (weiCode u M b) ys p → Allowed (weiCode u M b) ys q →
+  one-zero : (ys : List Heard) → Every (Exact u M) ys → (p q : Path Symbol) → Allowed (weiCode u M b) ys p → Allowed (weiCode u M b) ys q →
       cost (weiCode u M b) ys p ≡ 0 → cost (weiCode u M b) ys q ≡ 0 → symbols p ≡ symbols q
-  one-zero E [] (begin s) (begin t) a k e f = refl
-  one-zero E [] (begin s) (step q d t) a k e f = absurd k
-  one-zero E [] (step p c s) q a k e f = absurd a
-  one-zero E (y ∷ ys) (begin s) q a k e f = absurd a
-  one-zero E (y ∷ ys) (step p c s) (begin t) a k e f = absurd k
-  one-zero E (y ∷ ys) (step p c s) (step q d t) a k e f =
-      ap₂ (λ (l : List Symbol) (x : Symbol). l ++ (x ∷ [])) (one-zero E ys p q (a .2) (k .2) (omega arith) (omega arith)) (E y c d (a .1 .valid) (k .1 .valid) (omega arith) (omega arith))
+  one-zero [] E (begin s) (begin t) a k e f = refl
+  one-zero [] E (begin s) (step q d t) a k e f = absurd k
+  one-zero [] E (step p c s) q a k e f = absurd a
+  one-zero (y ∷ ys) E (begin s) q a k e f = absurd a
+  one-zero (y ∷ ys) E (step p c s) (begin t) a k e f = absurd k
+  one-zero (y ∷ ys) E (step p c s) (step q d t) a k e f =
+      ap₂ (λ (l : List Symbol) (x : Symbol). l ++ (x ∷ [])) (one-zero ys (E .1) p q (a .2) (k .2) (omega arith) (omega arith)) (E .0 c d (a .1 .valid) (k .1 .valid) (omega arith) (omega arith))
 
-  pub clean-answer : Exact u M → (s : ℕ) → s < 16 → T (mayStart b s) → (xs : List Heard) (cs : List Symbol) → Hits M xs cs → AllowedFrom u s cs →
+  pub clean-answer : (s : ℕ) → s < 16 → T (mayStart b s) → (xs : List Heard) (cs : List Symbol) → Every (Exact u M) xs → Hits M xs cs → AllowedFrom u s cs →
       (p : Path Symbol) → Answer (weiCode u M b) (reverse xs) p → symbols p ≡ cs
-  clean-answer E s h t xs cs k a p A =
+  clean-answer s h t xs cs E k a p A =
       let d = from-drawn u M b s cs h t a (reverse xs) (length-reverse xs ∙ hits-length M xs cs k) in
       let z : cost (weiCode u M b) (reverse xs) (d .path) ≡ 0 = sum-zero (reverse xs) (d .path) (d .allowed) (rw (reverse-reverse, d .symbols-are) k) in
       let w : cost (weiCode u M b) (reverse xs) p ≡ 0 = omega (arith, A .least (d .path) (d .allowed) .by-sum, z) in
-      one-zero E (reverse xs) p (d .path) (A .allowed) (d .allowed) w z ∙ d .symbols-are
+      one-zero (reverse xs) (every-reverse (Exact u M) xs E) p (d .path) (A .allowed) (d .allowed) w z ∙ d .symbols-are
 
-module _ (u : ℕ) (M : Measure) (H : Choice M) (C : Chooses u M H) (E : Exact u M) (b : Start) (g : GoodStart b) (s : ℕ) (h : s < 16) (t : T (mayStart b s)) where
+module _ (u : ℕ) (M : Measure) (H : Choice M) (C : Chooses u M H) (b : Start) (g : GoodStart b) (s : ℕ) (h : s < 16) (t : T (mayStart b s)) where
   open Measure M using (Heard)
 
-  pub clean-words : (xs : List Heard) (cs : List Symbol) → Hits M xs cs → AllowedFrom u s cs → answerWords u M H b (reverse xs) ≡ words u b cs
-  clean-words xs cs k a =
+  pub clean-words : (xs : List Heard) (cs : List Symbol) → Every (Exact u M) xs → Hits M xs cs → AllowedFrom u s cs → answerWords u M H b (reverse xs) ≡ words u b cs
+  clean-words xs cs E k a =
       let (p, A) = some-answer (weiSearch u M H sameSymbol b) (wei-laws u M H C sameSymbol b) (wei-onward u M b g) (reverse xs) in
-      answer-words u M H C b g xs p A ∙ ap (words u b) (clean-answer u M b E s h t xs cs k a p A)
+      answer-words u M H C b g xs p A ∙ ap (words u b) (clean-answer u M b s h t xs cs E k a p A)
 
   -- the words of a sender that starts in s
-  pub round-trip : (xs : List Heard) (ns : List ℕ) → Every (λ n. isWord u n ≡ true) ns → Hits M xs (symbolsFrom u s 0 ns) → answerWords u M H b (reverse xs) ≡ asHeard b ns
-  round-trip xs ns w k = clean-words xs (symbolsFrom u s 0 ns) k (symbols-allowed u s 0 ns) ∙ words-heard u b s ns w
+  pub round-trip : (xs : List Heard) → Every (Exact u M) xs → (ns : List ℕ) → Every (λ n. isWord u n ≡ true) ns → Hits M xs (symbolsFrom u s 0 ns) → answerWords u M H b (reverse xs) ≡ asHeard b ns
+  round-trip xs E ns w k = clean-words xs (symbolsFrom u s 0 ns) E k (symbols-allowed u s 0 ns) ∙ words-heard u b s ns w

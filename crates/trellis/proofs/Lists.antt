@@ -1,7 +1,7 @@
 -- Lists: beginnings of one list, one more at the end, the order at the first difference, and the numbers of a range. Leans on
 -- the library of lists.
 use mathlib.Core.Path.{_≡_, refl, sym, ap, subst, _∙_}
-use mathlib.Core.List.{List, [], _∷_, _++_, append-nil, append-assoc, append-cancel-left, IsPrefix}
+use mathlib.Core.List.{List, [], _∷_, _++_, append-nil, append-assoc, append-cancel-left, reverse, reverse-cons, IsPrefix}
 use mathlib.Core.Logic.{_⊎_, inl, inr, ⊎-elim}
 use Prim.Native.Nat.{ℕ, zero, suc, _+_, _≤_, _<_}
 use native.Mathlib.Omega.{arith}
@@ -102,6 +102,14 @@ pub state-below : (N s : ℕ) → In s (range zero N) → s < N
 state-below N s m = omega (arith, range-high zero N s m)
 
 -- what holds of all holds of all but the first
+pub every-reverse : {A : Type 0} (P : A → Type 0) (l : List A) → Every P l → Every P (reverse l)
+every-reverse P [] h = tt
+every-reverse P (a ∷ l) h = rw (reverse-cons a l) (last (reverse l) (every-reverse P l (h .1)))
+  where
+    last : (m : List _) → Every P m → Every P (m ++ (a ∷ []))
+    last [] k = (h .0, tt)
+    last (x ∷ m) k = (k .0, last m (k .1))
+
 pub every-drop : {A : Type 0} (P : A → Type 0) (n : ℕ) (l : List A) → Every P l → Every P (drop n l)
 every-drop P zero l h = h
 every-drop P (suc n) [] h = tt

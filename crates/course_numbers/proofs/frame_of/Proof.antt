@@ -9,7 +9,7 @@ use Rattle.course_numbers.specs.Numbers.{frameIn}
 use Rattle.course_numbers.proofs.frame_of.Statement.{statement}
 use Rattle.course_numbers.proofs.frame_of.Tie as tie
 
-known : (s : tie.Start) (i : ℕ) → i < 18 → getD (s .args .t1) i 0 ≤ getD limits i 0
+known : (s : tie.Start) (i : ℕ) → i < 19 → getD (s .args .t1) i 0 ≤ getD limits i 0
 known s i h = within-at limits (s .args .t1) (s .pre) i h
 
 array-read-stage-of : tie.Need-array-read-stage-of
@@ -81,11 +81,17 @@ array-read-t49 c = search needs
 cast-t50 : tie.Need-cast-t50
 cast-t50 c = let h : getD (c .before .before .args .t1) 10 0 ≤ 255 = known (c .before .before) 10 (omega arith) in omega (arith, h)
 
-array-read-t54 : tie.Need-array-read-t54
-array-read-t54 c = search needs
+array-read-t53 : tie.Need-array-read-t53
+array-read-t53 c = search needs
 
-array-read-t57 : tie.Need-array-read-t57
-array-read-t57 c = search needs
+cast-t54 : tie.Need-cast-t54
+cast-t54 c = let h : getD (c .before .before .args .t1) 11 0 ≤ 255 = known (c .before .before) 11 (omega arith) in omega (arith, h)
+
+array-read-t58 : tie.Need-array-read-t58
+array-read-t58 c = search needs
+
+array-read-t61 : tie.Need-array-read-t61
+array-read-t61 c = search needs
 
 returns : tie.Need-returns
 unfolding frameIn
@@ -118,6 +124,8 @@ frame-of-spec =
     cast-t46
     array-read-t49
     cast-t50
-    array-read-t54
-    array-read-t57
+    array-read-t53
+    cast-t54
+    array-read-t58
+    array-read-t61
     returns)

@@ -68,17 +68,23 @@ byte-requires-8 c κs = search needs
 cast-t26 : tie.Need-cast-t26
 cast-t26 c = search needs
 
-live-number-requires : tie.Need-live-number-requires
-live-number-requires c κs = search needs
+byte-requires-9 : tie.Need-byte-requires-9
+byte-requires-9 c κs = search needs
 
 cast-t28 : tie.Need-cast-t28
 cast-t28 c = search needs
 
-cast-t29 : tie.Need-cast-t29
-cast-t29 c = search needs
+live-number-requires : tie.Need-live-number-requires
+live-number-requires c κs = search needs
 
 cast-t30 : tie.Need-cast-t30
 cast-t30 c = search needs
+
+cast-t31 : tie.Need-cast-t31
+cast-t31 c = search needs
+
+cast-t32 : tie.Need-cast-t32
+cast-t32 c = search needs
 
 verdict-number-requires : tie.Need-verdict-number-requires
 verdict-number-requires c κs = search needs
@@ -86,14 +92,14 @@ verdict-number-requires c κs = search needs
 got-of-requires : tie.Need-got-of-requires
 got-of-requires c κs = search needs
 
-cast-t33 : tie.Need-cast-t33
-cast-t33 c = search needs
+cast-t35 : tie.Need-cast-t35
+cast-t35 c = search needs
 
 wanted-of-requires : tie.Need-wanted-of-requires
 wanted-of-requires c κs = search needs
 
-cast-t35 : tie.Need-cast-t35
-cast-t35 c = search needs
+cast-t37 : tie.Need-cast-t37
+cast-t37 c = search needs
 
 count-of-requires : tie.Need-count-of-requires
 count-of-requires c κs = search needs
@@ -102,37 +108,39 @@ returns : tie.Need-returns
 unfolding numbersOf
 returns c =
     let d = c .before .before .before .before .before .before .before in
-    let s = d .before .before .before .before .before .before .before .before .before .before .before .before .before .before in
+    let s = d .before .before .before .before .before .before .before .before .before .before .before .before .before .before .before in
     let f = s .args .f in
     let j = s .args .j in
     let bytes : Bytes (f .body) = (
-      omega (arith, d .before .before .before .before .before .before .before .before .byte .ensures, d .before .before .before .before .before .before .before .before .byte .ok),
-      omega (arith, d .before .before .before .before .before .before .before .byte2 .ensures, d .before .before .before .before .before .before .before .byte2 .ok),
-      omega (arith, d .before .before .before .before .before .before .byte3 .ensures, d .before .before .before .before .before .before .byte3 .ok),
-      omega (arith, d .before .before .before .before .before .byte4 .ensures, d .before .before .before .before .before .byte4 .ok),
-      omega (arith, d .before .before .before .before .byte5 .ensures, d .before .before .before .before .byte5 .ok),
-      omega (arith, d .before .before .before .byte6 .ensures, d .before .before .before .byte6 .ok),
-      omega (arith, d .before .before .byte7 .ensures, d .before .before .byte7 .ok),
-      omega (arith, d .before .byte8 .ensures, d .before .byte8 .ok),
+      omega (arith, d .before .before .before .before .before .before .before .before .before .byte .ensures, d .before .before .before .before .before .before .before .before .before .byte .ok),
+      omega (arith, d .before .before .before .before .before .before .before .before .byte2 .ensures, d .before .before .before .before .before .before .before .before .byte2 .ok),
+      omega (arith, d .before .before .before .before .before .before .before .byte3 .ensures, d .before .before .before .before .before .before .before .byte3 .ok),
+      omega (arith, d .before .before .before .before .before .before .byte4 .ensures, d .before .before .before .before .before .before .byte4 .ok),
+      omega (arith, d .before .before .before .before .before .byte5 .ensures, d .before .before .before .before .before .byte5 .ok),
+      omega (arith, d .before .before .before .before .byte6 .ensures, d .before .before .before .before .byte6 .ok),
+      omega (arith, d .before .before .before .byte7 .ensures, d .before .before .before .byte7 .ok),
+      omega (arith, d .before .before .byte8 .ensures, d .before .before .byte8 .ok),
+      omega (arith, d .before .byte9 .ensures, d .before .byte9 .ok),
     ) in
-    let kind = d .before .before .before .before .before .before .before .before .before .struct-known .given in
+    let kind = d .before .before .before .before .before .before .before .before .before .before .struct-known .given in
     let width = c .before .before .before .before .before .before .struct-known2 .given in
     let none : within limits (numbersOf f j) ≡ true = fit f j (omega (arith, kind)) bytes (omega (arith, width))
     (omega (arith, c .before .before .before .before .before .struct-known3 .given)) (omega (arith, c .before .before .before .before .struct-known4 .given))
     (omega (arith, c .before .before .got-of .ensures, c .before .before .got-of .ok)) (omega (arith, c .before .wanted-of .ensures, c .before .wanted-of .ok)) in
     let k = j .core in
     let same : _ ≡ numbersOf f j = λ i.
-    d .before .before .before .before .before .before .before .before .before .before .before .stage-number .ensures i ∷
-    d .before .before .before .before .before .before .before .before .before .before .phase-number .ensures i ∷
+    d .before .before .before .before .before .before .before .before .before .before .before .before .stage-number .ensures i ∷
+    d .before .before .before .before .before .before .before .before .before .before .before .phase-number .ensures i ∷
     f .kind ∷
-    d .before .before .before .before .before .before .before .before .byte .ensures i ∷
-    d .before .before .before .before .before .before .before .byte2 .ensures i ∷
-    d .before .before .before .before .before .before .byte3 .ensures i ∷
-    d .before .before .before .before .before .byte4 .ensures i ∷
-    d .before .before .before .before .byte5 .ensures i ∷
-    d .before .before .before .byte6 .ensures i ∷
-    d .before .before .byte7 .ensures i ∷
-    d .before .byte8 .ensures i ∷
+    d .before .before .before .before .before .before .before .before .before .byte .ensures i ∷
+    d .before .before .before .before .before .before .before .before .byte2 .ensures i ∷
+    d .before .before .before .before .before .before .before .byte3 .ensures i ∷
+    d .before .before .before .before .before .before .byte4 .ensures i ∷
+    d .before .before .before .before .before .byte5 .ensures i ∷
+    d .before .before .before .before .byte6 .ensures i ∷
+    d .before .before .before .byte7 .ensures i ∷
+    d .before .before .byte8 .ensures i ∷
+    d .before .byte9 .ensures i ∷
     c .before .before .before .before .before .before .before .live-number .ensures i ∷
     k .accord .u ∷
     k .taken ∷
@@ -176,14 +184,16 @@ numbers-of-spec =
     cast-t24
     byte-requires-8
     cast-t26
-    live-number-requires
+    byte-requires-9
     cast-t28
-    cast-t29
+    live-number-requires
     cast-t30
+    cast-t31
+    cast-t32
     verdict-number-requires
     got-of-requires
-    cast-t33
-    wanted-of-requires
     cast-t35
+    wanted-of-requires
+    cast-t37
     count-of-requires
     returns)

@@ -20,7 +20,7 @@ known : (s : tie.Start) → Holding (now (s .args .words))
 known s = holding (now (s .args .words)) (s .pre)
 
 all-due : (s : tie.Start) → length (dueIn (now (s .args .words))) ≡ 65
-all-due s = length-take-le 65 (drop 165 (now (s .args .words))) (rw length-drop (omega (arith, known s)))
+all-due s = length-take-le 65 (drop 166 (now (s .args .words))) (rw length-drop (omega (arith, known s)))
 
 slice-aggregate-get : tie.Need-slice-aggregate-get
 slice-aggregate-get c = search needs

@@ -14,7 +14,7 @@ use Rattle.course_words.proofs.store.Statement.{statement}
 use Rattle.course_words.proofs.store.Tie as tie
 
 abbrev Sized : Replay → Type 0
-Sized r = (length (r .frame .body) ≡ 8) × (length (r .sums) ≡ 16) × (length (r .planes) ≡ 48) × (length (r .picks) ≡ 72) × (length (r .due) ≡ 65)
+Sized r = (length (r .frame .body) ≡ 9) × (length (r .sums) ≡ 16) × (length (r .planes) ≡ 48) × (length (r .picks) ≡ 72) × (length (r .due) ≡ 65)
 
 sized : (s : tie.Start) → Sized (s .args .r)
 sized s = (search needs, search needs, search needs, search needs, search needs)
@@ -63,7 +63,7 @@ returns c =
     let ns = tag .before .before .before .numbers-of .ensures in
     let due = c .before .before .put-due .ensures in
     let within-all = ap (λ (l : List ℕ). within limits l) (sym (ns .0)) ∙ ns .1 in
-    let fits : CourseFits (replayOf r) = record { numbers = within-all; eight = n .0; sums = n .1; planes = n .2; picks = n .3; due = n .4; small = due .1 } in
+    let fits : CourseFits (replayOf r) = record { numbers = within-all; nine = n .0; sums = n .1; planes = n .2; picks = n .3; due = n .4; small = due .1 } in
     all-put (replayOf r) (now (s .args .words)) (s .pre) fits (tag .put .ensures .is) (ns .0) (numbers .put2 .ensures .is) (lists .put-lists .ensures .is) (due .0 .is)
 
 pub store-spec : {M : Type 1} → statement M

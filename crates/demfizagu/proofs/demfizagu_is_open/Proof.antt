@@ -4,7 +4,6 @@ use Rattle.demfizagu.specs.Calls.{openIn}
 use borrow.Author.Needs.{needs}
 use Rattle.demfizagu.proofs.demfizagu_is_open.Statement.{statement}
 use Rattle.demfizagu.proofs.demfizagu_is_open.Tie as tie
-use Rattle.sender.proofs.is_open.Reads as is-open-reads′
 
 load-receiver-requires : tie.Need-load-receiver-requires
 load-receiver-requires c κs = search needs

@@ -10,6 +10,7 @@ ghost use lib.ListN.{length};
 ghost use Rattle.sender.specs.SendList.{sendingList};
 ghost use Rattle.phrases.specs.Phrase.{wholesRoom};
 ghost use Rattle.answers.specs.Answer.{answerRoom};
+ghost use Rattle.requests.specs.Named.{named};
 ghost use Rattle.desk.specs.Desk.{lent, listGives, Does, Acts};
 
 fn sent(desk: Desk, words: &[u32], out: &mut [i32], page: &mut [u8], at: usize) -> Done
@@ -36,7 +37,7 @@ pub fn list(
     at: usize,
 ) -> Done
     requires { ⌜ (cap ≤ length (now coordinates)) × (cap ≤ 4096) × (count ≤ length (now words)) × (at + answerRoom ≤ length (now page)) ⌝ }
-    ensures { λ r. ⌜ Acts desk (Request.List cap count) [] (now (words .entry)) (now (page .entry)) at r (now (page .exit)) ⌝ }
+    ensures { λ r. ⌜ Acts desk (Request.List cap count) (named [] (now (words .entry)) []) (now (page .entry)) at r (now (page .exit)) ⌝ }
 {
     let n = cap as usize;
     sent(desk, &words[..count], &mut coordinates[..n], page, at)

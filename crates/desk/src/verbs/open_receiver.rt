@@ -8,12 +8,12 @@ use openings::Start;
 use points::Accord;
 use requests::Request;
 ghost use mathlib.Core.Path.{_≡_};
-ghost use mathlib.Core.List.{[]};
 ghost use Prim.Native.Nat.{_+_, _≤_};
 ghost use lib.ListN.{length};
 ghost use Rattle.reasons.specs.Reason.{givenOf};
 ghost use Rattle.openings.specs.Opening.{Opening};
 ghost use Rattle.answers.specs.Answer.{answerRoom};
+ghost use Rattle.requests.specs.Named.{noneNamed};
 ghost use Rattle.desk.specs.Desk.{openingGives, Does, Acts};
 
 // What an opening of a receiver gave.
@@ -29,14 +29,14 @@ fn opened(desk: Desk, o: Opened, page: &mut [u8], at: usize) -> Done
 
 pub fn open_plain(desk: Desk, u: u32, page: &mut [u8], at: usize) -> Done
     requires { ⌜ at + answerRoom ≤ length (now page) ⌝ }
-    ensures { λ r. ⌜ Acts desk (Request.Plain u) [] [] (now (page .entry)) at r (now (page .exit)) ⌝ }
+    ensures { λ r. ⌜ Acts desk (Request.Plain u) noneNamed (now (page .entry)) at r (now (page .exit)) ⌝ }
 {
     opened(desk, openings::open_plain(Accord { u: u }), page, at)
 }
 
 pub fn open_free(desk: Desk, u: u32, window: u32, page: &mut [u8], at: usize) -> Done
     requires { ⌜ at + answerRoom ≤ length (now page) ⌝ }
-    ensures { λ r. ⌜ Acts desk (Request.Free u window) [] [] (now (page .entry)) at r (now (page .exit)) ⌝ }
+    ensures { λ r. ⌜ Acts desk (Request.Free u window) noneNamed (now (page .entry)) at r (now (page .exit)) ⌝ }
 {
     let o = openings::open_receiver(Accord { u: u }, window, Start::Free);
     opened(desk, o, page, at)
@@ -44,7 +44,7 @@ pub fn open_free(desk: Desk, u: u32, window: u32, page: &mut [u8], at: usize) ->
 
 pub fn open_at(desk: Desk, u: u32, window: u32, state: u32, page: &mut [u8], at: usize) -> Done
     requires { ⌜ at + answerRoom ≤ length (now page) ⌝ }
-    ensures { λ r. ⌜ Acts desk (Request.At u window state) [] [] (now (page .entry)) at r (now (page .exit)) ⌝ }
+    ensures { λ r. ⌜ Acts desk (Request.At u window state) noneNamed (now (page .entry)) at r (now (page .exit)) ⌝ }
 {
     let o = openings::open_receiver(Accord { u: u }, window, Start::At(state));
     opened(desk, o, page, at)

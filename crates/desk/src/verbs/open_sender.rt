@@ -4,15 +4,15 @@ use crate::Done;
 use crate::ends;
 use points::Accord;
 use requests::Request;
-ghost use mathlib.Core.List.{[]};
 ghost use Prim.Native.Nat.{_+_, _≤_};
 ghost use lib.ListN.{length};
 ghost use Rattle.answers.specs.Answer.{answerRoom};
+ghost use Rattle.requests.specs.Named.{noneNamed};
 ghost use Rattle.desk.specs.Desk.{Acts};
 
 pub fn open_sender(desk: Desk, u: u32, page: &mut [u8], at: usize) -> Done
     requires { ⌜ at + answerRoom ≤ length (now page) ⌝ }
-    ensures { λ r. ⌜ Acts desk (Request.Sender u) [] [] (now (page .entry)) at r (now (page .exit)) ⌝ }
+    ensures { λ r. ⌜ Acts desk (Request.Sender u) noneNamed (now (page .entry)) at r (now (page .exit)) ⌝ }
 {
     let opened = sender::open_sender(Accord { u: u });
     let why = opened.why;

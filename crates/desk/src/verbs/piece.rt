@@ -2,7 +2,7 @@
 // CAP words.
 use crate::Desk;
 use crate::Done;
-use crate::ends;
+use crate::verbs::ran;
 use requests::Request;
 ghost use mathlib.Core.List.{[]};
 ghost use Prim.Native.Nat.{_+_, _≤_};
@@ -11,6 +11,7 @@ ghost use Rattle.told.specs.Piece.{pieceOf};
 ghost use Rattle.receiver.specs.Doors.{hearing};
 ghost use Rattle.phrases.specs.Phrase.{wordsRoom};
 ghost use Rattle.answers.specs.Answer.{answerRoom};
+ghost use Rattle.requests.specs.Named.{named};
 ghost use Rattle.desk.specs.Desk.{ranGives, Does, Acts};
 
 fn heard(desk: Desk, piece: &[i32], out: &mut [u32], page: &mut [u8], at: usize) -> Done
@@ -20,11 +21,7 @@ fn heard(desk: Desk, piece: &[i32], out: &mut [u32], page: &mut [u8], at: usize)
 {
     let old = desk.receiver;
     let heard = receiver::hear(old, piece, out);
-    let why = heard.why;
-    let n = heard.written;
-    let p = answers::heard(page, at, heard.taken, why, &out[..n]);
-    let receiver = heard.receiver;
-    ends::with_receiver(desk, receiver, p)
+    ran::answered(desk, heard, out, page, at)
 }
 
 pub fn hear(
@@ -37,7 +34,7 @@ pub fn hear(
     at: usize,
 ) -> Done
     requires { ⌜ (cap ≤ length (now words)) × (cap ≤ 4096) × (count ≤ length (now coordinates)) × (at + answerRoom ≤ length (now page)) ⌝ }
-    ensures { λ r. ⌜ Acts desk (Request.Piece cap count) (now (coordinates .entry)) [] (now (page .entry)) at r (now (page .exit)) ⌝ }
+    ensures { λ r. ⌜ Acts desk (Request.Piece cap count) (named (now (coordinates .entry)) [] []) (now (page .entry)) at r (now (page .exit)) ⌝ }
 {
     let n = cap as usize;
     heard(desk, &coordinates[..count], &mut words[..n], page, at)

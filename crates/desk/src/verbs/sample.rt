@@ -1,16 +1,17 @@
-// `sample HEX HEX`: a pair of floats, given by their bits, in units of the line. The desk stays as it is.
+// `sample HEX HEX`: a pair of floats, given by their bits, in units of the line; `sample missing`: none. The desk stays as it is.
 use crate::Desk;
 use crate::Done;
 use requests::Request;
-use samples::Pair;
-use samples::Sample;
+use samples::Marked;
+use samples::Sampled;
 ghost use mathlib.Core.Path.{_≡_};
-ghost use mathlib.Core.List.{[]};
 ghost use Prim.Native.Nat.{_+_, _≤_};
 ghost use lib.ListN.{length};
-ghost use Rattle.samples.specs.Heard.{heardCoordinate, heardBits, bothOrFault};
+ghost use Rattle.samples.specs.Heard.{heardCoordinate, heardBits};
+ghost use Rattle.samples.specs.Sampled.{heardSampled};
 ghost use Rattle.page.specs.Page.{Puts};
-ghost use Rattle.answers.specs.Answer.{sampleLine, answerRoom};
+ghost use Rattle.answers.specs.Answer.{sampledLine, answerRoom};
+ghost use Rattle.requests.specs.Named.{noneNamed};
 ghost use Rattle.desk.specs.Desk.{Acts};
 
 // The float with these bits. No float is made of the bits of a NaN; what is not a number is refused as what is infinite is, so
@@ -25,27 +26,36 @@ fn float_of(bits: u32) -> f32
     }
 }
 
-// Two numbers, or the place at fault.
-fn answer(x: u32, y: u32, page: &mut [u8], at: usize) -> usize
+// Two numbers, the place at fault, or that the sample is missing.
+fn answer(s: Sampled, page: &mut [u8], at: usize) -> usize
     requires { ⌜ at + 44 ≤ length (now page) ⌝ }
-    ensures { λ r. ⌜ Puts (now (page .entry)) at (sampleLine (bothOrFault (heardBits x) (heardBits y))) r (now (page .exit)) ⌝ }
+    ensures { λ r. ⌜ Puts (now (page .entry)) at (sampledLine (heardSampled s)) r (now (page .exit)) ⌝ }
 {
-    let heard = samples::hear_sample(Sample {
-        x: float_of(x),
-        y: float_of(y),
-    });
+    let heard = samples::hear_sampled(s);
     match heard {
-        Pair::Heard { x, y } => answers::pair(page, at, x, y),
-        Pair::Refused { place } => answers::refused(page, at, place),
+        Marked::Heard { x, y } => answers::pair(page, at, x, y),
+        Marked::Refused { place } => answers::refused(page, at, place),
+        Marked::Missing => answers::missing(page, at),
     }
 }
 
 pub fn sample(desk: Desk, x: u32, y: u32, page: &mut [u8], at: usize) -> Done
     requires { ⌜ at + answerRoom ≤ length (now page) ⌝ }
-    ensures { λ r. ⌜ Acts desk (Request.Sample x y) [] [] (now (page .entry)) at r (now (page .exit)) ⌝ }
+    ensures { λ r. ⌜ Acts desk (Request.Sample x y) noneNamed (now (page .entry)) at r (now (page .exit)) ⌝ }
+{
+    let s = Sampled::Heard(float_of(x), float_of(y));
+    Done {
+        desk,
+        at: answer(s, page, at),
+    }
+}
+
+pub fn missing(desk: Desk, page: &mut [u8], at: usize) -> Done
+    requires { ⌜ at + answerRoom ≤ length (now page) ⌝ }
+    ensures { λ r. ⌜ Acts desk Request.Missing noneNamed (now (page .entry)) at r (now (page .exit)) ⌝ }
 {
     Done {
         desk,
-        at: answer(x, y, page, at),
+        at: answer(Sampled::Missing, page, at),
     }
 }

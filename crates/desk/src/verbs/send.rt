@@ -3,15 +3,15 @@ use crate::Desk;
 use crate::Done;
 use crate::ends;
 use requests::Request;
-ghost use mathlib.Core.List.{[]};
 ghost use Prim.Native.Nat.{_+_, _≤_};
 ghost use lib.ListN.{length};
 ghost use Rattle.answers.specs.Answer.{answerRoom};
+ghost use Rattle.requests.specs.Named.{noneNamed};
 ghost use Rattle.desk.specs.Desk.{Acts};
 
 fn sent(desk: Desk, word: u32, out: &mut [i32], page: &mut [u8], at: usize) -> Done
     requires { ⌜ at + answerRoom ≤ length (now page) ⌝ }
-    ensures { λ r. ⌜ Acts desk (Request.Send word (length (now (out .entry)))) [] [] (now (page .entry)) at r (now (page .exit)) ⌝ }
+    ensures { λ r. ⌜ Acts desk (Request.Send word (length (now (out .entry)))) noneNamed (now (page .entry)) at r (now (page .exit)) ⌝ }
 {
     let old = desk.sender;
     let sent = sender::send(old, word, out);
@@ -30,7 +30,7 @@ pub fn send(
     at: usize,
 ) -> Done
     requires { ⌜ (cap ≤ length (now coordinates)) × (at + answerRoom ≤ length (now page)) ⌝ }
-    ensures { λ r. ⌜ Acts desk (Request.Send word cap) [] [] (now (page .entry)) at r (now (page .exit)) ⌝ }
+    ensures { λ r. ⌜ Acts desk (Request.Send word cap) noneNamed (now (page .entry)) at r (now (page .exit)) ⌝ }
 {
     let n = cap as usize;
     sent(desk, word, &mut coordinates[..n], page, at)

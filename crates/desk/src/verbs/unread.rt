@@ -2,15 +2,15 @@
 use crate::Desk;
 use crate::Done;
 use requests::Request;
-ghost use mathlib.Core.List.{[]};
 ghost use Prim.Native.Nat.{_+_, _≤_};
 ghost use lib.ListN.{length};
 ghost use Rattle.answers.specs.Answer.{answerRoom};
+ghost use Rattle.requests.specs.Named.{noneNamed};
 ghost use Rattle.desk.specs.Desk.{Acts};
 
 pub fn unread(desk: Desk, page: &mut [u8], at: usize) -> Done
     requires { ⌜ at + answerRoom ≤ length (now page) ⌝ }
-    ensures { λ r. ⌜ Acts desk Request.Unread [] [] (now (page .entry)) at r (now (page .exit)) ⌝ }
+    ensures { λ r. ⌜ Acts desk Request.Unread noneNamed (now (page .entry)) at r (now (page .exit)) ⌝ }
 {
     Done {
         desk,

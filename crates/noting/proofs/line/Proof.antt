@@ -18,20 +18,24 @@ same-length-2 c = search needs
 returns : tie.Need-returns
 returns c =
     let call = c .before .before in
-    let a = call .before .before .before .before .before .before .before .before .args in
+    let a = call .before .before .before .before .before .before .before .before .before .args in
     λ s g. notes-same (long-noted g (a .rx) (a .begun) _ _ (call .before .before .before .if1 .taken)) (call .unread .ensures)
 
 slice-aggregate-read : tie.Need-slice-aggregate-read
-slice-aggregate-read c = sym (length-take-le _ _ (c .before .before .before .before .before .before .pre .1))
+slice-aggregate-read c = sym (length-take-le _ _ (c .before .before .before .before .before .before .before .pre .1))
 
 read-requires : tie.Need-read-requires
 read-requires c κs = search needs
 
+-- the way back, from a place in the code to one that comes before it
+abbrev to-start : tie.After-read → tie.Start
+to-start c = c .before .before .before .before .before .before .before .before .before .before .before
+
 note-requires : tie.Need-note-requires
 note-requires c κs =
-    let read = c .before .before .before .before .before .before .before in
-    let start = read .before .before .before .before .before .before .before .before .before in
-    ready _ _ (start .pre .0) (read .read .kept .1 .0) (read .read .kept .1 .1 .0) (read .read .ensures .fit)
+    let read = c .before .before .before .before .before .before .before .before .before .before in
+    let start = to-start read in
+    ready _ (start .pre .0) (read .read .kept .1 .0) (read .read .kept .1 .1 .0) (read .read .kept .1 .1 .1 .0) (read .read .ensures .fit)
 
 same-length-3 : tie.Need-same-length-3
 same-length-3 c = search needs
@@ -45,14 +49,17 @@ same-length-5 c = search needs
 same-length-6 : tie.Need-same-length-6
 same-length-6 c = search needs
 
+same-length-7 : tie.Need-same-length-7
+same-length-7 c = search needs
+
 returns-2 : tie.Need-returns-2
 returns-2 c =
     let call = c .before .before .before .before .before .before in
-    let read = call .before .before .before .before .before .before .before .before in
-    let start = read .before .before .before .before .before .before .before .before .before in
+    let read = call .before .before .before .before .before .before .before .before .before .before .before in
+    let start = to-start read in
     let a = start .args in
     λ s g. notes-same
-    (line-noted g (a .rx) (a .begun) _ _ (read .before .before .before .before .if1 .left) (start .pre .0 .coordinates-long) (start .pre .0 .words-long) (read .read .ensures))
+    (line-noted g (a .rx) (a .begun) _ _ (read .before .before .before .before .before .if1 .left) (start .pre .0 .long) (read .read .ensures))
     (call .note .ensures)
 
 pub line-spec : {M : Type 1} → statement M
@@ -70,4 +77,5 @@ line-spec =
     same-length-4
     same-length-5
     same-length-6
+    same-length-7
     returns-2)

@@ -5,12 +5,17 @@ use native.Mathlib.Omega.{arith}
 use denote.Ref.{now}
 use lib.Seq.{length-take-le}
 use Rattle.phrases.proofs.Phrases.{nothing-put}
+use Rattle.requests.specs.Named.{Named, named}
 use Rattle.desk.proofs.Desks.{sizes-of, short}
 use Rattle.noting.specs.Note.{noting}
-use Rattle.noting.proofs.Notings.{idles, noted-as, at-noted, piece-noted, finish-noted, other-noted, notes-same}
+use Rattle.noting.proofs.Notings.{idles, noted-as, at-noted, piece-noted, marked-noted, finish-noted, other-noted, notes-same}
 use borrow.Author.Needs.{needs}
 use Rattle.noting.proofs.note.Statement.{statement}
 use Rattle.noting.proofs.note.Tie as tie
+
+-- the lists that were lent
+abbrev lists : tie.Start → Named
+lists s = let a = s .args in named (now (a .coordinates)) (now (a .words)) (now (a .marks))
 
 enum-told : tie.Need-enum-told
 enum-told c = search needs
@@ -41,7 +46,7 @@ enum-known-asked-4 c = search needs
 
 slice-aggregate-hear : tie.Need-slice-aggregate-hear
 slice-aggregate-hear c =
-    let start = c .before .before .before .before .before .before .before in
+    let start = c .before .before .before .before .before .before .before .before in
     let sizes = sizes-of _ (c .before .before .asked4 .given .1) (start .pre .fit) in
     sym (length-take-le _ _ (sizes .1))
 
@@ -50,19 +55,19 @@ cast-hear c = search needs
 
 slice-relend-prefix-hear : tie.Need-slice-relend-prefix-hear
 slice-relend-prefix-hear c =
-    let start = c .before .before .before .before .before .before .before in
+    let start = c .before .before .before .before .before .before .before .before in
     let sizes = sizes-of _ (c .before .before .asked4 .given .1) (start .pre .fit) in
-    omega (arith, sizes .0, start .pre .lent .words-long)
+    omega (arith, sizes .0, start .pre .lent .long .words-long)
 
 slice-aggregate-hear-2 : tie.Need-slice-aggregate-hear-2
 slice-aggregate-hear-2 c =
-    let start = c .before .before .before .before .before .before .before .before in
+    let start = c .before .before .before .before .before .before .before .before .before in
     let sizes = sizes-of _ (c .before .before .before .asked4 .given .1) (start .pre .fit) in
-    sym (length-take-le _ _ (omega (arith, sizes .0, start .pre .lent .words-long)))
+    sym (length-take-le _ _ (omega (arith, sizes .0, start .pre .lent .long .words-long)))
 
 hear-requires : tie.Need-hear-requires
 hear-requires c κs =
-    let start = c .before .before .before .before .before .before .before .before .before .before in
+    let start = c .before .before .before .before .before .before .before .before .before .before .before in
     let sizes = sizes-of _ (c .before .before .before .before .before .asked4 .given .1) (start .pre .fit) in
     (omega (arith, short _ (now (start .args .words)) (sizes .0)), start .pre .lent .page-long)
 
@@ -74,21 +79,57 @@ cast-finish c = search needs
 
 slice-relend-prefix-finish : tie.Need-slice-relend-prefix-finish
 slice-relend-prefix-finish c =
-    let start = c .before .before .before .before .before .before in
+    let start = c .before .before .before .before .before .before .before in
     let sizes = sizes-of _ (c .before .asked5 .given .1) (start .pre .fit) in
-    omega (arith, sizes, start .pre .lent .words-long)
+    omega (arith, sizes, start .pre .lent .long .words-long)
 
 slice-aggregate-finish : tie.Need-slice-aggregate-finish
 slice-aggregate-finish c =
-    let start = c .before .before .before .before .before .before .before in
+    let start = c .before .before .before .before .before .before .before .before in
     let sizes = sizes-of _ (c .before .before .asked5 .given .1) (start .pre .fit) in
-    sym (length-take-le _ _ (omega (arith, sizes, start .pre .lent .words-long)))
+    sym (length-take-le _ _ (omega (arith, sizes, start .pre .lent .long .words-long)))
 
 finish-requires : tie.Need-finish-requires
 finish-requires c κs =
-    let start = c .before .before .before .before .before .before .before .before .before in
+    let start = c .before .before .before .before .before .before .before .before .before .before in
     let sizes = sizes-of _ (c .before .before .before .before .asked5 .given .1) (start .pre .fit) in
     (omega (arith, short _ (now (start .args .words)) sizes), start .pre .lent .page-long)
+
+enum-known-asked-6 : tie.Need-enum-known-asked-6
+enum-known-asked-6 c = search needs
+
+slice-aggregate-hear-marked : tie.Need-slice-aggregate-hear-marked
+slice-aggregate-hear-marked c =
+    let start = c .before .before .before .before .before .before .before .before in
+    let sizes = sizes-of _ (c .before .before .asked6 .given .1) (start .pre .fit) in
+    sym (length-take-le _ _ (sizes .2))
+
+slice-aggregate-hear-marked-2 : tie.Need-slice-aggregate-hear-marked-2
+slice-aggregate-hear-marked-2 c =
+    let start = c .before .before .before .before .before .before .before .before .before in
+    let sizes = sizes-of _ (c .before .before .before .asked6 .given .1) (start .pre .fit) in
+    sym (length-take-le _ _ (omega (arith, sizes .1, start .pre .lent .long .marks-long)))
+
+cast-hear-marked : tie.Need-cast-hear-marked
+cast-hear-marked c = search needs
+
+slice-relend-prefix-hear-marked : tie.Need-slice-relend-prefix-hear-marked
+slice-relend-prefix-hear-marked c =
+    let start = c .before .before .before .before .before .before .before .before .before in
+    let sizes = sizes-of _ (c .before .before .before .asked6 .given .1) (start .pre .fit) in
+    omega (arith, sizes .0, start .pre .lent .long .words-long)
+
+slice-aggregate-hear-marked-3 : tie.Need-slice-aggregate-hear-marked-3
+slice-aggregate-hear-marked-3 c =
+    let start = c .before .before .before .before .before .before .before .before .before .before in
+    let sizes = sizes-of _ (c .before .before .before .before .asked6 .given .1) (start .pre .fit) in
+    sym (length-take-le _ _ (omega (arith, sizes .0, start .pre .lent .long .words-long)))
+
+hear-marked-requires : tie.Need-hear-marked-requires
+hear-marked-requires c κs =
+    let start = c .before .before .before .before .before .before .before .before .before .before .before .before in
+    let sizes = sizes-of _ (c .before .before .before .before .before .before .asked6 .given .1) (start .pre .fit) in
+    (omega (arith, short _ (now (start .args .words)) (sizes .0)), start .pre .lent .page-long)
 
 unread-requires : tie.Need-unread-requires
 unread-requires c κs = search needs
@@ -96,8 +137,9 @@ unread-requires c κs = search needs
 returns : tie.Need-returns
 unfolding noting
 returns c =
-    let a = c .before .before .before .before .before .args in
-    notes-same (noted-as (a .rx) (a .begun) (now (a .coordinates)) _ (c .enum-told .given .1)) (idles (a .rx) (a .begun) [] _ _ _ 0 (omega arith) (nothing-put _ 0))
+    let start = c .before .before .before .before .before .before in
+    let a = start .args in
+    notes-same (noted-as (a .rx) (a .begun) (lists start) _ (c .enum-told .given .1)) (idles (a .rx) (a .begun) [] _ _ _ 0 (omega arith) (nothing-put _ 0))
 
 same-length : tie.Need-same-length
 same-length c = search needs
@@ -109,8 +151,9 @@ returns-2 : tie.Need-returns-2
 unfolding noting
 returns-2 c =
     let call = c .before .before .before .before in
-    let a = call .before .before .before .before .before .before .before .before .before .args in
-    notes-same (noted-as (a .rx) (a .begun) (now (a .coordinates)) _ (call .before .before .before .before .asked .given .1)) (call .opening .ensures)
+    let start = call .before .before .before .before .before .before .before .before .before .before in
+    let a = start .args in
+    notes-same (noted-as (a .rx) (a .begun) (lists start) _ (call .before .before .before .before .asked .given .1)) (call .opening .ensures)
 
 same-length-3 : tie.Need-same-length-3
 same-length-3 c = search needs
@@ -122,8 +165,9 @@ returns-3 : tie.Need-returns-3
 unfolding noting
 returns-3 c =
     let call = c .before .before .before .before in
-    let a = call .before .before .before .before .before .before .before .before .before .args in
-    notes-same (noted-as (a .rx) (a .begun) (now (a .coordinates)) _ (call .before .before .before .before .asked2 .given .1)) (call .opening2 .ensures)
+    let start = call .before .before .before .before .before .before .before .before .before .before in
+    let a = start .args in
+    notes-same (noted-as (a .rx) (a .begun) (lists start) _ (call .before .before .before .before .asked2 .given .1)) (call .opening2 .ensures)
 
 same-length-5 : tie.Need-same-length-5
 same-length-5 c = search needs
@@ -134,9 +178,10 @@ same-length-6 c = search needs
 returns-4 : tie.Need-returns-4
 returns-4 c =
     let call = c .before .before .before .before in
-    let a = call .before .before .before .before .before .before .before .before .before .before .args in
+    let start = call .before .before .before .before .before .before .before .before .before .before .before in
+    let a = start .args in
     notes-same
-    (at-noted (a .rx) (a .begun) (now (a .coordinates)) _ (call .before .before .before .before .before .asked3 .given .1) (call .before .before .before .start-number .ensures))
+    (at-noted (a .rx) (a .begun) (lists start) _ (call .before .before .before .before .before .asked3 .given .1) (call .before .before .before .start-number .ensures))
     (call .opening3 .ensures)
 
 same-length-7 : tie.Need-same-length-7
@@ -151,11 +196,11 @@ same-length-9 c = search needs
 returns-5 : tie.Need-returns-5
 returns-5 c =
     let call = c .before .before .before .before .before .before in
-    let start = call .before .before .before .before .before .before .before .before .before .before .before in
+    let start = call .before .before .before .before .before .before .before .before .before .before .before .before in
     let a = start .args in
     let is = call .before .before .before .before .before .before .asked4 .given .1 in
     let sizes = sizes-of _ is (start .pre .fit) in
-    notes-same (piece-noted (a .rx) (a .begun) (now (a .coordinates)) _ (now (a .words)) is (omega (arith, sizes .0, start .pre .lent .words-long))) (call .hear .ensures)
+    notes-same (piece-noted (a .rx) (a .begun) (lists start) _ is (omega (arith, sizes .0, start .pre .lent .long .words-long))) (call .hear .ensures)
 
 same-length-10 : tie.Need-same-length-10
 same-length-10 c = search needs
@@ -169,11 +214,11 @@ same-length-12 c = search needs
 returns-6 : tie.Need-returns-6
 returns-6 c =
     let call = c .before .before .before .before .before .before in
-    let start = call .before .before .before .before .before .before .before .before .before .before in
+    let start = call .before .before .before .before .before .before .before .before .before .before .before in
     let a = start .args in
     let is = call .before .before .before .before .before .asked5 .given .1 in
     let sizes = sizes-of _ is (start .pre .fit) in
-    notes-same (finish-noted (a .rx) (a .begun) (now (a .coordinates)) _ (now (a .words)) is (omega (arith, sizes, start .pre .lent .words-long))) (call .finish .ensures)
+    notes-same (finish-noted (a .rx) (a .begun) (lists start) _ is (omega (arith, sizes, start .pre .lent .long .words-long))) (call .finish .ensures)
 
 same-length-13 : tie.Need-same-length-13
 same-length-13 c = search needs
@@ -181,11 +226,30 @@ same-length-13 c = search needs
 same-length-14 : tie.Need-same-length-14
 same-length-14 c = search needs
 
+same-length-15 : tie.Need-same-length-15
+same-length-15 c = search needs
+
 returns-7 : tie.Need-returns-7
 returns-7 c =
+    let call = c .before .before .before .before .before .before in
+    let start = call .before .before .before .before .before .before .before .before .before .before .before .before .before in
+    let a = start .args in
+    let is = call .before .before .before .before .before .before .before .asked6 .given .1 in
+    let sizes = sizes-of _ is (start .pre .fit) in
+    notes-same (marked-noted (a .rx) (a .begun) (lists start) _ is (omega (arith, sizes .0, start .pre .lent .long .words-long))) (call .hear-marked .ensures)
+
+same-length-16 : tie.Need-same-length-16
+same-length-16 c = search needs
+
+same-length-17 : tie.Need-same-length-17
+same-length-17 c = search needs
+
+returns-8 : tie.Need-returns-8
+returns-8 c =
     let call = c .before .before in
-    let a = call .before .before .before .before .before .before .before .args in
-    notes-same (other-noted (a .rx) (a .begun) (now (a .coordinates)) _ (a .asked) (call .before .before .before .match .keys7)) (call .unread .ensures)
+    let start = call .before .before .before .before .before .before .before .before in
+    let a = start .args in
+    notes-same (other-noted (a .rx) (a .begun) (lists start) _ (a .asked) (call .before .before .before .match .keys8)) (call .unread .ensures)
 
 pub note-spec : {M : Type 1} → statement M
 note-spec =
@@ -210,6 +274,13 @@ note-spec =
     slice-relend-prefix-finish
     slice-aggregate-finish
     finish-requires
+    enum-known-asked-6
+    slice-aggregate-hear-marked
+    slice-aggregate-hear-marked-2
+    cast-hear-marked
+    slice-relend-prefix-hear-marked
+    slice-aggregate-hear-marked-3
+    hear-marked-requires
     unread-requires
     returns
     same-length
@@ -231,4 +302,8 @@ note-spec =
     returns-6
     same-length-13
     same-length-14
-    returns-7)
+    same-length-15
+    returns-7
+    same-length-16
+    same-length-17
+    returns-8)

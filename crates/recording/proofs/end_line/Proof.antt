@@ -4,7 +4,10 @@ use Rattle.recording.proofs.end_line.Statement.{statement}
 use Rattle.recording.proofs.end_line.Tie as tie
 
 line-requires : tie.Need-line-requires
-line-requires c κs = (record { coordinates-long = search needs; words-long = search needs; page-long = search needs }, search needs)
+line-requires c κs = (
+  record { long = record { coordinates-long = search needs; words-long = search needs; marks-long = search needs }; page-long = search needs },
+  search needs,
+)
 
 put-out-requires : tie.Need-put-out-requires
 put-out-requires c κs = search needs
@@ -24,6 +27,9 @@ same-length-3 c = search needs
 same-length-4 : tie.Need-same-length-4
 same-length-4 c = search needs
 
+same-length-5 : tie.Need-same-length-5
+same-length-5 c = search needs
+
 returns : tie.Need-returns
 returns c = search needs
 
@@ -38,4 +44,5 @@ end-line-spec =
     same-length-2
     same-length-3
     same-length-4
+    same-length-5
     returns)

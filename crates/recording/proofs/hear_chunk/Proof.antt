@@ -7,12 +7,13 @@ use Rattle.recording.proofs.hear_chunk.Statement.{statement}
 use Rattle.recording.proofs.hear_chunk.Tie as tie
 
 abbrev Inv-loop : tie.InvT-loop
-Inv-loop chunk line₀ coordinates₀ words₀ bytes₀ page₀ now₀ i₀ line coordinates words bytes page now i =
-    (i ≤ length chunk) × (now .part .held ≤ length line) × (length coordinates ≡ 4096) × (length words ≡ 4096) × (length page ≡ 98304)
-    × ((length line ≡ length line₀) × (length coordinates ≡ length coordinates₀) × (length words ≡ length words₀) × (length bytes ≡ length bytes₀) × (length page ≡ length page₀))
+Inv-loop chunk line₀ coordinates₀ words₀ marks₀ bytes₀ page₀ now₀ i₀ line coordinates words marks bytes page now i =
+    (i ≤ length chunk) × (now .part .held ≤ length line) × (length coordinates ≡ 4096) × (length words ≡ 4096) × (length marks ≡ 1024) × (length page ≡ 98304)
+    × ((length line ≡ length line₀) × (length coordinates ≡ length coordinates₀) × (length words ≡ length words₀) × (length marks ≡ length marks₀)
+    × (length bytes ≡ length bytes₀) × (length page ≡ length page₀))
 
 abbrev μ-loop : tie.MeasureT-loop
-μ-loop chunk line₀ coordinates₀ words₀ bytes₀ page₀ now₀ i₀ line coordinates words bytes page now i =
+μ-loop chunk line₀ coordinates₀ words₀ marks₀ bytes₀ page₀ now₀ i₀ line coordinates words marks bytes page now i =
     length chunk - i
 
 loop-holds : tie.Need-loop-holds Inv-loop μ-loop
@@ -66,6 +67,12 @@ same-length-9 c = search needs
 same-length-10 : tie.Need-same-length-10 Inv-loop μ-loop
 same-length-10 c = search needs
 
+same-length-11 : tie.Need-same-length-11 Inv-loop μ-loop
+same-length-11 c = search needs
+
+same-length-12 : tie.Need-same-length-12 Inv-loop μ-loop
+same-length-12 c = search needs
+
 returns-2 : tie.Need-returns-2 Inv-loop μ-loop
 returns-2 c = search needs
 
@@ -86,10 +93,12 @@ hear-chunk-spec =
     same-length-3
     same-length-4
     same-length-5
-    returns
     same-length-6
+    returns
     same-length-7
     same-length-8
     same-length-9
     same-length-10
+    same-length-11
+    same-length-12
     returns-2)

@@ -22,7 +22,15 @@ returns-4 c = simp (ne-eqb _ _ (c .before .before .before .if1 .left), ne-eqb _ 
 
 returns-5 : tie.Need-returns-5
 unfolding kindOf
-returns-5 c = simp (ne-eqb _ _ (c .before .before .before .if1 .left), ne-eqb _ _ (c .before .before .if2 .left), ne-eqb _ _ (c .before .if3 .left), ne-eqb _ _ (c .if4 .left))
+returns-5 c =
+    let p = c .before in
+    simp (ne-eqb _ _ (p .before .before .before .if1 .left), ne-eqb _ _ (p .before .before .if2 .left), ne-eqb _ _ (p .before .if3 .left), ne-eqb _ _ (p .if4 .left), eq-eqb _ _ (c .if5 .taken))
+
+returns-6 : tie.Need-returns-6
+unfolding kindOf
+returns-6 c =
+    let p = c .before in
+    simp (ne-eqb _ _ (p .before .before .before .if1 .left), ne-eqb _ _ (p .before .before .if2 .left), ne-eqb _ _ (p .before .if3 .left), ne-eqb _ _ (p .if4 .left), ne-eqb _ _ (c .if5 .left))
 
 pub kind-of-spec : {M : Type 1} → statement M
-kind-of-spec = tie.close (tie.spec returns returns-2 returns-3 returns-4 returns-5)
+kind-of-spec = tie.close (tie.spec returns returns-2 returns-3 returns-4 returns-5 returns-6)

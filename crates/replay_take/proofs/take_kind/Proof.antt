@@ -61,7 +61,7 @@ returns-2 : tie.Need-returns-2
 returns-2 c =
     let p = c .before .before in
     let q = p .before .before .before .before .before in
-    symbol-role _ _ _ _ (role-is (q .before .before .kind-of .ensures) (q .enum-told2 .given .1)) (p .take-undue .ensures)
+    symbol-role _ _ _ _ _ (role-is (q .before .before .kind-of .ensures) (q .enum-told2 .given .1)) (p .take-undue .ensures)
 
 same-length-2 : tie.Need-same-length-2
 same-length-2 c = search needs
@@ -79,7 +79,7 @@ returns-4 : tie.Need-returns-4
 returns-4 c =
     let p = c .before .before in
     let q = p .before .before .before .before .before in
-    finish-role _ _ _ _ (role-is (q .before .before .kind-of .ensures) (q .enum-told4 .given .1)) (p .take-undue2 .ensures)
+    finish-role _ _ _ _ _ (role-is (q .before .before .kind-of .ensures) (q .enum-told4 .given .1)) (p .take-undue2 .ensures)
 
 returns-5 : tie.Need-returns-5
 returns-5 c = rw (role-is (c .before .before .kind-of .ensures) (c .enum-told5 .given .1))

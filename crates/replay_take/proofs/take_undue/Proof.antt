@@ -20,7 +20,7 @@ same-length c = search needs
 returns : tie.Need-returns
 returns c =
     let p = c .before .before in
-    undue-missing _ _ _ _ _ _ _ _ (sym (p .before .before .next-due .ensures) ∙ p .d .given .1) _ (c .rule .ensures)
+    undue-missing _ _ _ _ _ _ _ _ _ (sym (p .before .before .next-due .ensures) ∙ p .d .given .1) _ (c .rule .ensures)
 
 enum-told : tie.Need-enum-told
 enum-told c = search needs
@@ -36,7 +36,7 @@ returns-2 c =
     let p = c .before .before in
     let q = p .before .before .before .before .before in
     let d = q .before in
-    undue-ends _ _ _ _ _ _ _ (sym (d .before .before .next-due .ensures) ∙ d .enum-told .given .1) _ (q .if1 .taken) (p .take-finish .ensures)
+    undue-ends _ _ _ _ _ _ _ _ (sym (d .before .before .next-due .ensures) ∙ d .enum-told .given .1) _ (q .if1 .taken) (p .take-finish .ensures)
 
 take-symbol-requires : tie.Need-take-symbol-requires
 take-symbol-requires c κs = search needs
@@ -49,7 +49,7 @@ returns-3 c =
     let p = c .before .before in
     let q = p .before .before .before .before .before in
     let d = q .before in
-    undue-hears _ _ _ _ _ _ _ (sym (d .before .before .next-due .ensures) ∙ d .enum-told .given .1) _ (q .if1 .left) (p .take-symbol .ensures)
+    undue-hears _ _ _ _ _ _ _ _ (sym (d .before .before .next-due .ensures) ∙ d .enum-told .given .1) _ (q .if1 .left) (p .take-symbol .ensures)
 
 pub take-undue-spec : {M : Type 1} → statement M
 take-undue-spec =

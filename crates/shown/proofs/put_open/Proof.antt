@@ -7,7 +7,7 @@ use Rattle.text.specs.Bytes.{bytes}
 use Rattle.page.proofs.Pages.{joined}
 use Rattle.phrases.specs.Phrase.{decimal}
 use Rattle.phrases.proofs.Phrases.{puts-as}
-use Rattle.shown.specs.Shown.{valuesText}
+use Rattle.shown.specs.Shown.{openText}
 use borrow.Author.Needs.{needs}
 use Rattle.shown.proofs.put_open.Statement.{statement}
 use Rattle.shown.proofs.put_open.Tie as tie
@@ -46,7 +46,7 @@ same-length : tie.Need-same-length
 same-length c = search needs
 
 returns : tie.Need-returns
-unfolding valuesText
+unfolding openText
 returns c =
     let start = c .before .before .put-start .ensures in
     let at-window = c .before .before .before .before .before .before .before in

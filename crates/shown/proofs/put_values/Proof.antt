@@ -51,6 +51,7 @@ same-length : tie.Need-same-length
 same-length c = search needs
 
 returns : tie.Need-returns
+unfolding valuesText
 returns c =
     let told = c .before .before .before .before in
     let row = told .before .before .kind-of in
@@ -61,6 +62,7 @@ same-length-2 : tie.Need-same-length-2
 same-length-2 c = search needs
 
 returns-2 : tie.Need-returns-2
+unfolding valuesText
 returns-2 c =
     let told = c .before .before .before .before in
     let row = told .before .before .kind-of in
@@ -71,6 +73,7 @@ same-length-3 : tie.Need-same-length-3
 same-length-3 c = search needs
 
 returns-3 : tie.Need-returns-3
+unfolding valuesText
 returns-3 c =
     let told = c .before .before .before .before in
     let row = told .before .before .kind-of in

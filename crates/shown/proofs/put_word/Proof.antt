@@ -8,7 +8,7 @@ use Rattle.text.specs.Bytes.{bytes}
 use Rattle.phrases.proofs.Phrases.{puts-as}
 use Rattle.replay_line.specs.Says.{hex}
 use Rattle.replay_line.proofs.Lines.{hex-few, hex-put, hex-length}
-use Rattle.shown.specs.Shown.{valuesText}
+use Rattle.shown.specs.Shown.{wordText}
 use borrow.Author.Needs.{needs}
 use Rattle.shown.proofs.put_word.Statement.{statement}
 use Rattle.shown.proofs.put_word.Tie as tie
@@ -55,7 +55,7 @@ same-length : tie.Need-same-length
 same-length c = search needs
 
 returns : tie.Need-returns
-unfolding valuesText
+unfolding wordText
 returns c =
     let at-hex = c .before .before .before .before .before in
     let digits = at-hex .hex .ensures in

@@ -8,11 +8,30 @@ use borrow.Author.Needs.{needs}
 use Rattle.stream.proofs.answer.Statement.{statement}
 use Rattle.stream.proofs.answer.Tie as tie
 
+-- the way back, from a place in the code to one that comes before it
+abbrev to-else1 : tie.After-hear-chunk → tie.Else1
+to-else1 c = c .before .before .before .before .before .before .before
+
+abbrev to-start : tie.After-hear-chunk → tie.Start
+to-start c = to-else1 c .before .before .before .before .before .before .before
+
+abbrev to-hear-end : tie.After-flush → tie.After-hear-end
+to-hear-end c = c .before .before .before .before .before .before .before .before .before
+
+abbrev to-hear-chunk : tie.After-struct-known → tie.After-hear-chunk
+to-hear-chunk c = c .before .before .before .before .before .before .before .before .before .before .before
+
+abbrev to-then1 : tie.After-hear-end → tie.Then1
+to-then1 c = c .before .before .before .before .before .before
+
 hear-end-requires : tie.Need-hear-end-requires
 hear-end-requires c κs = search needs
 
 flush-requires : tie.Need-flush-requires
-flush-requires c κs = search needs
+flush-requires c κs =
+    let at-hear-end = c .before .before .before .before .before .before .before .before in
+    let start = to-then1 at-hear-end .before .before .before .before .before .before .before in
+    omega (arith, at-hear-end .hear-end .ensures .0 .0, at-hear-end .hear-end .kept .1 .1 .0, start .pre .0 .page-long)
 
 same-length : tie.Need-same-length
 same-length c = search needs
@@ -26,22 +45,16 @@ same-length-3 c = search needs
 same-length-4 : tie.Need-same-length-4
 same-length-4 c = search needs
 
--- the way back, from a place in the code to one that comes before it
-abbrev to-start : tie.After-hear-chunk → tie.Start
-to-start c = c .before .before .before .before .before .before .before .before .before .before .before .before
-
-abbrev to-hear-end : tie.After-flush → tie.After-hear-end
-to-hear-end c = c .before .before .before .before .before .before .before
-
-abbrev to-hear-chunk : tie.After-struct-known → tie.After-hear-chunk
-to-hear-chunk c = c .before .before .before .before .before .before .before .before .before
+same-length-5 : tie.Need-same-length-5
+same-length-5 c = search needs
 
 returns : tie.Need-returns
 returns c =
     let at-hear-end = to-hear-end c in
-    let start = at-hear-end .before .before .before .before .before .before .before .before .before .before .before in
+    let at-then1 = to-then1 at-hear-end in
+    let start = at-then1 .before .before .before .before .before .before .before in
     let heard = at-hear-end .hear-end .ensures in
-    let ends = at-hear-end .before .before .before .before .before .if1 .taken in (
+    let ends = at-then1 .if1 .taken in (
       (start .pre .1 .0, refl, sym ends, omega (arith, ap (λ (p : Part). p .held) (c .flush .ensures .1), heard .0 .1)),
       (
         λ e h. clash (start .args .last .ends) ends e,
@@ -79,9 +92,6 @@ flush-requires-2 c κs =
     let at-hear-chunk = to-hear-chunk (c .before) in
     omega (arith, at-hear-chunk .hear-chunk .ensures .0 .0, at-hear-chunk .hear-chunk .kept .1 .1 .1 .0, to-start at-hear-chunk .pre .0 .page-long)
 
-same-length-5 : tie.Need-same-length-5
-same-length-5 c = search needs
-
 same-length-6 : tie.Need-same-length-6
 same-length-6 c = search needs
 
@@ -91,12 +101,18 @@ same-length-7 c = search needs
 same-length-8 : tie.Need-same-length-8
 same-length-8 c = search needs
 
+same-length-9 : tie.Need-same-length-9
+same-length-9 c = search needs
+
+same-length-10 : tie.Need-same-length-10
+same-length-10 c = search needs
+
 returns-2 : tie.Need-returns-2
 returns-2 c =
     let at-hear-chunk = to-hear-chunk (c .before .before) in
     let start = to-start at-hear-chunk in
     let heard = at-hear-chunk .hear-chunk .ensures in
-    let ends = at-hear-chunk .before .before .before .before .before .before .if1 .left in
+    let ends = to-else1 at-hear-chunk .if1 .left in
     let long = lent-part (start .args .last) (start .args .chunk .now) (start .pre .1 .0) (start .pre .1 .1) in (
       (omega (arith, heard .1 .0 .0, long, start .pre .1 .0), refl, sym ends, omega (arith, ap (λ (p : Part). p .held) (c .flush2 .ensures .1), heard .0 .1)),
       (
@@ -116,6 +132,7 @@ answer-spec =
     same-length-2
     same-length-3
     same-length-4
+    same-length-5
     returns
     sub-hear-chunk
     part-hear-chunk-start
@@ -123,8 +140,9 @@ answer-spec =
     hear-chunk-requires
     add-till
     flush-requires-2
-    same-length-5
     same-length-6
     same-length-7
     same-length-8
+    same-length-9
+    same-length-10
     returns-2)

@@ -4,7 +4,8 @@ use native.Mathlib.Omega.{arith}
 use denote.Ref.{now}
 use lib.ListN.{length-set}
 use mir.Facts.{toZ-ofZ}
-use Rattle.records.specs.Values.{halfOf}
+use mathlib.Core.List.{[]}
+use Rattle.records.specs.Values.{halfOf, bytesOf}
 use Rattle.tape.proofs.Fronts.{symbol-put}
 use borrow.Author.Needs.{needs}
 use Rattle.tape.proofs.put_symbol.Statement.{statement}
@@ -77,9 +78,10 @@ same-length : tie.Need-same-length
 same-length c = simp length-set
 
 returns : tie.Need-returns
+unfolding bytesOf
 returns c =
     let s = c .before .before .before .before .before in
-    symbol-put (s .args .x0) (s .args .x1) (s .args .x2) (s .args .x3) _ _ _ _
+    symbol-put 2 [] (s .args .x0) (s .args .x1) (s .args .x2) (s .args .x3) _ _ _ _
     (c .before .before .before .bits .ensures .0 ∙ ap halfOf (toZ-ofZ (s .fits .x0)))
     (c .before .before .bits2 .ensures .0 ∙ ap halfOf (toZ-ofZ (s .fits .x1)))
     (c .before .bits3 .ensures .0 ∙ ap halfOf (toZ-ofZ (s .fits .x2)))

@@ -6,28 +6,35 @@ use borrow.Author.Tests.{not-true, not-false}
 use denote.Ref.{now}
 use lib.ListN.{length}
 use Rattle.machine.specs.Taken.{whole}
+use Rattle.told.specs.Piece.{marksOf}
 use Rattle.taping.proofs.Going.{Given, Stand, Going, Turn, start, end, go-on, stop, four, four-long, more-fits, more-space, more-length, more-wide}
 use Rattle.taping.proofs.record_symbols.Statement.{statement}
 use Rattle.taping.proofs.record_symbols.Tie as tie
 
 abbrev Inv-loop : tie.InvT-loop
-Inv-loop samples sums₀ planes₀ picks₀ out₀ bytes₀ core₀ taken₀ written₀ recorded₀ why₀ i₀ sums planes picks out bytes core taken written recorded why i =
-    Going (record { xs = samples; out = out₀; bytes = bytes₀; rx = whole core₀ sums₀ planes₀ picks₀ })
+Inv-loop marked marks samples sums₀ planes₀ picks₀ out₀ bytes₀ core₀ taken₀ written₀ recorded₀ why₀ i₀ sums planes picks out bytes core taken written recorded why i =
+    Going (record { ms = marksOf marked marks; xs = samples; out = out₀; bytes = bytes₀; rx = whole core₀ sums₀ planes₀ picks₀ })
     (record { out = out; bytes = bytes; rx = whole core sums planes picks; taken = taken; written = written; recorded = recorded; why = why; i = i })
 
 abbrev μ-loop : tie.MeasureT-loop
-μ-loop samples sums₀ planes₀ picks₀ out₀ bytes₀ core₀ taken₀ written₀ recorded₀ why₀ i₀ sums planes picks out bytes core taken written recorded why i =
+μ-loop marked marks samples sums₀ planes₀ picks₀ out₀ bytes₀ core₀ taken₀ written₀ recorded₀ why₀ i₀ sums planes picks out bytes core taken written recorded why i =
     length samples - i
 
 -- ---- from a place in the loop: the start, what was given, where the loop stands
 
 abbrev first : tie.In-loop Inv-loop μ-loop → tie.Start Inv-loop μ-loop
-first n = n .before .before .before .before .before
+first n = n .before .before .before .before .before .before
 
 abbrev given : tie.Start Inv-loop μ-loop → Given
 given s =
     let a = s .args in
-    record { xs = now (a .samples); out = now (a .out); bytes = now (a .bytes); rx = whole (a .start) (now (a .sums)) (now (a .planes)) (now (a .picks)) }
+    record {
+      ms = marksOf (a .marked) (now (a .marks));
+      xs = now (a .samples);
+      out = now (a .out);
+      bytes = now (a .bytes);
+      rx = whole (a .start) (now (a .sums)) (now (a .planes)) (now (a .picks));
+    }
 
 abbrev standing : tie.At-loop Inv-loop μ-loop → Stand
 standing at =
@@ -52,8 +59,11 @@ more-four n = four (given (first n)) (standing (n .before)) (n .before .loop .in
 abbrev called : tie.After-struct-known2 Inv-loop μ-loop → tie.After-record-symbol Inv-loop μ-loop
 called k = k .before .before .before .before .before .before .before .before .before
 
+abbrev marked-at : tie.After-record-symbol Inv-loop μ-loop → tie.After-mark-at Inv-loop μ-loop
+marked-at d = d .before .before .before .before .before .before .before
+
 abbrev within : tie.After-record-symbol Inv-loop μ-loop → tie.In-loop Inv-loop μ-loop
-within d = d .before .before .before .before .before .before .before
+within d = marked-at d .before
 
 abbrev turn : (d : tie.After-record-symbol Inv-loop μ-loop) → Turn (given (first (within d))) (standing (within d .before))
 turn d =
@@ -61,6 +71,8 @@ turn d =
     record {
       going = n .before .loop .inv;
       more = n .loop-test .taken;
+      mark = marked-at d .mark-at .result;
+      mark-is = marked-at d .mark-at .ensures;
       step = d .record-symbol .result;
       sums = _;
       planes = _;
@@ -68,19 +80,22 @@ turn d =
       ys = _;
       zs = _;
       is = d .record-symbol .ensures;
-      kept = d .record-symbol .kept .1 .1 .1 .1 .1 .0;
-      kept-bytes = d .record-symbol .kept .1 .1 .1 .1 .1 .1 .0;
+      kept = d .record-symbol .kept .1 .1 .1 .1 .1 .1 .0;
+      kept-bytes = d .record-symbol .kept .1 .1 .1 .1 .1 .1 .1 .0;
     }
 
 -- the picks keep their length
 picks-kept : (d : tie.After-record-symbol Inv-loop μ-loop) → length (turn d .picks) ≡ length (now (first (within d) .args .picks))
-picks-kept d = d .record-symbol .kept .1 .1 .1 .1 .0 ∙ within d .before .loop .inv .picks ∙ sym (first (within d) .pre .2)
+picks-kept d = d .record-symbol .kept .1 .1 .1 .1 .1 .0 ∙ within d .before .loop .inv .picks ∙ sym (first (within d) .pre .2)
 
 loop-holds : tie.Need-loop-holds Inv-loop μ-loop
-loop-holds c = let s = c .before .before .before in start (given s) (s .pre .1) (s .pre .0) (s .pre .2)
+loop-holds c = let s = c .before .before .before .before in start (given s) (s .pre .1) (s .pre .0) (s .pre .2)
 
 add-next : tie.Need-add-next Inv-loop μ-loop
 add-next c = omega (arith, more-four c, first c .good)
+
+mark-at-requires : tie.Need-mark-at-requires Inv-loop μ-loop
+mark-at-requires c κs = tt
 
 mul-record-symbol : tie.Need-mul-record-symbol Inv-loop μ-loop
 mul-record-symbol c = omega arith
@@ -92,32 +107,32 @@ part-record-symbol-start : tie.Need-part-record-symbol-start Inv-loop μ-loop
 part-record-symbol-start c = omega arith
 
 part-record-symbol-end : tie.Need-part-record-symbol-end Inv-loop μ-loop
-part-record-symbol-end c = omega (arith, more-four c)
+part-record-symbol-end c = omega (arith, more-four (c .before))
 
 mul-record-symbol-2 : tie.Need-mul-record-symbol-2 Inv-loop μ-loop
 mul-record-symbol-2 c = omega arith
 
 sub-record-symbol-2 : tie.Need-sub-record-symbol-2 Inv-loop μ-loop
-sub-record-symbol-2 c = let g = c .before .before .before .before .before .loop .inv in omega (arith, g .room, g .long)
+sub-record-symbol-2 c = let g = c .before .before .before .before .before .before .loop .inv in omega (arith, g .room, g .long)
 
 part-record-symbol-start-2 : tie.Need-part-record-symbol-start-2 Inv-loop μ-loop
-part-record-symbol-start-2 c = let g = c .before .before .before .before .before .loop .inv in omega (arith, g .room, g .long)
+part-record-symbol-start-2 c = let g = c .before .before .before .before .before .before .loop .inv in omega (arith, g .room, g .long)
 
 part-record-symbol-end-2 : tie.Need-part-record-symbol-end-2 Inv-loop μ-loop
 part-record-symbol-end-2 c = omega arith
 
 sub-record-symbol-3 : tie.Need-sub-record-symbol-3 Inv-loop μ-loop
-sub-record-symbol-3 c = let g = c .before .before .before .before .before .before .loop .inv in omega (arith, g .space, g .wide)
+sub-record-symbol-3 c = let g = c .before .before .before .before .before .before .before .loop .inv in omega (arith, g .space, g .wide)
 
 part-record-symbol-start-3 : tie.Need-part-record-symbol-start-3 Inv-loop μ-loop
-part-record-symbol-start-3 c = let g = c .before .before .before .before .before .before .loop .inv in omega (arith, g .space, g .wide)
+part-record-symbol-start-3 c = let g = c .before .before .before .before .before .before .before .loop .inv in omega (arith, g .space, g .wide)
 
 part-record-symbol-end-3 : tie.Need-part-record-symbol-end-3 Inv-loop μ-loop
 part-record-symbol-end-3 c = omega arith
 
 record-symbol-requires : tie.Need-record-symbol-requires Inv-loop μ-loop
 record-symbol-requires c κs =
-    let n = c .before .before .before .before .before .before in
+    let n = c .before .before .before .before .before .before .before in
     let g = n .before .loop .inv in
     (g .fit, g .picks, four-long (given (first n)) (standing (n .before)) g (n .loop-test .taken))
 
@@ -144,7 +159,7 @@ loop-again c =
     go-on _ _ (turn d) (sym (c .before .is-done .ensures) ∙ not-false _ (c .if1 .left)) (picks-kept d ∙ first (within d) .pre .2)
 
 same-length : tie.Need-same-length Inv-loop μ-loop
-same-length c = c .before .loop .inv .picks ∙ sym (c .before .before .before .before .before .pre .2)
+same-length c = c .before .loop .inv .picks ∙ sym (c .before .before .before .before .before .before .pre .2)
 
 same-length-2 : tie.Need-same-length-2 Inv-loop μ-loop
 same-length-2 c = c .before .loop .inv .long
@@ -156,7 +171,7 @@ returns : tie.Need-returns Inv-loop μ-loop
 returns c =
     let at = c .before in
     let l = at .loop in
-    end (given (at .before .before .before .before)) (l .core) (l .sums) (l .planes) (l .picks) (l .out) (l .bytes) _ _ _ _ _ (l .inv) (c .loop-test .left)
+    end (given (at .before .before .before .before .before)) (l .core) (l .sums) (l .planes) (l .picks) (l .out) (l .bytes) _ _ _ _ _ (l .inv) (c .loop-test .left)
 
 same-length-4 : tie.Need-same-length-4 Inv-loop μ-loop
 same-length-4 c = picks-kept (called (c .before .before))
@@ -178,6 +193,7 @@ record-symbols-spec =
     μ-loop
     loop-holds
     add-next
+    mark-at-requires
     mul-record-symbol
     sub-record-symbol
     part-record-symbol-start

@@ -35,9 +35,10 @@ copy-sound k = subst (λ (l : List ℕ). sound (with-picks (first k) l) ≡ true
 
 -- what the copy was asked, and left
 abbrev copy-at : tie.After-hear-symbols → tie.After-copy
-copy-at d = d .before .before .before .before .before .before
+copy-at d = d .before .before .before .before .before .before .before
 
-abbrev asked : (d : tie.After-hear-symbols) → Asked (with-picks (first (copy-at d)) (copy-of (copy-at d))) (now (first (copy-at d) .args .four)) []
+abbrev asked : (d : tie.After-hear-symbols) →
+    Asked (with-picks (first (copy-at d)) (copy-of (copy-at d))) (first (copy-at d) .args .mark) (now (first (copy-at d) .args .four)) []
 asked d = record { four = first (copy-at d) .pre .2; heard = d .hear-symbols .result; sums = _; planes = _; picks = _; after = _; was = d .hear-symbols .ensures }
 
 sub-copy : tie.Need-sub-copy
@@ -53,17 +54,20 @@ copy-requires : tie.Need-copy-requires
 copy-requires c κs = omega (arith, c .before .before .before .before .pre .1)
 
 slice-aggregate-hear-symbols : tie.Need-slice-aggregate-hear-symbols
-slice-aggregate-hear-symbols c = let k = c .before .before .before .before in sym (ap length (all-copied k) ∙ first k .pre .1)
+slice-aggregate-hear-symbols c = refl
+
+slice-aggregate-hear-symbols-2 : tie.Need-slice-aggregate-hear-symbols-2
+slice-aggregate-hear-symbols-2 c = let k = c .before .before .before .before .before in sym (ap length (all-copied k) ∙ first k .pre .1)
 
 array-borrow-prefix-none : tie.Need-array-borrow-prefix-none
 array-borrow-prefix-none c = omega arith
 
-slice-aggregate-hear-symbols-2 : tie.Need-slice-aggregate-hear-symbols-2
-slice-aggregate-hear-symbols-2 c = refl
+slice-aggregate-hear-symbols-3 : tie.Need-slice-aggregate-hear-symbols-3
+slice-aggregate-hear-symbols-3 c = refl
 
 hear-symbols-requires : tie.Need-hear-symbols-requires
 hear-symbols-requires c κs =
-    let k = c .before .before .before .before .before in
+    let k = c .before .before .before .before .before .before in
     let s = first k in
     (copy-sound k, rw (s .pre .2), ap length (all-copied k) ∙ s .pre .1)
 
@@ -74,15 +78,15 @@ returns : tie.Need-returns
 returns c =
     let d = c .before .before .before .before in
     let s = first (copy-at d) in
-    subst (λ (l : List ℕ). Refuses (with-picks s l) (symbolIn (now (s .args .four))) NoRoom) (all-copied (copy-at d))
-    (refuses-eight _ _ _ (asked d) refl (sym (c .before .is-done .ensures) ∙ c .if1 .taken))
+    subst (λ (l : List ℕ). Refuses (with-picks s l) (symbolIn (s .args .mark) (now (s .args .four))) NoRoom) (all-copied (copy-at d))
+    (refuses-eight _ _ _ _ (asked d) refl (sym (c .before .is-done .ensures) ∙ c .if1 .taken))
 
 returns-2 : tie.Need-returns-2
 returns-2 c =
     let d = c .before .before .before .before in
     let s = first (copy-at d) in
-    subst (λ (l : List ℕ). Refuses (with-picks s l) (symbolIn (now (s .args .four))) (d .hear-symbols .result .why)) (all-copied (copy-at d))
-    (refuses-so _ _ _ (asked d) refl (sym (c .before .is-done .ensures) ∙ c .if1 .left))
+    subst (λ (l : List ℕ). Refuses (with-picks s l) (symbolIn (s .args .mark) (now (s .args .four))) (d .hear-symbols .result .why)) (all-copied (copy-at d))
+    (refuses-so _ _ _ _ (asked d) refl (sym (c .before .is-done .ensures) ∙ c .if1 .left))
 
 pub refusal-spec : {M : Type 1} → statement M
 refusal-spec =
@@ -93,8 +97,9 @@ refusal-spec =
     part-k-end
     copy-requires
     slice-aggregate-hear-symbols
-    array-borrow-prefix-none
     slice-aggregate-hear-symbols-2
+    array-borrow-prefix-none
+    slice-aggregate-hear-symbols-3
     hear-symbols-requires
     is-done-requires
     returns

@@ -4,8 +4,8 @@ use native.Mathlib.Omega.{arith}
 use lib.IntN.{ℤ}
 use mir.Syntax.{w32}
 use Rattle.points.proofs.Signed.{reads, neg-fits, neg-reads}
-use Rattle.nearest.specs.declared.Received.{Received}
-use Rattle.nearest.specs.Line.{InRange}
+use Rattle.nearest.specs.declared.Spot.{Spot}
+use Rattle.nearest.specs.Line.{SpotInRange}
 use Rattle.nearest.specs.Key.{turnedBack}
 use Rattle.nearest.proofs.Distances.{back-in-range}
 use Rattle.nearest.proofs.line.turned_back.Statement.{statement}
@@ -18,8 +18,8 @@ returns : tie.Need-returns
 unfolding turnedBack
 returns c =
     let s = c .before .before .before in
-    let is = ap₂ {C = Received} (λ (a b : ℤ). record { x = a; y = b }) (neg-reads w32 (s .args .h .y) (omega arith)) (reads w32 (s .args .h .x) (omega arith)) in
-    (is, subst InRange (sym is) (back-in-range (s .args .h) (s .pre)))
+    let is = ap₂ {C = Spot} (λ (a b : ℤ). record { x = a; y = b }) (neg-reads w32 (s .args .h .y) (omega arith)) (reads w32 (s .args .h .x) (omega arith)) in
+    (is, subst SpotInRange (sym is) (back-in-range (s .args .h) (s .pre)))
 
 pub turned-back-spec : {M : Type 1} → statement M
 turned-back-spec = tie.close (tie.spec sub-t2 returns)

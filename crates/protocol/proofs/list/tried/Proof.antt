@@ -1,6 +1,5 @@
 -- `list::tried`: this verb, or one that is tried after it; the lists are as they were then.
-use mathlib.Core.Path.{refl, sym, _∙_}
-use Rattle.protocol.specs.Request.{verbOf}
+use mathlib.Core.Path.{sym, _∙_}
 use borrow.Author.Needs.{needs}
 use Rattle.protocol.proofs.list.tried.Statement.{statement}
 use Rattle.protocol.proofs.list.tried.Tie as tie
@@ -18,7 +17,6 @@ same-length : tie.Need-same-length
 same-length c = search needs
 
 returns : tie.Need-returns
-unfolding verbOf
 returns c =
     let r = c .before .before in
     let f = r .before .before in
@@ -32,7 +30,6 @@ same-length-2 : tie.Need-same-length-2
 same-length-2 c = search needs
 
 returns-2 : tie.Need-returns-2
-unfolding verbOf
 returns-2 c =
     let r = c .before in
     let f = r .before .before in

@@ -1,8 +1,8 @@
 -- `verbs::send::send`: the output has as many places as the line names.
 use mathlib.Core.Path.{sym}
-use mathlib.Core.List.{[]}
 use lib.Seq.{length-take-le}
 use Rattle.requests.specs.declared.Request.the-variants as request
+use Rattle.requests.specs.Named.{noneNamed}
 use Rattle.desk.specs.Desk.{acting}
 use Rattle.desk.proofs.Desks.{at-cap}
 use borrow.Author.Needs.{needs}
@@ -27,7 +27,7 @@ same-length-2 c = search needs
 returns : tie.Need-returns
 returns c =
     let start = c .before .before .before .before .before .before .before in
-    at-cap (λ n. acting (start .args .desk) (request.Send (start .args .word) n) [] []) (length-take-le _ _ (start .pre .0)) (c .before .before .before .sent .ensures)
+    at-cap (λ n. acting (start .args .desk) (request.Send (start .args .word) n) noneNamed) (length-take-le _ _ (start .pre .0)) (c .before .before .before .sent .ensures)
 
 pub send-spec : {M : Type 1} → statement M
 send-spec =

@@ -43,8 +43,9 @@
  *   - the words of a state are used by one thread at a time. Different states are independent: the library has no other
  *     memory;
  *   - the program is for the kind of machine that the archive was made for: it holds no other code;
- *   - the stack has room: a call takes less than 2.5 kilobytes, a replay's call less than 9, and the first call of a program
- *     some 3 more where the loader resolves memcpy at its first use;
+ *   - the stack has room: demfizagu_hear and demfizagu_hear_marked take less than 3 kilobytes, any other call of an end less
+ *     than 7, a replay's call less than 10, and the first call of a program some 3 more where the loader resolves memcpy at
+ *     its first use;
  *   - for the calls that convert floats, the thread's floating-point environment is the default one. They are exact only
  *     there: under another rounding mode they give other numbers, and where exceptions trap a call may raise the signal.
  *     Denormals that are flushed to zero make no difference.

@@ -1,10 +1,11 @@
-//! The receiver written for speed in safe Rust: every point of every label is tried, and release is exact.
+//! The receiver written for speed in safe Rust: on the round map every point of every label is tried, and release is exact.
 //!
 //! `Receiver` is generic over how the nearest points are searched and how the undecided symbols are remembered, so that
 //! the table of `bench/run` can tell what each costs. It is no oracle: `tests/cross` holds it to the clear reference.
 //!
 //! - `Direct`: each squared distance as the scope words it. `Keyed`: the square multiplied out, distance and number in one
-//!   key, the two dot products of a point shared by its four turns; the compiler turns this loop into vector code.
+//!   key, the two dot products of a point shared by its four turns; the compiler turns this loop into vector code. `Grid`: the
+//!   square map, each axis rounded and clamped alone.
 //! - In both memories each state keeps the subsets of its own undecided symbols as bits, moved on with the state.
 //!   `Registers`: three words a state, three bits a symbol. Only the words that hold undecided symbols are moved: one for
 //!   up to 21. Of each symbol it keeps only what its word is put together from once it is released.
@@ -114,6 +115,39 @@ impl Search for Keyed {
         }
         let heard = x * x + y * y;
         least.map(|key| (((heard + (key & !255)) as u32).min(CAP), key as u32 & 255))
+    }
+}
+
+/// The square map, each axis alone. On an axis a label's points stand at 128·(4j + 2e + 1), e the label's bit there and j a signed
+/// number of m bits, for m = 0 that of e; the bits of j go into the number. Of two equally near the smaller bits win: -1 loses to 0.
+pub struct Grid;
+
+#[inline(always)]
+fn axis(m: u32, e: i32, r: i32) -> (u32, u32) {
+    let from = r - 128 * (2 * e + 1);
+    let (least, most) = if m == 0 { (-e, -e) } else { (-(1 << (m - 1)), (1 << (m - 1)) - 1) };
+    let down = (from + 255) >> 9;
+    let j = if from == -256 { 0 } else { down }.clamp(least, most);
+    let away = from - 512 * j;
+    ((away * away) as u32, j as u32 & ((1 << m) - 1))
+}
+
+/// The bits of k moved two places apart.
+#[inline(always)]
+fn apart(k: u32) -> u32 {
+    (0..4).fold(0, |w, n| w | (k >> n & 1) << (2 * n))
+}
+
+impl Search for Grid {
+    #[inline(always)]
+    fn nearest(points: usize, x: i32, y: i32) -> Near {
+        let m = points.trailing_zeros() / 2;
+        let (xs, ys) = ([axis(m, 0, x), axis(m, 1, x)], [axis(m, 0, y), axis(m, 1, y)]);
+        let at = |a: usize, b: usize| {
+            let ((dx, jx), (dy, jy)) = (xs[a], ys[b]);
+            ((dx + dy).min(CAP), apart(jx) << 1 | apart(jy))
+        };
+        [at(0, 0), at(0, 1), at(1, 1), at(1, 0)]
     }
 }
 

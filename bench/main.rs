@@ -9,6 +9,8 @@
 //!   In the search a key of distance and number has 64 bits; the library's has 32.
 //! - `fastest`: the same results by the quickest means known that still try every point: see `fast.rs`.
 //!
+//! On the square map both search as the library does, by rounding and clamping each axis.
+//!
 //! Then sending: words singly through C, and in lists of 1000, beside plain Rust of the same algorithm (`sender.rs`).
 
 #[path = "fast.rs"]
@@ -27,7 +29,8 @@ mod rng;
 #[path = "sender.rs"]
 mod sender;
 
-use fast::{Direct, Keyed, Memory, Planes, Registers, Search};
+use fast::{Direct, Grid, Keyed, Memory, Planes, Registers, Search};
+use reference::{Line, SQUARE};
 
 const WINDOW: u32 = 64;
 const LIST: usize = 1000;
@@ -55,7 +58,7 @@ fn clock() -> f64 {
 
 /// What a contender does: open, hear a piece (taken, written, number), finish (written).
 trait Contender {
-    fn open(&mut self, u: u32);
+    fn open(&mut self, line: Line);
     fn hear(&mut self, piece: &[i32], out: &mut [u32]) -> (usize, usize, u32);
     fn finish(&mut self, out: &mut [u32]) -> usize;
 }
@@ -66,8 +69,8 @@ struct Library {
 }
 
 impl Contender for Library {
-    fn open(&mut self, u: u32) {
-        assert_eq!(ffi::receiver_open(&mut self.state, u, WINDOW, reference::FREE), 0);
+    fn open(&mut self, line: Line) {
+        assert_eq!(ffi::receiver_open_map(&mut self.state, line.map, line.u, WINDOW, reference::FREE), 0);
     }
 
     fn hear(&mut self, piece: &[i32], out: &mut [u32]) -> (usize, usize, u32) {
@@ -81,9 +84,10 @@ impl Contender for Library {
     }
 }
 
+/// Its search is one of the line's map.
 impl<S: Search, M: Memory> Contender for fast::Receiver<S, M> {
-    fn open(&mut self, u: u32) {
-        *self = fast::Receiver::open(u, WINDOW, reference::FREE).1;
+    fn open(&mut self, line: Line) {
+        *self = fast::Receiver::open(line.u, WINDOW, reference::FREE).1;
     }
 
     fn hear(&mut self, piece: &[i32], out: &mut [u32]) -> (usize, usize, u32) {
@@ -97,18 +101,18 @@ impl<S: Search, M: Memory> Contender for fast::Receiver<S, M> {
 }
 
 /// Hears the whole line. Gives how often the window was full.
-fn hear_all<C: Contender>(c: &mut C, u: u32, line: &[i32], piece: usize, out: &mut [u32]) -> usize {
+fn hear_all<C: Contender>(c: &mut C, line: Line, heard: &[i32], piece: usize, out: &mut [u32]) -> usize {
     let (mut at, mut written, mut full) = (0, 0, 0);
-    c.open(u);
-    while at < line.len() {
-        let end = (at + 4 * piece).min(line.len());
-        let (taken, words, number) = c.hear(&line[at..end], &mut out[written..]);
+    c.open(line);
+    while at < heard.len() {
+        let end = (at + 4 * piece).min(heard.len());
+        let (taken, words, number) = c.hear(&heard[at..end], &mut out[written..]);
         at += 4 * taken;
         written += words;
         if number == 6 {
             full += 1;
             written += c.finish(&mut out[written..]);
-            c.open(u);
+            c.open(line);
         }
     }
     c.finish(&mut out[written..]);
@@ -116,24 +120,24 @@ fn hear_all<C: Contender>(c: &mut C, u: u32, line: &[i32], piece: usize, out: &m
 }
 
 /// Nanoseconds a symbol of one run, and the words.
-fn timed<C: Contender>(c: &mut C, u: u32, line: &[i32], piece: usize, out: &mut [u32]) -> f64 {
+fn timed<C: Contender>(c: &mut C, line: Line, heard: &[i32], piece: usize, out: &mut [u32]) -> f64 {
     let start = clock();
-    hear_all(c, u, line, piece, out);
-    (clock() - start) * 1e9 / (line.len() / 4) as f64
+    hear_all(c, line, heard, piece, out);
+    (clock() - start) * 1e9 / (heard.len() / 4) as f64
 }
 
-/// Random words sent at width u, with noise.
-fn received(u: u32, symbols: usize, deviation: f64) -> Vec<i32> {
+/// Random words sent on this line, with noise.
+fn received(line: Line, symbols: usize, deviation: f64) -> Vec<i32> {
     let map = reference::Map::new();
-    let (_, mut sender) = reference::Sender::open(u);
-    let mut rng = rng::Rng::new(u as u64 * 1000 + deviation as u64);
-    let mut line = Vec::with_capacity(4 * symbols);
+    let (_, mut sender) = reference::Sender::open(line);
+    let mut rng = rng::Rng::new(line.u as u64 * 1000 + deviation as u64);
+    let mut heard = Vec::with_capacity(4 * symbols);
     for _ in 0..symbols {
         let mut points = [0; 4];
-        sender.send(&map, rng.next() as u32 & ((1 << (3 + 2 * u)) - 1), &mut points);
-        line.extend(points.map(|c| (128 * c + rng.noise(deviation)).clamp(-8192, 8192)));
+        sender.send(&map, rng.next() as u32 & ((1 << (3 + 2 * line.u)) - 1), &mut points);
+        heard.extend(points.map(|c| (128 * c + rng.noise(deviation)).clamp(-8192, 8192)));
     }
-    line
+    heard
 }
 
 /// How many symbols are undecided on the average, and how often the window was full.
@@ -143,7 +147,7 @@ fn character(u: u32, line: &[i32]) -> (f64, usize) {
     for c in line.chunks(4) {
         if r.hear(c, &mut out).number == 6 {
             full += 1;
-            r.open(u);
+            r.open(Line::round(u));
             r.hear(c, &mut out);
         }
         sum += r.pending;
@@ -151,19 +155,21 @@ fn character(u: u32, line: &[i32]) -> (f64, usize) {
     (sum as f64 / (line.len() / 4) as f64, full)
 }
 
-fn row(u: u32, noise: &str, line: &[i32], piece: usize, rounds: usize) {
+/// A row of the table: A searches for `same`, B for `fastest`.
+fn row<A: Search, B: Search>(line: Line, noise: &str, heard: &[i32], piece: usize, rounds: usize) {
     let mut library = Library { state: vec![0; ffi::receiver_words()], told: [0; 3] };
-    let mut same = fast::Receiver::<Direct, Registers>::closed();
-    let mut fastest = fast::Receiver::<Keyed, Planes>::closed();
-    let mut out = vec![vec![0; line.len() / 4]; 3];
+    let mut same = fast::Receiver::<A, Registers>::closed();
+    let mut fastest = fast::Receiver::<B, Planes>::closed();
+    let mut out = vec![vec![0; heard.len() / 4]; 3];
     let mut best = [f64::MAX; 3];
     for _ in 0..rounds {
-        best[0] = best[0].min(timed(&mut library, u, line, piece, &mut out[0]));
-        best[1] = best[1].min(timed(&mut same, u, line, piece, &mut out[1]));
-        best[2] = best[2].min(timed(&mut fastest, u, line, piece, &mut out[2]));
+        best[0] = best[0].min(timed(&mut library, line, heard, piece, &mut out[0]));
+        best[1] = best[1].min(timed(&mut same, line, heard, piece, &mut out[1]));
+        best[2] = best[2].min(timed(&mut fastest, line, heard, piece, &mut out[2]));
     }
     assert!(out[0] == out[1] && out[1] == out[2], "the words differ: run tests/cross/run");
     let [ours, same, fastest] = best;
+    let u = line.u;
     println!(
         "| {u} | {noise} | {piece} | {ours:.0} | {same:.0} | {:.2} | {fastest:.0} | {:.2} |",
         ours / same,
@@ -180,18 +186,28 @@ fn main() {
     );
     for (u, symbols) in WIDTHS {
         for (noise, deviation) in NOISE {
-            let line = received(u, symbols, deviation);
-            let (pending, full) = character(u, &line);
+            let heard = received(Line::round(u), symbols, deviation);
+            let (pending, full) = character(u, &heard);
             println!("u {u}, {noise} noise (deviation {deviation} of 256 between points): {pending:.1} symbols undecided on the average, window full {full} times in {symbols}");
         }
     }
-    println!("\n| u | noise | piece | library | same | library / same | fastest | library / fastest |");
-    println!("|---|---|---|---|---|---|---|---|");
+    let head = "| u | noise | piece | library | same | library / same | fastest | library / fastest |\n|---|---|---|---|---|---|---|---|";
+    println!("\n{head}");
     for (u, symbols) in WIDTHS {
         for (noise, deviation) in NOISE {
-            let line = received(u, symbols, deviation);
+            let heard = received(Line::round(u), symbols, deviation);
             for piece in PIECES {
-                row(u, noise, &line, piece, rounds);
+                row::<Direct, Keyed>(Line::round(u), noise, &heard, piece, rounds);
+            }
+        }
+    }
+    println!("\nThe square map:\n\n{head}");
+    for (u, symbols) in WIDTHS {
+        let line = Line { map: SQUARE, u };
+        for (noise, deviation) in NOISE {
+            let heard = received(line, symbols, deviation);
+            for piece in PIECES {
+                row::<Grid, Grid>(line, noise, &heard, piece, rounds);
             }
         }
     }

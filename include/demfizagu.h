@@ -9,7 +9,8 @@
  * back, and together with what a finish adds it is the nearest allowed sequence for all that was heard. Symbols taken
  * whose words are not said yet are pending. The window is how many may be pending.
  *
- * The width u, 0 to 8, fixes the word: 3 + 2u bits, all higher bits zero. Both ends must use the same width.
+ * The width u, 0 to 8, fixes the word: 3 + 2u bits, all higher bits zero. The map says which points the symbols have: the
+ * round map, or the square map, which has the even widths alone. Both ends must use the same map and the same width.
  *
  * The receiver hears whole numbers from -8192 to 8192, where a point's coordinate c stands at 128 * c. A front end that
  * has floats in the unit of the points (1.0 is coordinate 1) gets such numbers from demfizagu_sample or demfizagu_samples.
@@ -90,7 +91,8 @@ extern "C" {
 
 /* Done: everything asked for was done. */
 #define DEMFIZAGU_DONE 0u
-/* An opening was given a width above 8; the state is now a closed end. */
+/* An opening was given a width above 8, an odd width of the square map, or a number that is no map's; the state is now a
+ * closed end. */
 #define DEMFIZAGU_WIDTH 1u
 /* An opening was given a window that is not 1 to 64; the state is now a closed receiver. */
 #define DEMFIZAGU_WINDOW 2u
@@ -115,6 +117,10 @@ extern "C" {
  * symbol or sample or are no marks; nothing was taken. */
 #define DEMFIZAGU_LENGTH 10u
 
+/* The maps, for the openings that name one. The others are the round map's. */
+#define DEMFIZAGU_ROUND 0u
+#define DEMFIZAGU_SQUARE 1u
+
 /* The start that names no state: the receiver joins a line without knowing the sender's state. */
 #define DEMFIZAGU_FREE 16u
 
@@ -130,6 +136,9 @@ size_t demfizagu_receiver_words(void);
  * Order: 8 if the state is too short (nothing is written), then 1.
  */
 uint32_t demfizagu_sender_open(uint64_t *state, size_t state_len, uint32_t u);
+
+/* The same on the map that is named: DEMFIZAGU_ROUND or DEMFIZAGU_SQUARE. */
+uint32_t demfizagu_sender_open_map(uint64_t *state, size_t state_len, uint32_t map, uint32_t u);
 
 /*
  * Sends one word: writes the symbol's x1, y1, x2, y2 to out[0] to out[3]. Other places of out stay.
@@ -168,6 +177,10 @@ uint32_t demfizagu_receiver_open(uint64_t *state, size_t state_len, uint32_t u, 
  * names a window of 64: with a window of w none of the first w good symbols is answered with a 6.
  */
 uint32_t demfizagu_receiver_open_plain(uint64_t *state, size_t state_len, uint32_t u);
+
+/* As demfizagu_receiver_open, on the map that is named. */
+uint32_t demfizagu_receiver_open_map(uint64_t *state, size_t state_len, uint32_t map, uint32_t u, uint32_t window,
+                                     uint32_t start);
 
 /*
  * Hears a piece: symbols one after the other, four coordinates each (x1, y1, x2, y2). The words that become final with a
@@ -215,6 +228,9 @@ uint32_t demfizagu_finish(uint64_t *state, size_t state_len, uint32_t *out, size
  * four places), 1, 2, 3; a refusal writes no byte. An opening with the plain window is recorded with window 32, start 16.
  */
 uint32_t demfizagu_record_open(uint32_t u, uint32_t window, uint32_t start, uint8_t *bytes, size_t bytes_len);
+
+/* The same on the map that is named: a capture of the square map opens with another kind of record. */
+uint32_t demfizagu_record_open_map(uint32_t map, uint32_t u, uint32_t window, uint32_t start, uint8_t *bytes, size_t bytes_len);
 
 /*
  * As demfizagu_hear, and records the symbols taken and their words in bytes, straight after one another: 9 bytes for a symbol and

@@ -39,22 +39,22 @@ fn offer(place: &mut Option<Sequence>, s: &Sequence) {
 }
 
 /// Goes through every allowed continuation of `so_far` and offers each whole sequence to the state it ends in.
-fn list_all(map: &Map, u: u32, heard: &[(Received, Received)], so_far: &mut Sequence, best: &mut [Option<Sequence>]) {
+fn list_all(map: &Map, line: Line, heard: &[(Received, Received)], so_far: &mut Sequence, best: &mut [Option<Sequence>]) {
     let Some(&y) = heard.get(so_far.symbols.len()) else {
         return offer(&mut best[so_far.last() as usize], so_far);
     };
-    let (from, sum) = (so_far.last(), so_far.sum);
+    let (from, sum, u) = (so_far.last(), so_far.sum, line.u);
     for parts in 0..1u32 << (3 + 2 * u) {
         let low = (1 << u) - 1;
         let (i1, turn) = (parts & 1, parts >> 1 & 3);
-        let s = symbol(map, from & 1, i1, turn, parts >> 3 & low, parts >> (3 + u) & low);
+        let s = symbol(map, line, from & 1, i1, turn, parts >> 3 & low, parts >> (3 + u) & low);
         so_far.symbols.push(s);
         so_far.states.push(next_state(from, i1, turn % 2));
         let away = |received: Received, p: Point| received.map_or(0, |heard| distance(heard, p));
         let (d1, d2) = (away(y.0, s.points.0), away(y.1, s.points.1));
         so_far.ties.push((turn >> 1, (d1, s.w1), (d2, s.w2)));
         so_far.sum = sum + d1.min(CAP) + d2.min(CAP);
-        list_all(map, u, heard, so_far, best);
+        list_all(map, line, heard, so_far, best);
         so_far.ties.pop();
         so_far.symbols.pop();
         so_far.states.pop();
@@ -70,18 +70,18 @@ fn words(u: u32, start: u32, symbols: &[Symbol]) -> Vec<u32> {
 }
 
 /// What is owed for a list: the words of the longest common beginning, and the words of the answer.
-fn owed(map: &Map, u: u32, start: u32, heard: &[(Received, Received)]) -> (Vec<u32>, Vec<u32>) {
+fn owed(map: &Map, line: Line, start: u32, heard: &[(Received, Received)]) -> (Vec<u32>, Vec<u32>) {
     let mut best: Vec<Option<Sequence>> = vec![None; 16];
     for s in (0..16).filter(|&s| start == FREE || start == s) {
         let mut none = Sequence { sum: 0, states: vec![s], symbols: vec![], ties: vec![] };
-        list_all(map, u, heard, &mut none, &mut best);
+        list_all(map, line, heard, &mut none, &mut best);
     }
     let live: Vec<&Sequence> = best.iter().flatten().collect();
     let mut answer = None;
     live.iter().for_each(|s| offer(&mut answer, s));
     let same = |k: &usize| live.iter().all(|s| s.symbols[*k].points == live[0].symbols[*k].points);
     let common = (0..heard.len()).take_while(same).count();
-    (words(u, start, &live[0].symbols[..common]), words(u, start, &answer.unwrap().symbols))
+    (words(line.u, start, &live[0].symbols[..common]), words(line.u, start, &answer.unwrap().symbols))
 }
 
 /// One received coordinate: small whole points, midpoints (ties), the ends of the range, where distances pass the cap, or
@@ -100,14 +100,23 @@ fn coordinate(rng: &mut Rng) -> i32 {
 /// Compares the reference with the definition after every symbol of short lists. Gives the number of lists.
 pub fn check(map: &Map, seed: u64) -> Result<usize, String> {
     let mut rng = Rng::new(seed);
-    // width, longest list with a free start, with a named start, lists
-    let sizes = [(0, 4, 5, 200), (0, 5, 6, 20), (1, 2, 3, 60), (2, 1, 2, 30), (3, 1, 1, 20)];
+    // map, width, longest list with a free start, with a named start, lists
+    let sizes = [
+        (ROUND, 0, 4, 5, 200),
+        (ROUND, 0, 5, 6, 20),
+        (ROUND, 1, 2, 3, 60),
+        (ROUND, 2, 1, 2, 30),
+        (ROUND, 3, 1, 1, 20),
+        (SQUARE, 0, 4, 5, 60),
+        (SQUARE, 2, 1, 2, 60),
+    ];
     let mut lists = 0;
-    for (u, free, named, times) in sizes {
+    for (map_number, u, free, named, times) in sizes {
+        let line = Line { map: map_number, u };
         for _ in 0..times {
             let start = if rng.below(2) == 0 { FREE } else { rng.below(16) as u32 };
             let length = if start == FREE { free } else { named };
-            let (_, mut receiver) = Receiver::open(u, 64, start);
+            let (_, mut receiver) = Receiver::open(line, 64, start);
             let (mut heard, mut spoken) = (vec![], vec![]);
             for k in 1..=length {
                 let c: Vec<i32> = (0..4).map(|_| coordinate(&mut rng)).collect();
@@ -121,10 +130,10 @@ pub fn check(map: &Map, seed: u64) -> Result<usize, String> {
                 let mut rest = [0; 64];
                 let last = receiver.clone().finish(&mut rest);
                 let all: Vec<u32> = spoken.iter().chain(&rest[..last.written as usize]).copied().collect();
-                let (common, answer_words) = owed(map, u, start, &heard);
+                let (common, answer_words) = owed(map, line, start, &heard);
                 if (&spoken, &all) != (&common, &answer_words) {
                     return Err(format!(
-                        "u {u}, start {start}, heard {heard:?}: after {k} symbols the reference spoke {spoken:?} of {all:?}, \
+                        "{line:?}, start {start}, heard {heard:?}: after {k} symbols the reference spoke {spoken:?} of {all:?}, \
                          the definition owes {common:?} of {answer_words:?}"
                     ));
                 }

@@ -12,6 +12,7 @@ mod c {
         pub fn demfizagu_is_open(state: *const u64, state_len: usize) -> u32;
         pub fn demfizagu_pending(state: *const u64, state_len: usize) -> u32;
         pub fn demfizagu_sender_open(state: *mut u64, state_len: usize, u: u32) -> u32;
+        pub fn demfizagu_sender_open_map(state: *mut u64, state_len: usize, map: u32, u: u32) -> u32;
         pub fn demfizagu_send(state: *mut u64, state_len: usize, word: u32, out: *mut i32, out_len: usize) -> u32;
         pub fn demfizagu_send_list(
             state: *mut u64,
@@ -25,6 +26,14 @@ mod c {
         ) -> u32;
         pub fn demfizagu_receiver_open(state: *mut u64, state_len: usize, u: u32, window: u32, start: u32) -> u32;
         pub fn demfizagu_receiver_open_plain(state: *mut u64, state_len: usize, u: u32) -> u32;
+        pub fn demfizagu_receiver_open_map(
+            state: *mut u64,
+            state_len: usize,
+            map: u32,
+            u: u32,
+            window: u32,
+            start: u32,
+        ) -> u32;
         pub fn demfizagu_hear(
             state: *mut u64,
             state_len: usize,
@@ -56,6 +65,14 @@ mod c {
             told_len: usize,
         ) -> u32;
         pub fn demfizagu_record_open(u: u32, window: u32, start: u32, bytes: *mut u8, bytes_len: usize) -> u32;
+        pub fn demfizagu_record_open_map(
+            map: u32,
+            u: u32,
+            window: u32,
+            start: u32,
+            bytes: *mut u8,
+            bytes_len: usize,
+        ) -> u32;
         pub fn demfizagu_hear_recorded(
             state: *mut u64,
             state_len: usize,
@@ -141,6 +158,10 @@ pub fn sender_open(state: &mut [u64], u: u32) -> u32 {
     unsafe { c::demfizagu_sender_open(state.as_mut_ptr(), state.len(), u) }
 }
 
+pub fn sender_open_map(state: &mut [u64], map: u32, u: u32) -> u32 {
+    unsafe { c::demfizagu_sender_open_map(state.as_mut_ptr(), state.len(), map, u) }
+}
+
 pub fn send(state: &mut [u64], word: u32, out: &mut [i32]) -> u32 {
     unsafe { c::demfizagu_send(state.as_mut_ptr(), state.len(), word, out.as_mut_ptr(), out.len()) }
 }
@@ -166,6 +187,10 @@ pub fn receiver_open(state: &mut [u64], u: u32, window: u32, start: u32) -> u32 
 
 pub fn receiver_open_plain(state: &mut [u64], u: u32) -> u32 {
     unsafe { c::demfizagu_receiver_open_plain(state.as_mut_ptr(), state.len(), u) }
+}
+
+pub fn receiver_open_map(state: &mut [u64], map: u32, u: u32, window: u32, start: u32) -> u32 {
+    unsafe { c::demfizagu_receiver_open_map(state.as_mut_ptr(), state.len(), map, u, window, start) }
 }
 
 pub fn hear(state: &mut [u64], piece: &[i32], out: &mut [u32], told: &mut [u64]) -> u32 {
@@ -208,6 +233,10 @@ pub fn finish(state: &mut [u64], out: &mut [u32], told: &mut [u64]) -> u32 {
 
 pub fn record_open(u: u32, window: u32, start: u32, bytes: &mut [u8]) -> u32 {
     unsafe { c::demfizagu_record_open(u, window, start, bytes.as_mut_ptr(), bytes.len()) }
+}
+
+pub fn record_open_map(map: u32, u: u32, window: u32, start: u32, bytes: &mut [u8]) -> u32 {
+    unsafe { c::demfizagu_record_open_map(map, u, window, start, bytes.as_mut_ptr(), bytes.len()) }
 }
 
 pub fn hear_recorded(state: &mut [u64], piece: &[i32], out: &mut [u32], bytes: &mut [u8], told: &mut [u64]) -> u32 {

@@ -5,9 +5,10 @@ use crate::machine::*;
 use crate::reference::*;
 use crate::rng::Rng;
 
-/// Openings in one session, and how many sessions go once through every width, window and start.
+/// Openings in one session, and how many sessions go once through every width, window and start. Where both maps have the width, either
+/// is opened.
 pub const OPENINGS: u64 = 17;
-pub const ROUND: u64 = 9 * 64;
+pub const ALL: u64 = 9 * 64;
 
 /// Where the received symbols of a line come from.
 #[derive(Clone, Copy)]
@@ -48,6 +49,8 @@ const FORGED: [i32; 12] =
     [8193, -8193, 8194, 16384, -16384, 65536, -65536, 1 << 24, i32::MAX, i32::MIN, i32::MIN + 8192, i32::MAX - 8191];
 
 const BAD_WIDTHS: [u32; 6] = [9, 10, 16, 255, 256, u32::MAX];
+/// Maps of refused openings: the two, and numbers that are no map's.
+const MAPS: [u32; 6] = [ROUND, ROUND, SQUARE, SQUARE, 2, u32::MAX];
 const BAD_WINDOWS: [u32; 6] = [0, 65, 66, 128, 256, u32::MAX];
 const BAD_STARTS: [u32; 6] = [17, 18, 31, 32, 256, u32::MAX];
 
@@ -76,7 +79,9 @@ impl<'m> Session<'m> {
             if self.rng.once_in(6) {
                 self.refused_openings()?;
             }
-            self.line(u as u32, window as u32, start as u32)?;
+            let square = u % 2 == 0 && self.rng.once_in(2);
+            let line = Line { map: if square { SQUARE } else { ROUND }, u: u as u32 };
+            self.line(line, window as u32, start as u32)?;
         }
         Ok(())
     }
@@ -84,20 +89,23 @@ impl<'m> Session<'m> {
     /// Openings that must be refused, over closed ends and over open ones, and calls on the closed ends that they leave.
     fn refused_openings(&mut self) -> Result<(), String> {
         if self.rng.once_in(2) {
-            let u = self.rng.below(9) as u32;
-            self.step(Step::Plain { u })?;
-            self.step(Step::Sender { u })?;
+            let line = Line::round(self.rng.below(9) as u32);
+            self.step(Step::Plain { line })?;
+            self.step(Step::Sender { line })?;
             self.step(Step::Piece { room: 64, coordinates: vec![128; 12], marks: None })?;
         }
         let r = &mut self.rng;
         let u = if r.once_in(2) { r.pick(&BAD_WIDTHS) } else { r.below(9) as u32 };
         let window = if r.once_in(2) { r.pick(&BAD_WINDOWS) } else { 1 + r.below(64) as u32 };
         let start = if r.once_in(2) { r.pick(&BAD_STARTS) } else { r.below(17) as u32 };
-        let bad = r.pick(&BAD_WIDTHS);
-        self.step(Step::Receiver { u, window, start })?;
+        let line = Line { map: r.pick(&MAPS), u };
+        let odd = Line { map: SQUARE, u: 1 + 2 * r.below(4) as u32 };
+        let wide = Line { map: r.pick(&MAPS), u: r.pick(&BAD_WIDTHS) };
+        let bad = r.pick(&[wide, odd, Line { map: 2, u: 0 }]);
+        self.step(Step::Receiver { line, window, start })?;
         self.call_closed()?;
-        self.step(Step::Plain { u: bad })?;
-        self.step(Step::Sender { u: bad })?;
+        self.step(Step::Plain { line: bad })?;
+        self.step(Step::Sender { line: bad })?;
         self.step(Step::Send { word: 0, room: 4 })?;
         self.call_closed()
     }
@@ -152,17 +160,17 @@ impl<'m> Session<'m> {
     }
 
     /// One line: openings of both ends, pieces until enough symbols are taken or the window is full, a finish.
-    fn line(&mut self, u: u32, window: u32, start: u32) -> Result<(), String> {
+    fn line(&mut self, line: Line, window: u32, start: u32) -> Result<(), String> {
         let plain = window == 64 && start == FREE && self.rng.once_in(2);
-        self.step(if plain { Step::Plain { u } } else { Step::Receiver { u, window, start } })?;
-        let mut source = LineSource::new(self, u);
+        self.step(if plain { Step::Plain { line } } else { Step::Receiver { line, window, start } })?;
+        let mut source = LineSource::new(self, line);
         // a few lines go beyond what 16 bits count
         let long = window > 24 && self.rng.once_in(600);
         if long {
             source = LineSource { source: Source::Sent(40.0), logged: false, ..source };
         }
         if source.logged {
-            self.step(Step::Sender { u })?;
+            self.step(Step::Sender { line })?;
         }
         let mut left = match self.rng.below(16) {
             _ if long => 70_000,
@@ -341,12 +349,12 @@ struct LineSource {
 }
 
 impl LineSource {
-    fn new(session: &mut Session, u: u32) -> LineSource {
+    fn new(session: &mut Session, line: Line) -> LineSource {
         let source = session.source();
         let r = &mut session.rng;
         let (logged, forged) = (r.once_in(4), r.pick(&[0, 0, 0, 200, 20]));
         let missing = r.pick(&[0, 0, 0, 1, 4, 30]);
-        LineSource { source, u, sender: Sender::open(u).1, logged, burst: 0, forged, missing }
+        LineSource { source, u: line.u, sender: Sender::open(line).1, logged, burst: 0, forged, missing }
     }
 
     /// A symbol and its mark. What stands in the places of a missing point is anything.

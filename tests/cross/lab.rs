@@ -22,6 +22,16 @@ fn u32_of(token: &str) -> Option<u32> {
     whole(token, u32::MAX as u64).map(|n| n as u32)
 }
 
+/// A width and what stands at the end of an opening: nothing, or the square map's name (02, Wish 11).
+fn line_of(u: &str, map: &[&str]) -> Option<Line> {
+    let map = match map {
+        [] => ROUND,
+        ["square"] => SQUARE,
+        _ => return None,
+    };
+    Some(Line { map, u: u32_of(u)? })
+}
+
 fn cap_of(token: &str) -> Option<usize> {
     whole(token, 4096).map(|n| n as usize)
 }
@@ -78,8 +88,8 @@ impl Lab {
     fn read(&mut self, line: &str) -> Option<String> {
         let tokens: Vec<&str> = line.split(' ').collect();
         match tokens[..] {
-            ["sender", u] => {
-                let (number, sender) = Sender::open(u32_of(u)?);
+            ["sender", u, ref map @ ..] => {
+                let (number, sender) = Sender::open(line_of(u, map)?);
                 self.sender = sender;
                 Some(number.to_string())
             }
@@ -100,17 +110,17 @@ impl Lab {
                 }
                 Some(line)
             }
-            ["receiver", u] => Some(u32_of(u)?).map(|u| self.opened(Receiver::open_plain(u))),
-            ["receiver", u, window, "free"] => {
-                let (u, window) = (u32_of(u)?, u32_of(window)?);
-                Some(self.opened(Receiver::open(u, window, FREE)))
+            ["receiver", u, window, "free", ref map @ ..] => {
+                let (line, window) = (line_of(u, map)?, u32_of(window)?);
+                Some(self.opened(Receiver::open(line, window, FREE)))
             }
-            ["receiver", u, window, "at", start] => {
-                let (u, window, start) = (u32_of(u)?, u32_of(window)?, u32_of(start)?);
+            ["receiver", u, window, "at", start, ref map @ ..] => {
+                let (line, window, start) = (line_of(u, map)?, u32_of(window)?, u32_of(start)?);
                 // a start that is named must be one of the sixteen: 16 is no name of the free start here
                 let start = if start > 15 { 17 } else { start };
-                Some(self.opened(Receiver::open(u, window, start)))
+                Some(self.opened(Receiver::open(line, window, start)))
             }
+            ["receiver", u, ref map @ ..] => Some(self.opened(Receiver::open_plain(line_of(u, map)?))),
             ["piece", cap, ref coordinates @ ..] if coordinates.len() <= 4096 => {
                 let mut out = vec![0; cap_of(cap)?];
                 let piece = coordinates.iter().map(|c| coordinate_of(c)).collect::<Option<Vec<i32>>>()?;

@@ -9,7 +9,7 @@ use crate::reference::*;
 #[derive(Clone, Debug)]
 pub enum Step {
     Sender {
-        u: u32,
+        line: Line,
     },
     Send {
         word: u32,
@@ -20,12 +20,13 @@ pub enum Step {
         room: usize,
     },
     Receiver {
-        u: u32,
+        line: Line,
         window: u32,
         start: u32,
     },
+    /// On the square map a caller in C names the plain window.
     Plain {
-        u: u32,
+        line: Line,
     },
     Piece {
         room: usize,
@@ -281,8 +282,8 @@ impl<'m> Machine<'m> {
         let (s, r) = (Lent::new(ffi::sender_words()), Lent::new(ffi::receiver_words()));
         let (sender, receiver) = (Sender::closed(), Receiver::closed());
         let mut m = Machine { map, sender, receiver, sender_state: s, receiver_state: r, symbols: 0 };
-        m.step(&Step::Sender { u: 9 })?;
-        m.step(&Step::Receiver { u: 9, window: 64, start: 0 })?;
+        m.step(&Step::Sender { line: Line::round(9) })?;
+        m.step(&Step::Receiver { line: Line::round(9), window: 64, start: 0 })?;
         Ok(m)
     }
 
@@ -290,11 +291,11 @@ impl<'m> Machine<'m> {
     pub fn step(&mut self, step: &Step) -> Result<Given, String> {
         let plain = |number| Given { number, taken: 0 };
         match step {
-            Step::Sender { u } => self.open_sender(*u).map(plain),
+            Step::Sender { line } => self.open_sender(*line).map(plain),
             Step::Send { word, room } => self.send(*word, *room).map(plain),
             Step::List { words, room } => self.send_list(words, *room).map(plain),
-            Step::Receiver { u, window, start } => self.open_receiver(*u, Some((*window, *start))).map(plain),
-            Step::Plain { u } => self.open_receiver(*u, None).map(plain),
+            Step::Receiver { line, window, start } => self.open_receiver(*line, Some((*window, *start))).map(plain),
+            Step::Plain { line } => self.open_receiver(*line, None).map(plain),
             Step::Piece { room, coordinates, marks } => self.hear(*room, coordinates, marks.as_deref()),
             Step::Finish { room } => self.finish(*room).map(plain),
             Step::Pending => self.ask().map(|()| plain(0)),
@@ -314,24 +315,39 @@ impl<'m> Machine<'m> {
         holds("places outside the receiver's state changed", inside)
     }
 
-    fn open_sender(&mut self, u: u32) -> Result<u32, String> {
-        let (number, sender) = Sender::open(u);
+    fn open_sender(&mut self, line: Line) -> Result<u32, String> {
+        let (number, sender) = Sender::open(line);
         self.sender = sender;
-        same("number", number, ffi::sender_open(self.sender_state.slice(), u))?;
+        same("number", number, ffi::sender_open_map(self.sender_state.slice(), line.map, line.u))?;
         self.states_stayed_inside()?;
+        if line.map == ROUND {
+            let mut other = Lent::holding(self.sender_state.seen());
+            same("number of the opening that names no map", number, ffi::sender_open(other.slice(), line.u))?;
+            same("its state", self.sender_state.seen(), other.seen())?;
+        }
         self.ask()?;
         Ok(number)
     }
 
-    fn open_receiver(&mut self, u: u32, named: Option<(u32, u32)>) -> Result<u32, String> {
-        let state = self.receiver_state.slice();
-        let ((number, receiver), got) = match named {
-            Some((window, start)) => (Receiver::open(u, window, start), ffi::receiver_open(state, u, window, start)),
-            None => (Receiver::open_plain(u), ffi::receiver_open_plain(state, u)),
+    fn open_receiver(&mut self, line: Line, named: Option<(u32, u32)>) -> Result<u32, String> {
+        let (number, receiver) = match named {
+            Some((window, start)) => Receiver::open(line, window, start),
+            None => Receiver::open_plain(line),
         };
         self.receiver = receiver;
+        let (window, start) = named.unwrap_or((PLAIN_WINDOW, FREE));
+        let got = ffi::receiver_open_map(self.receiver_state.slice(), line.map, line.u, window, start);
         same("number", number, got)?;
         self.states_stayed_inside()?;
+        if line.map == ROUND {
+            let mut other = Lent::holding(self.receiver_state.seen());
+            let got = match named {
+                Some((window, start)) => ffi::receiver_open(other.slice(), line.u, window, start),
+                None => ffi::receiver_open_plain(other.slice(), line.u),
+            };
+            same("number of the opening that names no map", number, got)?;
+            same("its state", self.receiver_state.seen(), other.seen())?;
+        }
         self.ask()?;
         if number != 0 {
             compare_closed_receiver("after a refused opening", self.receiver_state.seen())?;
@@ -475,6 +491,9 @@ impl<'m> Machine<'m> {
                 let mut r = Lent::<u64>::new(ffi::receiver_words().saturating_sub(by));
                 for u in [0, 8, 9] {
                     same("opening a sender that is too short", 8, ffi::sender_open(s.slice(), u))?;
+                    same("opening a sender that is too short", 8, ffi::sender_open_map(s.slice(), 1 + u % 2, u))?;
+                    let given = ffi::receiver_open_map(r.slice(), 1 + u % 2, u, u + 60, 17 - u);
+                    same("opening a receiver that is too short", 8, given)?;
                     same("opening a receiver that is too short", 8, ffi::receiver_open(r.slice(), u, u + 60, 17 - u))?;
                     same("opening a receiver that is too short", 8, ffi::receiver_open_plain(r.slice(), u))?;
                 }
@@ -553,19 +572,40 @@ impl<'m> Machine<'m> {
     }
 }
 
+/// A number that is no map's has no line.
+fn alone(line: Line) -> &'static str {
+    if line.map > SQUARE {
+        "# in C alone, no map: "
+    } else {
+        ""
+    }
+}
+
+fn on(line: Line) -> &'static str {
+    if line.map == SQUARE {
+        " square"
+    } else {
+        ""
+    }
+}
+
 impl std::fmt::Display for Step {
     /// The line that `lab` takes, or a comment where it has none.
     fn fmt(&self, f: &mut std::fmt::Formatter) -> std::fmt::Result {
         match self {
-            Step::Sender { u } => write!(f, "sender {u}"),
+            Step::Sender { line } => write!(f, "{}sender {}{}", alone(*line), line.u, on(*line)),
             Step::Send { word, room } => write!(f, "send {word} {room}"),
             Step::List { words, room } => {
                 write!(f, "list {room}")?;
                 words.iter().try_for_each(|w| write!(f, " {w}"))
             }
-            Step::Plain { u } => write!(f, "receiver {u}"),
-            Step::Receiver { u, window, start: FREE } => write!(f, "receiver {u} {window} free"),
-            Step::Receiver { u, window, start } => write!(f, "receiver {u} {window} at {start}"),
+            Step::Plain { line } => write!(f, "{}receiver {}{}", alone(*line), line.u, on(*line)),
+            Step::Receiver { line, window, start: FREE } => {
+                write!(f, "{}receiver {} {window} free{}", alone(*line), line.u, on(*line))
+            }
+            Step::Receiver { line, window, start } => {
+                write!(f, "{}receiver {} {window} at {start}{}", alone(*line), line.u, on(*line))
+            }
             Step::Piece { room, coordinates, marks } => {
                 match marks {
                     None => write!(f, "piece {room}")?,

@@ -40,7 +40,7 @@ const USAGE: &str =
 fn options() -> Option<Options> {
     let mut o = Options {
         seed: 1,
-        sessions: generate::ROUND,
+        sessions: generate::ALL,
         threads: 2,
         vectors: PathBuf::new(),
         lab_in: PathBuf::new(),
@@ -106,7 +106,7 @@ fn report(map: &Map, o: &Options, index: u64, failure: Failure) {
 
 /// Numbers that must have been seen often for the run to count: all but 7, which no run of this length can reach.
 fn enough(o: &Options, seen: &Seen) -> Result<(), String> {
-    if o.sessions < generate::ROUND {
+    if o.sessions < generate::ALL {
         return Ok(());
     }
     let rare = (0..11).find(|&n| n != 7 && seen.numbers[n] < 100);

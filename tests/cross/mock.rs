@@ -19,7 +19,8 @@ use registers::*;
 #[cfg(not(registers))]
 mod planes {
     use crate::fast::*;
-    pub type Held = Receiver<Keyed, Planes>;
+    pub type Round = Receiver<Keyed, Planes>;
+    pub type Square = Receiver<Grid, Planes>;
     pub const MEMORY_WORDS: usize = 64 + 256;
 
     pub fn put(memory: &Planes, words: &mut [u64]) {
@@ -45,7 +46,8 @@ mod planes {
 #[cfg(registers)]
 mod registers {
     use crate::fast::*;
-    pub type Held = Receiver<Direct, Registers>;
+    pub type Round = Receiver<Direct, Registers>;
+    pub type Square = Receiver<Grid, Registers>;
     pub const MEMORY_WORDS: usize = 48 + 8 + 64;
 
     pub fn put(memory: &Registers, words: &mut [u64]) {
@@ -65,39 +67,63 @@ mod registers {
 
 const SENDER_TAG: u64 = 0x5345_4e44_5f30_3031;
 const RECEIVER_TAG: u64 = 0x5245_4356_5f30_3031;
-const SENDER_WORDS: usize = 5;
-/// Tag; open, width, window, turn, taken, slot, pending; sums; memory.
-const RECEIVER_WORDS: usize = 24 + MEMORY_WORDS;
+const SENDER_WORDS: usize = 6;
+/// Tag; open, map, width, window, turn, taken, slot, pending; sums; memory.
+const RECEIVER_WORDS: usize = 25 + MEMORY_WORDS;
+
+/// Whether there is such a line.
+fn is_line(map: u64, u: u64) -> bool {
+    u <= 8 && (map == 0 || map == 1 && u % 2 == 0)
+}
 
 // ---- the sender
 
 struct Sender {
     open: bool,
+    map: u32,
     u: u32,
     turn: u32,
     state: u32,
 }
 
-const NO_SENDER: Sender = Sender { open: false, u: 0, turn: 0, state: 0 };
+const NO_SENDER: Sender = Sender { open: false, map: 0, u: 0, turn: 0, state: 0 };
 
 fn load_sender(state: &[u64]) -> Option<Sender> {
     if state.len() < SENDER_WORDS || state[0] != SENDER_TAG {
         return None;
     }
-    let sound = state[1] == 1 && state[2] <= 8 && state[3] < 4 && state[4] < 16;
-    sound.then(|| Sender { open: true, u: state[2] as u32, turn: state[3] as u32, state: state[4] as u32 })
+    let sound = state[1] == 1 && is_line(state[2], state[3]) && state[4] < 4 && state[5] < 16;
+    let [map, u, turn, state] = [2, 3, 4, 5].map(|n| state[n] as u32);
+    sound.then_some(Sender { open: true, map, u, turn, state })
 }
 
 fn store_sender(s: &Sender, state: &mut [u64]) {
-    let words = [SENDER_TAG, s.open as u64, s.u as u64, s.turn as u64, s.state as u64];
-    state[..SENDER_WORDS].copy_from_slice(&words);
+    let words = [s.open as u32, s.map, s.u, s.turn, s.state].map(|n| n as u64);
+    state[0] = SENDER_TAG;
+    state[1..SENDER_WORDS].copy_from_slice(&words);
 }
 
 static A_POINTS: [(i32, i32); 256] = fast::A_POINTS;
 
-/// The point with this label and number.
-fn point(label: u32, number: u32) -> (i32, i32) {
+/// The round map's point with this label and number.
+fn round_point(label: u32, number: u32) -> (i32, i32) {
     (0..label).fold(A_POINTS[number as usize], |(x, y), _| (y, -x))
+}
+
+/// The square map's: the bits of x and of y alternate, a 1 behind them, shifted up to the sign and back.
+fn square_point(u: u32, label: u32, number: u32) -> (i32, i32) {
+    let v = number << 2 | label ^ label >> 1;
+    let field = |v: u32| (0..5).fold(1, |c, n| c | (v >> (2 * n) & 1) << (n + 1)) as i32;
+    let spare = 30 - u / 2;
+    (field(v >> 1) << spare >> spare, field(v) << spare >> spare)
+}
+
+fn point(s: &Sender, label: u32, number: u32) -> (i32, i32) {
+    if s.map == 1 {
+        square_point(s.u, label, number)
+    } else {
+        round_point(label, number)
+    }
 }
 
 fn send(s: &mut Sender, word: u32, out: &mut [i32]) -> u32 {
@@ -109,39 +135,87 @@ fn send(s: &mut Sender, word: u32, out: &mut [i32]) -> u32 {
     }
     let (i1, low, y0) = (word & 1, (1 << s.u) - 1, s.state & 1);
     s.turn = (s.turn + (word >> 1 & 3)) & 3;
-    let first = point(s.turn, word >> 3 & low);
-    let second = point((s.turn + y0 + 2 * i1) & 3, word >> (3 + s.u) & low);
+    let first = point(s, s.turn, word >> 3 & low);
+    let second = point(s, (s.turn + y0 + 2 * i1) & 3, word >> (3 + s.u) & low);
     out[..4].copy_from_slice(&[first.0, first.1, second.0, second.1]);
     let (w1, w2, w3) = (s.state >> 3 & 1, s.state >> 2 & 1, s.state >> 1 & 1);
     s.state = w3 << 3 | y0 << 2 | (w2 ^ s.turn & 1) << 1 | (w1 ^ w3 ^ i1);
     0
 }
 
-// ---- the receiver's words
+// ---- the receiver, of either map, and its words
+
+enum Held {
+    Round(Round),
+    Square(Square),
+}
+
+/// The same of the receiver, whichever map it is.
+macro_rules! of {
+    ($held:expr, $r:ident => $what:expr) => {
+        match $held {
+            Held::Round($r) => $what,
+            Held::Square($r) => $what,
+        }
+    };
+}
+
+impl Held {
+    fn open(map: u32, u: u32, window: u32, start: u32) -> (u32, Held) {
+        // a width that no map has stands for a line that there is none of
+        let u = if is_line(map as u64, u as u64) { u } else { 9 };
+        if map == 1 {
+            let (number, r) = Square::open(u, window, start);
+            return (number, Held::Square(r));
+        }
+        let (number, r) = Round::open(u, window, start);
+        (number, Held::Round(r))
+    }
+
+    fn pending(&self) -> usize {
+        of!(self, r => r.pending)
+    }
+
+    fn hear(&mut self, piece: &[i32], out: &mut [u32]) -> fast::Answer {
+        of!(self, r => r.hear(piece, out))
+    }
+
+    fn hear_marked(&mut self, piece: &[i32], marks: &[u8], out: &mut [u32]) -> fast::Answer {
+        of!(self, r => r.hear_marked(piece, marks, out))
+    }
+
+    fn finish(&mut self, out: &mut [u32]) -> fast::Answer {
+        of!(self, r => r.finish(out))
+    }
+}
 
 fn load(state: &[u64]) -> Option<Held> {
     if state.len() < RECEIVER_WORDS || state[0] != RECEIVER_TAG {
         return None;
     }
-    let [open, u, window, turn, taken, slot, pending] = state[1..8].try_into().unwrap();
-    let sound = open == 1 && u <= 8 && (1..=64).contains(&window) && turn <= 4 && taken < 1 << 32;
-    if !sound || slot > 63 || pending > window || state[8..24].iter().any(|&sum| sum >= 1 << 63) {
+    let [open, map, u, window, turn, taken, slot, pending] = state[1..9].try_into().unwrap();
+    let sound = open == 1 && is_line(map, u) && (1..=64).contains(&window) && turn <= 4 && taken < 1 << 32;
+    if !sound || slot > 63 || pending > window || state[9..25].iter().any(|&sum| sum >= 1 << 63) {
         return None;
     }
-    let (_, mut r) = Held::open(u as u32, window as u32, 16);
-    (r.turn, r.taken, r.slot, r.pending) = (turn as u32, taken as u32, slot as usize, pending as usize);
-    r.sums.copy_from_slice(&state[8..24]);
-    r.memory = get(&state[24..RECEIVER_WORDS]);
-    Some(r)
+    let (_, mut held) = Held::open(map as u32, u as u32, window as u32, 16);
+    of!(&mut held, r => {
+        (r.turn, r.taken, r.slot, r.pending) = (turn as u32, taken as u32, slot as usize, pending as usize);
+        r.sums.copy_from_slice(&state[9..25]);
+        r.memory = get(&state[25..RECEIVER_WORDS]);
+    });
+    Some(held)
 }
 
-fn store(r: &Held, state: &mut [u64]) {
-    let head = [r.open as u64, r.u as u64, r.window as u64, r.turn as u64, r.taken as u64];
-    state[0] = RECEIVER_TAG;
-    state[1..6].copy_from_slice(&head);
-    state[6..8].copy_from_slice(&[r.slot as u64, r.pending as u64]);
-    state[8..24].copy_from_slice(&r.sums);
-    put(&r.memory, &mut state[24..RECEIVER_WORDS]);
+fn store(held: &Held, state: &mut [u64]) {
+    let map = matches!(held, Held::Square(_)) as u32;
+    of!(held, r => {
+        let head = [r.open as u32, map, r.u, r.window, r.turn, r.taken, r.slot as u32, r.pending as u32];
+        state[0] = RECEIVER_TAG;
+        state[1..9].copy_from_slice(&head.map(|n| n as u64));
+        state[9..25].copy_from_slice(&r.sums);
+        put(&r.memory, &mut state[25..RECEIVER_WORDS]);
+    });
 }
 
 fn tell(told: &mut [u64], taken: u64, written: u64, place: u64) {
@@ -196,20 +270,25 @@ pub unsafe extern "C" fn demfizagu_is_open(state: *const u64, state_len: usize) 
 
 #[no_mangle]
 pub unsafe extern "C" fn demfizagu_pending(state: *const u64, state_len: usize) -> u32 {
-    load(from_raw_parts(state, state_len)).map_or(0, |r| r.pending as u32)
+    load(from_raw_parts(state, state_len)).map_or(0, |r| r.pending() as u32)
 }
 
 #[no_mangle]
 pub unsafe extern "C" fn demfizagu_sender_open(state: *mut u64, state_len: usize, u: u32) -> u32 {
+    demfizagu_sender_open_map(state, state_len, 0, u)
+}
+
+#[no_mangle]
+pub unsafe extern "C" fn demfizagu_sender_open_map(state: *mut u64, state_len: usize, map: u32, u: u32) -> u32 {
     let state = from_raw_parts_mut(state, state_len);
     if state.len() < SENDER_WORDS {
         return 8;
     }
-    if u > 8 {
+    if !is_line(map as u64, u as u64) {
         store_sender(&NO_SENDER, state);
         return 1;
     }
-    store_sender(&Sender { open: true, u, ..NO_SENDER }, state);
+    store_sender(&Sender { open: true, map, u, ..NO_SENDER }, state);
     0
 }
 
@@ -272,11 +351,23 @@ pub unsafe extern "C" fn demfizagu_receiver_open(
     window: u32,
     start: u32,
 ) -> u32 {
+    demfizagu_receiver_open_map(state, state_len, 0, u, window, start)
+}
+
+#[no_mangle]
+pub unsafe extern "C" fn demfizagu_receiver_open_map(
+    state: *mut u64,
+    state_len: usize,
+    map: u32,
+    u: u32,
+    window: u32,
+    start: u32,
+) -> u32 {
     let state = from_raw_parts_mut(state, state_len);
     if state.len() < RECEIVER_WORDS {
         return 8;
     }
-    let (number, r) = Held::open(u, window, start);
+    let (number, r) = Held::open(map, u, window, start);
     store(&r, state);
     number
 }
@@ -363,13 +454,25 @@ fn words_recorded(kind_and_body: Vec<u8>, words: &[u32]) -> Vec<u8> {
 
 #[no_mangle]
 pub unsafe extern "C" fn demfizagu_record_open(u: u32, window: u32, start: u32, bytes: *mut u8, bytes_len: usize) -> u32 {
+    demfizagu_record_open_map(0, u, window, start, bytes, bytes_len)
+}
+
+#[no_mangle]
+pub unsafe extern "C" fn demfizagu_record_open_map(
+    map: u32,
+    u: u32,
+    window: u32,
+    start: u32,
+    bytes: *mut u8,
+    bytes_len: usize,
+) -> u32 {
     let bytes = from_raw_parts_mut(bytes, bytes_len);
     if bytes.len() < 4 {
         return 8;
     }
-    let (number, _) = Held::open(u, window, start);
+    let number = Held::open(map, u, window, start).0;
     if number == 0 {
-        bytes[..4].copy_from_slice(&[1, u as u8, window as u8, start as u8]);
+        bytes[..4].copy_from_slice(&[1 + 5 * map as u8, u as u8, window as u8, start as u8]);
     }
     number
 }
@@ -480,7 +583,7 @@ pub unsafe extern "C" fn demfizagu_finish_recorded(
     }
     told[3] = 0;
     let Some(mut held) = load(state) else { return closed(told) };
-    if bytes.len() < 1 + 5 * held.pending {
+    if bytes.len() < 1 + 5 * held.pending() {
         return answer(fast::refused(8), told);
     }
     let a = held.finish(out);

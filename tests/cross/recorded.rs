@@ -3,7 +3,7 @@
 
 use crate::ffi;
 use crate::lent::Lent;
-use crate::reference::{record_open, Map, Receiver};
+use crate::reference::{record_open, Line, Map, Receiver, ROUND, SQUARE};
 use crate::rng::Rng;
 
 const RUNS: u64 = 3000;
@@ -23,11 +23,18 @@ fn left<T: crate::lent::Cell>(what: &str, expected: &[T], written: u64, given: &
     differs(&format!("{what} after what was written"), true, given.rest_stayed(n))
 }
 
-fn opening(rng: &mut Rng, u: u32, window: u32, start: u32) -> Result<(), String> {
-    let mut bytes = Lent::<u8>::new(rng.below(8) as usize);
-    let mut expected = vec![0; bytes.seen().len()];
-    let number = record_open(u, window, start, &mut expected);
-    differs("record_open", number, ffi::record_open(u, window, start, bytes.slice()))?;
+fn opening(rng: &mut Rng, line: Line, window: u32, start: u32) -> Result<(), String> {
+    let length = rng.below(8) as usize;
+    let mut expected = vec![0; length];
+    let number = record_open(line, window, start, &mut expected);
+    let mut bytes = Lent::<u8>::new(length);
+    differs("record_open_map", number, ffi::record_open_map(line.map, line.u, window, start, bytes.slice()))?;
+    left("record_open_map: bytes", &expected, if number == 0 { 4 } else { 0 }, &bytes)?;
+    if line.map != ROUND {
+        return Ok(());
+    }
+    let mut bytes = Lent::<u8>::new(length);
+    differs("record_open", number, ffi::record_open(line.u, window, start, bytes.slice()))?;
     left("record_open: bytes", &expected, if number == 0 { 4 } else { 0 }, &bytes)
 }
 
@@ -64,13 +71,13 @@ fn told(what: &str, expected: [u64; 4], given: &Lent<u64>) -> Result<(), String>
 }
 
 fn run(map: &Map, rng: &mut Rng) -> Result<u64, String> {
-    let u = rng.below(10) as u32;
+    let line = Line { map: rng.pick(&[ROUND, ROUND, SQUARE, SQUARE, 2]), u: rng.below(10) as u32 };
     let window = rng.pick(&[0, 1, 2, 3, 5, 8, 32, 64, 65]);
     let start = rng.below(18) as u32;
-    opening(rng, u, window, start)?;
-    let (number, mut reference) = Receiver::open(u, window, start);
+    opening(rng, line, window, start)?;
+    let (number, mut reference) = Receiver::open(line, window, start);
     let mut state = Lent::<u64>::new(ffi::receiver_words());
-    differs("receiver_open", number, ffi::receiver_open(state.slice(), u, window, start))?;
+    differs("receiver_open_map", number, ffi::receiver_open_map(state.slice(), line.map, line.u, window, start))?;
     let mut recorded = 0;
     for _ in 0..rng.below(12) {
         let list = piece(rng);

@@ -6,6 +6,8 @@
 
 /// The start that names no state.
 pub const FREE: u32 = 16;
+/// The window of the plain opening (02, Wish 9).
+pub const PLAIN_WINDOW: u32 = 32;
 /// The greatest coordinate that is heard.
 pub const REACH: i64 = 8192;
 /// Line units to one unit of a point's coordinate.
@@ -29,9 +31,49 @@ pub fn turned((x, y): Point) -> Point {
     (y, -x)
 }
 
-/// The points of each label: `points[label][number]`.
+/// The map of 01, and the square map of 02, Wish 11.
+pub const ROUND: u32 = 0;
+pub const SQUARE: u32 = 1;
+
+/// What both ends agree on: the map by its number, and the width.
+#[derive(Clone, Copy, Debug, PartialEq, Eq)]
+pub struct Line {
+    pub map: u32,
+    pub u: u32,
+}
+
+impl Line {
+    pub fn round(u: u32) -> Line {
+        Line { map: ROUND, u }
+    }
+
+    /// Whether there is such a line: "an odd u with this map is refused with 1", and so is a number that is no map's.
+    pub fn exists(self) -> bool {
+        self.u <= 8 && (self.map == ROUND || self.map == SQUARE && self.u % 2 == 0)
+    }
+}
+
+/// Two's complement: bits from the highest on, which counts negative.
+fn signed(bits: &[u32]) -> i32 {
+    let below = bits[1..].iter().fold(0, |n, &bit| 2 * n + bit as i32);
+    below - ((bits[0] as i32) << (bits.len() - 1))
+}
+
+/// The square map's point. "With b bits v .. x has the two's complement bits v(b-1), v(b-3), .., v1, 1 and y has v(b-2), .., v0, 1.
+/// Label A has (v1, v0) = 00, C 01, B 11, D 10, and w, of b - 2 bits, is the rest with v2 as its low bit."
+pub fn square_point(u: u32, label: u32, number: u32) -> Point {
+    let (b, v) = (u + 2, number << 2 | [0b00, 0b01, 0b11, 0b10][label as usize]);
+    let coordinate = |lowest: u32| {
+        let places = (0..b / 2).rev().map(|k| 2 * k + lowest);
+        signed(&places.map(|k| v >> k & 1).chain([1]).collect::<Vec<u32>>())
+    };
+    (coordinate(1), coordinate(0))
+}
+
+/// The points of each label, `points[label][number]`: of the round map, and of the square map for each half of its width.
 pub struct Map {
-    points: [Vec<Point>; 4],
+    round: [Vec<Point>; 4],
+    square: [[Vec<Point>; 4]; 5],
 }
 
 impl Map {
@@ -40,11 +82,13 @@ impl Map {
         let c: Vec<Point> = a.iter().map(|&p| turned(p)).collect();
         let b: Vec<Point> = c.iter().map(|&p| turned(p)).collect();
         let d: Vec<Point> = b.iter().map(|&p| turned(p)).collect();
-        Map { points: [a, c, b, d] }
+        let grid = |u: u32| [0, 1, 2, 3].map(|l| (0..1 << u).map(|w| square_point(u, l, w)).collect());
+        Map { round: [a, c, b, d], square: [0, 2, 4, 6, 8].map(grid) }
     }
 
-    pub fn point(&self, label: u32, number: u32) -> Point {
-        self.points[label as usize][number as usize]
+    pub fn point(&self, line: Line, label: u32, number: u32) -> Point {
+        let points = if line.map == SQUARE { &self.square[line.u as usize / 2] } else { &self.round };
+        points[label as usize][number as usize]
     }
 }
 
@@ -69,9 +113,9 @@ pub struct Symbol {
     pub points: (Point, Point),
 }
 
-pub fn symbol(map: &Map, y0: u32, i1: u32, turn: u32, w1: u32, w2: u32) -> Symbol {
+pub fn symbol(map: &Map, line: Line, y0: u32, i1: u32, turn: u32, w1: u32, w2: u32) -> Symbol {
     let (first, second) = labels(turn, y0, i1);
-    Symbol { i1, turn, w1, w2, points: (map.point(first, w1), map.point(second, w2)) }
+    Symbol { i1, turn, w1, w2, points: (map.point(line, first, w1), map.point(line, second, w2)) }
 }
 
 /// The word of a symbol that follows one with turn `before`. Where that is not known bits 1 and 2 are zero (02, Wish 5).
@@ -85,21 +129,21 @@ pub fn word_of(u: u32, before: Option<u32>, s: &Symbol) -> u32 {
 #[derive(Clone, Debug)]
 pub struct Sender {
     open: bool,
-    u: u32,
+    line: Line,
     turn: u32,
     state: u32,
 }
 
 impl Sender {
     pub fn closed() -> Sender {
-        Sender { open: false, u: 0, turn: 0, state: 0 }
+        Sender { open: false, line: Line::round(0), turn: 0, state: 0 }
     }
 
-    pub fn open(u: u32) -> (u32, Sender) {
-        if u > 8 {
+    pub fn open(line: Line) -> (u32, Sender) {
+        if !line.exists() {
             return (1, Sender::closed());
         }
-        (0, Sender { open: true, u, turn: 0, state: 0 })
+        (0, Sender { open: true, line, turn: 0, state: 0 })
     }
 
     pub fn is_open(&self) -> bool {
@@ -110,16 +154,17 @@ impl Sender {
         if !self.open {
             return 9;
         }
-        if word >> (3 + 2 * self.u) != 0 {
+        let u = self.line.u;
+        if word >> (3 + 2 * u) != 0 {
             return 4;
         }
         if out.len() < 4 {
             return 8;
         }
-        let low = (1 << self.u) - 1;
+        let low = (1 << u) - 1;
         let (i1, turned_by) = (word & 1, word >> 1 & 3);
         self.turn = (self.turn + turned_by) % 4;
-        let s = symbol(map, self.state & 1, i1, self.turn, word >> 3 & low, word >> (3 + self.u) & low);
+        let s = symbol(map, self.line, self.state & 1, i1, self.turn, word >> 3 & low, word >> (3 + u) & low);
         self.state = next_state(self.state, i1, self.turn % 2);
         let ((x1, y1), (x2, y2)) = s.points;
         out[..4].copy_from_slice(&[x1, y1, x2, y2]);
@@ -214,7 +259,7 @@ struct Reading {
 #[derive(Clone, Debug)]
 pub struct Receiver {
     open: bool,
-    u: u32,
+    line: Line,
     window: u32,
     /// What a point's distance counts for at most.
     cap: u64,
@@ -249,19 +294,19 @@ pub fn distance(heard: Point, p: Point) -> u64 {
 pub type Received = Option<Point>;
 
 /// The nearest number of a label, by its true distance, the smaller of equals; with that distance.
-fn nearest(map: &Map, u: u32, label: u32, received: Received) -> (u64, u32) {
-    let away = |w| received.map_or(0, |heard| distance(heard, map.point(label, w)));
-    (0..1u32 << u).map(|w| (away(w), w)).min().unwrap()
+fn nearest(map: &Map, line: Line, label: u32, received: Received) -> (u64, u32) {
+    let away = |w| received.map_or(0, |heard| distance(heard, map.point(line, label, w)));
+    (0..1u32 << line.u).map(|w| (away(w), w)).min().unwrap()
 }
 
 /// For each subset 4·Y0 + 2·I1 + I2' the best symbol and the sum of its distances, each counted up to the cap.
-fn best_of_subsets(map: &Map, u: u32, cap: u64, heard: (Received, Received)) -> Vec<(u64, Symbol)> {
-    let first: Vec<(u64, u32)> = (0..4).map(|l| nearest(map, u, l, heard.0)).collect();
-    let second: Vec<(u64, u32)> = (0..4).map(|l| nearest(map, u, l, heard.1)).collect();
+fn best_of_subsets(map: &Map, line: Line, cap: u64, heard: (Received, Received)) -> Vec<(u64, Symbol)> {
+    let first: Vec<(u64, u32)> = (0..4).map(|l| nearest(map, line, l, heard.0)).collect();
+    let second: Vec<(u64, u32)> = (0..4).map(|l| nearest(map, line, l, heard.1)).collect();
     let of_type = |y0: u32, i1: u32, turn: u32| {
         let (a, b) = labels(turn, y0, i1);
         let ((d1, w1), (d2, w2)) = (first[a as usize], second[b as usize]);
-        (d1.min(cap) + d2.min(cap), symbol(map, y0, i1, turn, w1, w2))
+        (d1.min(cap) + d2.min(cap), symbol(map, line, y0, i1, turn, w1, w2))
     };
     (0..8)
         .map(|subset| {
@@ -287,11 +332,11 @@ fn agreed(best: &[Option<Reading>]) -> usize {
 
 impl Receiver {
     pub fn closed() -> Receiver {
-        Receiver { open: false, u: 0, window: 0, cap: CAP, taken: 0, turn: None, best: vec![] }
+        Receiver { open: false, line: Line::round(0), window: 0, cap: CAP, taken: 0, turn: None, best: vec![] }
     }
 
-    pub fn open(u: u32, window: u32, start: u32) -> (u32, Receiver) {
-        let number = if u > 8 {
+    pub fn open(line: Line, window: u32, start: u32) -> (u32, Receiver) {
+        let number = if !line.exists() {
             1
         } else if !(1..=64).contains(&window) {
             2
@@ -305,7 +350,7 @@ impl Receiver {
         }
         let nothing = || Reading { sum: 0, pending: vec![] };
         let best = (0..16).map(|s| (start == FREE || start == s).then(nothing)).collect();
-        (0, Receiver { open: true, u, window, cap: CAP, taken: 0, turn: (start != FREE).then_some(0), best })
+        (0, Receiver { open: true, line, window, cap: CAP, taken: 0, turn: (start != FREE).then_some(0), best })
     }
 
     /// The receiver of 01 alone, in which every distance counts whole.
@@ -313,8 +358,8 @@ impl Receiver {
         Receiver { cap: u64::MAX, ..self }
     }
 
-    pub fn open_plain(u: u32) -> (u32, Receiver) {
-        Receiver::open(u, 32, FREE)
+    pub fn open_plain(line: Line) -> (u32, Receiver) {
+        Receiver::open(line, PLAIN_WINDOW, FREE)
     }
 
     pub fn is_open(&self) -> bool {
@@ -328,7 +373,7 @@ impl Receiver {
     /// The best sequences after one more symbol. A state's predecessors are tried in rising order and a later one must be
     /// strictly better: ties go to the smaller state.
     fn after(&self, map: &Map, heard: (Received, Received)) -> Vec<Option<Reading>> {
-        let choices = best_of_subsets(map, self.u, self.cap, heard);
+        let choices = best_of_subsets(map, self.line, self.cap, heard);
         let mut found: Vec<Option<(u64, usize, Symbol)>> = vec![None; 16];
         for (before, reading) in self.best.iter().enumerate() {
             let Some(reading) = reading else { continue };
@@ -353,7 +398,7 @@ impl Receiver {
     /// Writes the words of these symbols, and remembers the last one's turn.
     fn speak(&mut self, symbols: &[Symbol], out: &mut [u32]) {
         for (place, s) in out.iter_mut().zip(symbols) {
-            *place = word_of(self.u, self.turn, s);
+            *place = word_of(self.line.u, self.turn, s);
             self.turn = Some(s.turn);
         }
     }
@@ -449,14 +494,15 @@ fn symbol_records(mark: u8, c: &[i32], words: &[u32]) -> Vec<u8> {
     r
 }
 
-/// The record of an opening, kind 1, and its number: 8, 1, 2, 3.
-pub fn record_open(u: u32, window: u32, start: u32, bytes: &mut [u8]) -> u32 {
+/// The record of an opening, kind 1, or 6 on the square map (02, Wish 11), and its number: 8, 1, 2, 3.
+pub fn record_open(line: Line, window: u32, start: u32, bytes: &mut [u8]) -> u32 {
     if bytes.len() < 4 {
         return 8;
     }
-    let (number, _) = Receiver::open(u, window, start);
+    let (number, _) = Receiver::open(line, window, start);
     if number == 0 {
-        bytes[..4].copy_from_slice(&[1, u as u8, window as u8, start as u8]);
+        let kind = if line.map == SQUARE { 6 } else { 1 };
+        bytes[..4].copy_from_slice(&[kind, line.u as u8, window as u8, start as u8]);
     }
     number
 }

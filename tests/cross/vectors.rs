@@ -40,7 +40,7 @@ fn sender(path: &Path, map: &Map) -> Result<usize, String> {
     while let Some(kind) = file.0.next() {
         same("kind", 1, kind)?;
         let u = file.next() as u32;
-        let (number, mut sender) = Sender::open(u);
+        let (number, mut sender) = Sender::open(Line::round(u));
         same("opening", file.next(), number as i64)?;
         for _ in 0..file.next() {
             let (word, capacity) = (file.next() as u32, file.next() as usize);
@@ -74,7 +74,7 @@ fn receiver(path: &Path, map: &Map) -> Result<usize, String> {
                 start as u32
             }
         };
-        let (number, receiver) = Receiver::open(u as u32, window as u32, named);
+        let (number, receiver) = Receiver::open(Line::round(u as u32), window as u32, named);
         let mut receiver = receiver.counting_whole();
         let case = format!("u {u} window {window} start {start}");
         same(&case, file.next(), number as i64)?;

@@ -23,7 +23,8 @@ use Rattle.trellis.specs.Pick.{least, near, gapOf, typeSum, bestI3}
 use Rattle.trellis.specs.Search.{range}
 use Rattle.trellis.specs.Speak.{speak, after}
 use Rattle.trellis.specs.Words.{word, wordParts}
-use Rattle.nearest.specs.Line.{distance, lineDistance}
+use Rattle.spots.specs.Distance.{distance}
+use Rattle.nearest.specs.Line.{lineDistance}
 use Rattle.nearest.specs.Found.{costOf, weighedOf}
 use Rattle.lists.specs.Tabled.{tabled}
 use Rattle.planes.specs.Planes.{carried, movedWords, movedOf, sameFrom, oldest}

@@ -27,32 +27,34 @@ use Rattle.trellis.proofs.Rows.{row, answer-row, common-row}
 use Rattle.trellis.proofs.WeiLaws.{wei-laws}
 use Rattle.trellis.proofs.Pairs.{Rises, pairs-chooses}
 use Rattle.trellis.proofs.Counted.{counted-rises}
+use Rattle.square.specs.Map.{squareOf, gridPoint}
+use Rattle.spots.specs.Distance.{distance}
 use Rattle.nearest.specs.declared.Received.{Received}
-use Rattle.nearest.specs.Line.{distance, lineDistance}
+use Rattle.nearest.specs.Line.{lineDistance}
 use Rattle.cases.specs.Lines.{Row, Holds, table, whole, misled, healed}
 
-abbrev S : (n : ℕ → ℕ) (r : Row) → Search (weiCode (r .width) (pairs Received lineDistance n) (r .start))
-S n r = weiSearch (r .width) (pairs Received lineDistance n) (bestOf (r .width) lineDistance n) sameSymbol (r .start)
+abbrev S : (n : ℕ → ℕ) (r : Row) → Search (weiCode (r .line .u) (pairs Received (lineDistance (r .line)) n) (r .start))
+S n r = weiSearch (r .line .u) (pairs Received (lineDistance (r .line)) n) (bestOf (r .line .u) (lineDistance (r .line)) n) sameSymbol (r .start)
 
 -- the words spoken and those of the answer, from one row
 computed : (ℕ → ℕ) → Row → List (List ℕ)
 computed n r =
     let best = row (S n r) (reverse (r .received)) in
-    words (r .width) (r .start) (lcps sameSymbol (live (λ s. getD best s absent) (range 0 16))) ∷ words (r .width) (r .start) (symbolsIn (choose (λ s. getD best s absent) (range 0 16))) ∷ []
+    words (r .line .u) (r .start) (lcps sameSymbol (live (λ s. getD best s absent) (range 0 16))) ∷ words (r .line .u) (r .start) (symbolsIn (choose (λ s. getD best s absent) (range 0 16))) ∷ []
 
 written : Row → List (List ℕ)
 written r = r .spoken ∷ r .answer ∷ []
 
 module _ (n : ℕ → ℕ) (rises : Rises n) where
   laws : (r : Row) → Laws (S n r)
-  laws r = wei-laws (r .width) (pairs Received lineDistance n) (bestOf (r .width) lineDistance n) (pairs-chooses (r .width) lineDistance n rises) sameSymbol (r .start)
+  laws r = wei-laws (r .line .u) (pairs Received (lineDistance (r .line)) n) (bestOf (r .line .u) (lineDistance (r .line)) n) (pairs-chooses (r .line .u) (lineDistance (r .line)) n rises) sameSymbol (r .start)
 
   computes : (r : Row) → computed n r ≡ written r → Holds n r
   unfolding computed written spokenWords answerWords spoken answered
   computes r e =
       let ys = reverse (r .received) in
-      let z₁ : words (r .width) (r .start) (common (S n r) ys) ≡ r .spoken = ap (words (r .width) (r .start)) (common-row (S n r) (laws r) ys) ∙ cc in
-      let z₂ : words (r .width) (r .start) (symbolsIn (answer (S n r) ys)) ≡ r .answer = ap (λ (o : Surv _). words (r .width) (r .start) (symbolsIn o)) (answer-row (S n r) (laws r) ys) ∙ cc in
+      let z₁ : words (r .line .u) (r .start) (common (S n r) ys) ≡ r .spoken = ap (words (r .line .u) (r .start)) (common-row (S n r) (laws r) ys) ∙ cc in
+      let z₂ : words (r .line .u) (r .start) (symbolsIn (answer (S n r) ys)) ≡ r .answer = ap (λ (o : Surv _). words (r .line .u) (r .start) (symbolsIn o)) (answer-row (S n r) (laws r) ys) ∙ cc in
       (z₁, z₂)
 
   every-holds : (rs : List Row) → map (computed n) rs ≡ map written rs → Every (Holds n) rs
@@ -66,7 +68,7 @@ module _ (n : ℕ → ℕ) (rises : Rises n) where
 all-computed : (map (computed counted) (healed ∷ table) ≡ map written (healed ∷ table)) × (computed whole misled ≡ written misled)
 unfolding table computed written lcps lcp live row choose better range lineDistance distance counted whole farOf firstFar secondFar bestOf bestI3 typeSum gapOf near
     least symbolsFrom symbolOf unpacked nextState firstPoint secondPoint lastLabel secondLabel before carryI1 carryI2 pointOf aPoint coordinates
-    sameSymbol speak word wordParts packed
+    squareOf gridPoint sameSymbol speak word wordParts packed
 all-computed = (refl, refl)
 
 pub rows-hold : Every (Holds counted) (healed ∷ table)

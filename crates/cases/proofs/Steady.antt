@@ -28,7 +28,8 @@ use Rattle.planes.specs.Planes.{subsetIn, movedOf, sameAt, oldest}
 use Rattle.planes.proofs.Moved.{newest-subset, older-subset}
 use Rattle.planes.proofs.Oldest.{same-in, oldest-most}
 use Rattle.nearest.specs.declared.Received.{Received}
-use Rattle.nearest.specs.Line.{BothInRange, distance, lineDistance}
+use Rattle.spots.specs.Distance.{distance}
+use Rattle.nearest.specs.Line.{BothInRange, lineDistance}
 use Rattle.nearest.specs.Found.{costOf, weighedOf}
 use Rattle.machine.specs.declared.Receiver.{Receiver}
 use Rattle.select.specs.Select.{limit, sixteen, arrive, winner, sumAt, firstStep, stepAt, prevIn}

@@ -2,7 +2,7 @@
 --   replayTag                  word 0: what the state is
 --   replayLength               how many words a replay has
 --   sumsAt, planesAt, picksAt, dueAt   where its lists begin, after the tag and the 29 numbers
---   limits, dueLimits          the most that a number and a word that is due may be
+--   accordLimit, limits, dueLimits   the most that a number and a word that is due may be
 --   within ls ws               each word is at most its limit
 --   Small ws                   each word fits 32 bits
 use Prim.Native.Nat.{ℕ, _≤_}
@@ -13,7 +13,7 @@ use lib.ListN.{getD, replicate}
 
 -- the letters "demf", "rp", and the number of the layout
 abbrev pub replayTag : ℕ
-replayTag = 0x64656d6672700002
+replayTag = 0x64656d6672700003
 
 abbrev pub sumsAt : ℕ
 sumsAt = 30
@@ -33,9 +33,13 @@ replayLength = 231
 abbrev pub half : ℕ
 half = 4294967295
 
--- stage, phase, kind, nine bytes of a body, live, width, taken, turn, which verdict, and two words of it
+-- a map, 0 or 1, in the upper half, and a width in the lower
+abbrev pub accordLimit : ℕ
+accordLimit = 8589934591
+
+-- stage, phase, kind, nine bytes of a body, live, map and width, taken, turn, which verdict, and two words of it
 abbrev pub limits : List ℕ
-limits = 3 ∷ 3 ∷ 255 ∷ 255 ∷ 255 ∷ 255 ∷ 255 ∷ 255 ∷ 255 ∷ 255 ∷ 255 ∷ 255 ∷ 1 ∷ half ∷ half ∷ half ∷ 5 ∷ half ∷ half ∷ []
+limits = 3 ∷ 3 ∷ 255 ∷ 255 ∷ 255 ∷ 255 ∷ 255 ∷ 255 ∷ 255 ∷ 255 ∷ 255 ∷ 255 ∷ 1 ∷ accordLimit ∷ half ∷ half ∷ 5 ∷ half ∷ half ∷ []
 
 abbrev pub dueLimits : List ℕ
 dueLimits = replicate 65 half

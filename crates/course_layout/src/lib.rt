@@ -8,7 +8,7 @@ ghost use lib.ListN.{length, drop};
 ghost use Rattle.course_layout.specs.Table.{within, Small};
 
 // Word 0 says what the state is: the letters "demf", "rp", and the number of the layout. A replay that has ended has 0 there.
-pub const REPLAY: u64 = 0x6465_6d66_7270_0002;
+pub const REPLAY: u64 = 0x6465_6d66_7270_0003;
 
 // The words: the tag, the numbers, the receiver's sums, registers and picks, and the words that are due.
 pub const TAG: usize = 0;
@@ -36,7 +36,8 @@ pub const KIND: usize = 2;
 
 pub const LIVE: usize = 12;
 
-pub const WIDTH: usize = 13;
+// Map and width, as one number.
+pub const ACCORD: usize = 13;
 
 pub const TAKEN: usize = 14;
 
@@ -83,7 +84,7 @@ pub const LIMITS: [u64; 19] = [
     255,
     255,
     1,
-    4294967295,
+    8589934591,
     4294967295,
     4294967295,
     5,

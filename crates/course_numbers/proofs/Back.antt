@@ -1,14 +1,19 @@
 -- The numbers of a frame and a judge read as them.
---   frame-back, judge-back    the laws; a frame's body has nine bytes
+--   frame-back, judge-back    the laws; a frame's body has nine bytes, and a width 32 bits
 --   fit                       the first nineteen numbers within their limits
 use mathlib.Core.Path.{_≡_, refl}
 use mathlib.Core.Bool.{Bool, true, false}
 use mathlib.Core.List.{List, [], _∷_}
-use Prim.Native.Nat.{ℕ, _≤_}
+use Prim.Native.Nat.{ℕ, _+_, _*_, _^_, _≤_}
 use native.Mathlib.Omega.{arith}
 use borrow.Author.Tests.{le-leb}
 use lib.Dec.{eqb}
 use lib.ListN.{getD, length}
+use Rattle.points.specs.declared.Map.{Map}
+use Rattle.points.specs.declared.Map.the-variants.{Round, Square}
+use Rattle.points.specs.declared.Accord.{Accord}
+use Rattle.accords.specs.Numbers.{numberOf, accordWord}
+use Rattle.accords.proofs.Back.{accord-back}
 use Rattle.records.specs.declared.Stage.{Stage}
 use Rattle.records.specs.declared.Stage.the-variants.{Fresh, Part, Whole, Bad}
 use Rattle.records.specs.declared.Phase.{Phase}
@@ -17,7 +22,7 @@ use Rattle.records.specs.declared.Frame.{Frame}
 use Rattle.replay_step.specs.declared.Verdict.{Verdict}
 use Rattle.replay_step.specs.declared.Verdict.the-variants.{Agree, Differs, Extra, Missing, Refused, Malformed}
 use Rattle.replay_step.specs.declared.Judge.{Judge}
-use Rattle.course_layout.specs.Table.{half, limits, within}
+use Rattle.course_layout.specs.Table.{half, accordLimit, limits, within}
 use Rattle.course_numbers.specs.Numbers.{stageOf, stageNumber, phaseOf, phaseNumber, liveNumber, verdictIn, verdictNumber, countOf, gotOf, wantedOf, frameIn, coreIn, judgeIn, numbersOf}
 
 stage-back : (s : Stage) → stageOf (stageNumber s) ≡ s
@@ -55,15 +60,34 @@ nine (a ∷ b ∷ c ∷ d ∷ e ∷ []) n = absurd (omega arith)
 nine (a ∷ b ∷ c ∷ d ∷ e ∷ f ∷ []) n = absurd (omega arith)
 nine (a ∷ b ∷ c ∷ d ∷ e ∷ f ∷ g ∷ []) n = absurd (omega arith)
 nine (a ∷ b ∷ c ∷ d ∷ e ∷ f ∷ g ∷ h ∷ []) n = absurd (omega arith)
-nine (a ∷ b ∷ c ∷ d ∷ e ∷ f ∷ g ∷ h ∷ i ∷ k ∷ l) n = absurd (omega arith)
+nine (a ∷ b ∷ c ∷ d ∷ e ∷ f ∷ g ∷ h ∷ i ∷ j ∷ l) n = absurd (omega arith)
 
 pub frame-back : (f : Frame) (j : Judge) → length (f .body) ≡ 9 → frameIn (numbersOf f j) ≡ f
 unfolding frameIn numbersOf
 frame-back f j n = λ i. record { stage = stage-back (f .stage) i; phase = phase-back (f .phase) i; kind = f .kind; have = f .have; body = nine (f .body) n i; at = f .at; fed = f .fed }
 
-pub judge-back : (f : Frame) (j : Judge) → judgeIn (numbersOf f j) ≡ j
+pub judge-back : (f : Frame) (j : Judge) → j .core .accord .u ≤ half → judgeIn (numbersOf f j) ≡ j
 unfolding judgeIn coreIn numbersOf
-judge-back f j = λ i. record { live = live-back (j .live) i; core = j .core; given = j .given; shown = j .shown; records = j .records; verdict = verdict-back (j .verdict) i }
+judge-back f j h =
+    let a = accord-back (j .core .accord) (omega arith) in
+    let c = j .core in
+    λ i.
+    record {
+      live = live-back (j .live) i;
+      core = record { accord = a i; window = c .window; taken = c .taken; turn = c .turn; slot = c .slot; pending = c .pending };
+      given = j .given;
+      shown = j .shown;
+      records = j .records;
+      verdict = verdict-back (j .verdict) i;
+    }
+
+accord-small : (k : Accord) → k .u ≤ half → accordWord k ≤ accordLimit
+unfolding accordWord
+accord-small k h = go (k .map)
+  where
+    go : (n : Map) → numberOf n * 2 ^ 32 + k .u ≤ accordLimit
+    go Round = omega arith
+    go Square = omega arith
 
 stage-small : (s : Stage) → stageNumber s ≤ 3
 stage-small Fresh = omega arith
@@ -114,7 +138,7 @@ fit f j k b u t r g w =
       le-leb (getD (f .body) 7 0) 255 (b .7),
       le-leb (getD (f .body) 8 0) 255 (b .8),
       le-leb (liveNumber (j .live)) 1 (live-small (j .live)),
-      le-leb (j .core .accord .u) half u,
+      le-leb (accordWord (j .core .accord)) accordLimit (accord-small (j .core .accord) u),
       le-leb (j .core .taken) half t,
       le-leb (j .core .turn) half r,
       le-leb (verdictNumber (j .verdict)) 5 (verdict-small (j .verdict)),

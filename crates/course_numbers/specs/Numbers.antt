@@ -8,6 +8,7 @@ use mathlib.Core.Bool.{Bool, cond}
 use mathlib.Core.List.{List, [], _∷_}
 use lib.Dec.{eqb}
 use lib.ListN.{getD}
+use Rattle.accords.specs.Numbers.{accordIn, accordWord}
 use Rattle.machine.specs.declared.Core.{Core}
 use Rattle.records.specs.declared.Stage.{Stage}
 use Rattle.records.specs.declared.Stage.the-variants.{Fresh, Part, Whole, Bad}
@@ -94,7 +95,7 @@ frameIn ns =
 
 unfoldable pub coreIn : List ℕ → Core
 coreIn ns =
-    record { accord = record { u = getD ns 13 0 }; window = getD ns 22 0; taken = getD ns 14 0; turn = getD ns 15 0; slot = getD ns 23 0; pending = getD ns 24 0 }
+    record { accord = accordIn (getD ns 13 0); window = getD ns 22 0; taken = getD ns 14 0; turn = getD ns 15 0; slot = getD ns 23 0; pending = getD ns 24 0 }
 
 unfoldable pub judgeIn : List ℕ → Judge
 judgeIn ns =
@@ -112,6 +113,6 @@ numbersOf f j =
     let b = f .body in
     let c = j .core in
     let v = j .verdict in
-    stageNumber (f .stage) ∷ phaseNumber (f .phase) ∷ f .kind ∷ getD b 0 0 ∷ getD b 1 0 ∷ getD b 2 0 ∷ getD b 3 0 ∷ getD b 4 0 ∷ getD b 5 0 ∷ getD b 6 0 ∷ getD b 7 0 ∷ getD b 8 0
-    ∷ liveNumber (j .live) ∷ c .accord .u ∷ c .taken ∷ c .turn ∷ verdictNumber v ∷ gotOf v ∷ wantedOf v
+    stageNumber (f .stage) ∷ phaseNumber (f .phase) ∷ f .kind ∷ getD b 0 0 ∷ getD b 1 0 ∷ getD b 2 0 ∷ getD b 3 0 ∷ getD b 4 0 ∷ getD b 5 0 ∷ getD b 6 0 ∷ getD b 7 0
+    ∷ getD b 8 0 ∷ liveNumber (j .live) ∷ accordWord (c .accord) ∷ c .taken ∷ c .turn ∷ verdictNumber v ∷ gotOf v ∷ wantedOf v
     ∷ f .have ∷ f .at ∷ f .fed ∷ c .window ∷ c .slot ∷ c .pending ∷ j .given ∷ j .shown ∷ j .records ∷ countOf v ∷ []

@@ -1,7 +1,6 @@
 // The numbers of a replay: its frame and its judge as 29 numbers of 64 bits, and back. Where each stands is the table of `course_layout`;
 // which number stands for which stage, phase and verdict is said here.
 use machine::Core;
-use points::Accord;
 use records::Frame;
 use records::Phase;
 use records::Stage;
@@ -95,9 +94,7 @@ fn core_of(numbers: [u64; 29]) -> Core
     ensures { λ r. ⌜ r ≡ coreIn numbers ⌝ }
 {
     Core {
-        accord: Accord {
-            u: numbers[course_layout::WIDTH] as u32,
-        },
+        accord: accords::accord_in(numbers[course_layout::ACCORD]),
         window: numbers[course_layout::WINDOW] as usize,
         taken: numbers[course_layout::TAKEN] as u32,
         turn: numbers[course_layout::TURN] as u32,
@@ -225,6 +222,7 @@ pub fn numbers_of(f: Frame, j: Judge) -> [u64; 29]
     let phase = f.phase;
     let b = f.body;
     let c = j.core;
+    let accord = c.accord;
     let v = j.verdict;
     [
         stage_number(stage),
@@ -240,7 +238,7 @@ pub fn numbers_of(f: Frame, j: Judge) -> [u64; 29]
         byte(b, 7) as u64,
         byte(b, 8) as u64,
         live_number(j.live),
-        c.accord.u as u64,
+        accords::accord_word(accord),
         c.taken as u64,
         c.turn as u64,
         verdict_number(v),

@@ -72,6 +72,7 @@ pub record CourseFits (c : Course) : Type 0 where
   pub picks : length (c .state .receiver .picks) ≡ 72
   pub due : length (c .state .due) ≡ 65
   pub small : Small (c .state .due)
+  pub width : c .state .receiver .core .accord .u ≤ 4294967295
 
 module _ (c : Course) (rest : List ℕ) (f : CourseFits c) where
   abbrev s : State
@@ -146,7 +147,7 @@ module _ (c : Course) (rest : List ℕ) (f : CourseFits c) where
   unfolding courseIn
   course-back =
       let a : frameIn (numbersIn words) ≡ c .frame = ap frameIn numbers-in ∙ frame-back (c .frame) j (f .nine) in
-      let b : judgeIn (numbersIn words) ≡ j = ap judgeIn numbers-in ∙ judge-back (c .frame) j in
+      let b : judgeIn (numbersIn words) ≡ j = ap judgeIn numbers-in ∙ judge-back (c .frame) j (f .width) in
       let p : take 16 (drop sumsAt words) ≡ s .receiver .sums = ap (λ (l : List ℕ). take 16 l) sums-at ∙ take-at (s .receiver .sums) _ 16 (f .sums) in
       let q : take 48 (drop planesAt words) ≡ s .receiver .planes = ap (λ (l : List ℕ). take 48 l) planes-at ∙ take-at (s .receiver .planes) _ 48 (f .planes) in
       let r : take 72 (drop picksAt words) ≡ s .receiver .picks = ap (λ (l : List ℕ). take 72 l) picks-at ∙ take-at (s .receiver .picks) _ 72 (f .picks) in

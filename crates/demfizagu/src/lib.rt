@@ -8,7 +8,6 @@ use front::load_front;
 use front::store_front;
 use openings::Opened;
 use openings::Start;
-use points::Accord;
 use reasons::Why;
 use stored::load_receiver;
 use stored::load_sender;
@@ -18,6 +17,7 @@ ghost use mathlib.Core.Path.{_≡_};
 ghost use Prim.Native.Nat.{_≤_};
 ghost use lib.ListN.{length};
 ghost use Rattle.points.specs.Agreed.{ofWidth};
+ghost use Rattle.accords.specs.Numbers.{lineOf};
 ghost use Rattle.reasons.specs.Reason.{givenOf};
 ghost use Rattle.told.specs.Piece.{pieceWith, markedPiece, pieceOf};
 ghost use Rattle.openings.specs.Given.{plainWindow, startAt};
@@ -60,10 +60,18 @@ pub extern "C" fn demfizagu_receiver_words() -> usize
 pub extern "C" fn demfizagu_sender_open(state: &mut [u64], u: u32) -> u32
     ensures { λ r. ⌜ Opens senderIn (senderOpening (now (state .entry)) (ofWidth u)) r (now (state .exit)) ⌝ }
 {
+    demfizagu_sender_open_map(state, 0, u)
+}
+
+// The same on the map with this number: 0 is the round map, 1 the square map.
+#[no_mangle]
+pub extern "C" fn demfizagu_sender_open_map(state: &mut [u64], map: u32, u: u32) -> u32
+    ensures { λ r. ⌜ Opens senderIn (senderOpening (now (state .entry)) (lineOf map u)) r (now (state .exit)) ⌝ }
+{
     if state.len() < layout::SENDER_WORDS {
         return 8;
     }
-    let o = sender::open_sender(Accord { u: u });
+    let o = sender::open_sender(accords::line_of(map, u));
     let s = o.sender;
     let why = o.why;
     store_sender(s, state);
@@ -128,9 +136,23 @@ fn opened(state: &mut [u64], o: Opened) -> u32
 pub extern "C" fn demfizagu_receiver_open(state: &mut [u64], u: u32, window: u32, start: u32) -> u32
     ensures { λ r. ⌜ Opens receiverIn (receiverOpening (now (state .entry)) (ofWidth u) window (startAt start)) r (now (state .exit)) ⌝ }
 {
+    demfizagu_receiver_open_map(state, 0, u, window, start)
+}
+
+// The same on the map with this number.
+#[no_mangle]
+pub extern "C" fn demfizagu_receiver_open_map(
+    state: &mut [u64],
+    map: u32,
+    u: u32,
+    window: u32,
+    start: u32,
+) -> u32
+    ensures { λ r. ⌜ Opens receiverIn (receiverOpening (now (state .entry)) (lineOf map u) window (startAt start)) r (now (state .exit)) ⌝ }
+{
     opened(
         state,
-        openings::open_receiver(Accord { u: u }, window, openings::start_at(start)),
+        openings::open_receiver(accords::line_of(map, u), window, openings::start_at(start)),
     )
 }
 
@@ -139,7 +161,7 @@ pub extern "C" fn demfizagu_receiver_open(state: &mut [u64], u: u32, window: u32
 pub extern "C" fn demfizagu_receiver_open_plain(state: &mut [u64], u: u32) -> u32
     ensures { λ r. ⌜ Opens receiverIn (receiverOpening (now (state .entry)) (ofWidth u) plainWindow Start.Free) r (now (state .exit)) ⌝ }
 {
-    opened(state, openings::open_plain(Accord { u: u }))
+    opened(state, openings::open_plain(accords::line_of(0, u)))
 }
 
 // What a call came to, in the first three places of `told`. Gives its number.
@@ -298,7 +320,21 @@ pub extern "C" fn demfizagu_samples_marked(
 pub extern "C" fn demfizagu_record_open(u: u32, window: u32, start: u32, bytes: &mut [u8]) -> u32
     ensures { λ r. ⌜ OpenTaped (ofWidth u) window start (now (bytes .entry)) r (now (bytes .exit)) ⌝ }
 {
-    recorder::record_open(Accord { u: u }, window, start, bytes)
+    demfizagu_record_open_map(0, u, window, start, bytes)
+}
+
+// The same on the map with this number: the square map's opens with kind 6.
+#[no_mangle]
+pub extern "C" fn demfizagu_record_open_map(
+    map: u32,
+    u: u32,
+    window: u32,
+    start: u32,
+    bytes: &mut [u8],
+) -> u32
+    ensures { λ r. ⌜ OpenTaped (lineOf map u) window start (now (bytes .entry)) r (now (bytes .exit)) ⌝ }
+{
+    recorder::record_open(accords::line_of(map, u), window, start, bytes)
 }
 
 #[no_mangle]

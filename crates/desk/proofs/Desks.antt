@@ -74,7 +74,7 @@ send-same d s w out out' e = rw (← e) (by (sound s) (isWord (s .accord .u) w) 
   gives : Bool → Bool → Bool → List ℤ → Given
   gives a b c o =
       cond a
-      (cond b (cond c (record { number = 0; sender = after s w; output = four (symbolFor s w) ++ drop 4 o }) (record { number = 8; sender = s; output = o }))
+      (cond b (cond c (record { number = 0; sender = after s w; output = four (s .accord) (symbolFor s w) ++ drop 4 o }) (record { number = 8; sender = s; output = o }))
       (record { number = 4; sender = s; output = o }))
       (record { number = 9; sender = s; output = o })
 

@@ -15,7 +15,6 @@ use mathlib.Core.Bool.{cond}
 use mathlib.Core.List.{List, []}
 use lib.IntN.{ℤ, pos}
 use lib.ListN.{take, replicate}
-use Rattle.points.specs.Agreed.{ofWidth}
 use Rattle.page.specs.Page.{Puts}
 use Rattle.requests.specs.declared.Request.{Request}
 use Rattle.requests.specs.declared.Request.the-variants as request
@@ -75,18 +74,18 @@ pendingOf rx = cond (machine.sound rx) (rx .core .pending) 0
 unfoldable pub acting : Desk → Request → Named → Result
 acting d request.Nothing l = says d []
 acting d request.Unread l = says d unreadLine
-acting d (request.Sender u) l = senderGives d (sender.opening (ofWidth u))
+acting d (request.Sender k) l = senderGives d (sender.opening k)
 acting d (request.Send w cap) l = sendGives d (sender.sending (d .sender) w (lent cap))
-acting d (request.Plain u) l = openingGives d (openings.plainOpening (ofWidth u))
-acting d (request.Free u w) l = openingGives d (openings.opening (ofWidth u) w Free)
-acting d (request.At u w s) l = openingGives d (openings.opening (ofWidth u) w (At s))
+acting d (request.Plain k) l = openingGives d (openings.plainOpening k)
+acting d (request.Free k w) l = openingGives d (openings.opening k w Free)
+acting d (request.At k w s) l = openingGives d (openings.opening k w (At s))
 acting d (request.Piece cap n) l = ranGives d (receiver.hearing (d .receiver) (pieceOf (take n (l .coordinates))) cap)
 acting d (request.Finish cap) l = ranGives d (receiver.finishing (d .receiver) cap)
 acting d (request.Sample x y) l = says d (sampleLine (bothOrFault (heardBits x) (heardBits y)))
 acting d request.Pending l = says d (numberLine (pendingOf (d .receiver)))
 acting d (request.List cap n) l = listGives d (sendingList (d .sender) (take n (l .words)) (lent cap))
 acting d request.Missing l = says d missingLine
-acting d (request.Marked cap k n) l = ranGives d (receiver.hearing (d .receiver) (markedPiece (take k (l .marks)) (take n (l .coordinates))) cap)
+acting d (request.Marked cap m n) l = ranGives d (receiver.hearing (d .receiver) (markedPiece (take m (l .marks)) (take n (l .coordinates))) cap)
 
 -- the last part follows from the one before it; it is stated so that callers find it
 pub record Does (g : Result) (most : ℕ) (page : List ℕ) (at : ℕ) (r : Done) (page' : List ℕ) : Type 0 where

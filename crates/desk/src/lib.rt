@@ -47,13 +47,17 @@ pub fn act(
     match asked {
         Request::Nothing => Done { desk, at },
         Request::Unread => verbs::unread::unread(desk, page, at),
-        Request::Sender { u } => verbs::open_sender::open_sender(desk, u, page, at),
+        Request::Sender { accord } => verbs::open_sender::open_sender(desk, accord, page, at),
         Request::Send { word, cap } => verbs::send::send(desk, word, cap, coordinates, page, at),
-        Request::Plain { u } => verbs::open_receiver::open_plain(desk, u, page, at),
-        Request::Free { u, window } => verbs::open_receiver::open_free(desk, u, window, page, at),
-        Request::At { u, window, state } => {
-            verbs::open_receiver::open_at(desk, u, window, state, page, at)
+        Request::Plain { accord } => verbs::open_receiver::open_plain(desk, accord, page, at),
+        Request::Free { accord, window } => {
+            verbs::open_receiver::open_free(desk, accord, window, page, at)
         }
+        Request::At {
+            accord,
+            window,
+            state,
+        } => verbs::open_receiver::open_at(desk, accord, window, state, page, at),
         Request::Piece { cap, count } => {
             verbs::piece::hear(desk, cap, count, coordinates, words, page, at)
         }

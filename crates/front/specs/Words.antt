@@ -8,7 +8,7 @@ use mathlib.Core.Path.{_≡_}
 use mathlib.Core.Bool.{Bool}
 use mathlib.Core.List.{List, [], _∷_, _++_}
 use lib.ListN.{getD, length, take, drop}
-use Rattle.points.specs.Agreed.{ofWidth}
+use Rattle.accords.specs.Numbers.{accordIn, accordWord}
 use Rattle.machine.specs.declared.Core.{Core}
 use Rattle.layout.specs.Layout.{receiverTag, sumsAt, planesAt, picksAt}
 use Rattle.layout.specs.Tagged.{tagOf}
@@ -16,13 +16,13 @@ use Rattle.front.specs.declared.Copied.{Copied}
 
 abbrev pub coreIn : List ℕ → Core
 coreIn ws =
-    record { accord = ofWidth (getD ws 1 0); taken = getD ws 2 0; turn = getD ws 3 0; window = getD ws 4 0; slot = getD ws 5 0; pending = getD ws 6 0 }
+    record { accord = accordIn (getD ws 1 0); taken = getD ws 2 0; turn = getD ws 3 0; window = getD ws 4 0; slot = getD ws 5 0; pending = getD ws 6 0 }
 
 abbrev pub copiedIn : List ℕ → Copied
 copiedIn ws = record { core = coreIn ws; sums = take 16 (drop sumsAt ws); planes = take 48 (drop planesAt ws) }
 
 abbrev pub wordsOfCore : Bool → Core → List ℕ
-wordsOfCore live c = tagOf live receiverTag ∷ c .accord .u ∷ c .taken ∷ c .turn ∷ c .window ∷ c .slot ∷ c .pending ∷ []
+wordsOfCore live c = tagOf live receiverTag ∷ accordWord (c .accord) ∷ c .taken ∷ c .turn ∷ c .window ∷ c .slot ∷ c .pending ∷ []
 
 -- the words l with all of a receiver but its picks in front; the numbers fit their fields, and the lists their places
 pub record FrontStored (live : Bool) (c : Core) (sums planes l o : List ℕ) : Type 0 where

@@ -1,7 +1,6 @@
 // The front of a receiver's state: all but its picks, which stand last and are half of it. It is what a call copies out of the words
 // that a caller lends, and back into them; where the picks need not stay in their place, `stored` copies them too.
 use machine::Core;
-use points::Accord;
 ghost use mathlib.Core.Path.{_≡_};
 ghost use mathlib.Core.Bool.{true};
 ghost use Prim.Native.Nat.{_≤_};
@@ -29,14 +28,14 @@ fn core_in(words: &[u64]) -> Core
     requires { ⌜ holds receiverLength receiverTag (now words) ≡ true ⌝ }
     ensures { λ r. ⌜ r ≡ coreIn (now (words .entry)) ⌝ }
 {
-    let u = words[layout::WIDTH] as u32;
+    let accord = accords::accord_in(words[layout::ACCORD]);
     let window = words[layout::WINDOW] as usize;
     let taken = words[layout::TAKEN] as u32;
     let turn = words[layout::TURN] as u32;
     let slot = words[layout::SLOT] as usize;
     let pending = words[layout::PENDING] as usize;
     Core {
-        accord: Accord { u: u },
+        accord: accord,
         window: window,
         taken: taken,
         turn: turn,
@@ -66,7 +65,8 @@ fn store_core(live: bool, c: Core, words: &mut [u64])
     ensures { λ _. ⌜ CoreStored live c (now (words .entry)) (now (words .exit)) ⌝ }
 {
     words[layout::TAG] = layout::tag_of(live, layout::RECEIVER);
-    words[layout::WIDTH] = c.accord.u as u64;
+    let accord = c.accord;
+    words[layout::ACCORD] = accords::accord_word(accord);
     words[layout::TAKEN] = c.taken as u64;
     words[layout::TURN] = c.turn as u64;
     words[layout::WINDOW] = c.window as u64;

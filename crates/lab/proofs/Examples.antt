@@ -2,7 +2,7 @@
 -- a session, as those of `stream` do.
 use Prim.Native.Nat.{ℕ}
 use mathlib.Core.Path.{_≡_, refl}
-use mathlib.Core.List.{List, [], _∷_}
+use mathlib.Core.List.{List, [], _∷_, _++_}
 use lib.IntN.{pos, negsuc}
 use Rattle.text.specs.Bytes.{bytes}
 use Rattle.text.specs.Number.{digitOf, numberOf, wholeOf, hexOf}
@@ -16,10 +16,12 @@ use Rattle.wei.specs.State.{nextState}
 use Rattle.wei.specs.Symbol.{symbolOf, lastLabel}
 use Rattle.points.specs.Points.{coordinates, aPoint}
 use Rattle.points.specs.Turn.{pointOf}
-use Rattle.points.specs.Pair.{firstPoint, secondPoint}
+use Rattle.square.specs.Map.{squareOf, gridPoint}
+use Rattle.maps.specs.PointMap.{firstAt, secondAt}
 use Rattle.sender.specs.Send.{opening, sending, after, four}
 use Rattle.sender.specs.SendList.{sendingAll, sendingList}
 use Rattle.machine.specs.Machine.{shut, sound}
+use Rattle.openings.specs.Opening as openings
 use Rattle.receiver.specs.Doors.{hearing}
 use Rattle.reasons.specs.Reason.{reason}
 use Rattle.phrases.specs.Phrase.{decimal, whole, reasonText, saidText, saidWholes}
@@ -61,14 +63,18 @@ pub examples : answers
 unfolding decimal whole sentLine listLine reasonText saidText saidWholes heardLine sampleLine
 examples = refl
 
--- a comment, an empty line, both openings of a sender, a word, a list whose last word is none, a sample that is missing, marks for a receiver that
--- is closed, a row that is none, and a last line that no newline follows and that lacks its CAP
+-- a comment, an empty line, both openings of a sender, a word, a list whose last word is none, the square map and a word on it, an odd width and
+-- another name of it, a sample that is missing, marks for a receiver that is closed, a row that is none, and a last line that no newline
+-- follows and that lacks its CAP
 abbrev typed : List ℕ
-typed = bytes "# a comment\n\nsender 9\nsender 0\nsend 5 4\nlist 9 0 2 8\npending\nsample 3F800000 7f800000\nsample missing\nmarked 4 31 0 0 0 0\nmarked 4 4\nsend 5"
+typed =
+    bytes "# a comment\n\nsender 9\nsender 0\nsend 5 4\nlist 9 0 2 8\n"
+    ++ bytes "sender 2 square\nsend 8 4\nreceiver 1 square\nreceiver 2 64 free squares\npending\n"
+    ++ bytes "sample 3F800000 7f800000\nsample missing\nmarked 4 31 0 0 0 0\nmarked 4 4\nsend 5"
 
 pub session : lastLine 65536 (streaming 65536 (record { desk = closedDesk; line = []; text = [] }) typed) .text
-    ≡ bytes "1\n0\n0 -1 -1 1 1\n2 4 : -1 -1 -1 1 -1 1 -1 1\n0\n5 place 1\nmissing\n0 0 9\n?\n?\n"
+    ≡ bytes "1\n0\n0 -1 -1 1 1\n2 4 : -1 -1 -1 1 -1 1 -1 1\n0\n0 1 -3 1 1\n1\n?\n0\n5 place 1\nmissing\n0 0 9\n?\n?\n"
 unfolding answering acting requestOf verbOf numberOf wholeOf hexOf digitOf rowOf isRow isMark decimal whole sentLine listLine saidWholes sampleLine
     heardLine reasonText saidText hearing heardBits shut sound opening sending sendingAll sendingList symbolOf after four
-    firstPoint secondPoint lastLabel pointOf aPoint coordinates unpacked nextState secondLabel
+    firstAt secondAt lastLabel pointOf aPoint coordinates squareOf gridPoint unpacked nextState secondLabel openings.opening
 session = refl

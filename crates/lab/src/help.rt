@@ -32,6 +32,8 @@ fn verbs(to: i32) -> bool {
                             word then has bits 1 and 2 zero, for the turn before it is not known. Answer: N
   receiver U WINDOW free    the same with a window of 1 to 64 symbols that may wait undecided
   receiver U WINDOW at S    the same from the state S, 0 to 15; a sender starts at 0
+  .. square                 ` square` at the end of a sender's or a receiver's line opens it on the square map, which has the even
+                            widths alone; without it the line is the round map's. Both ends must name the same
   piece CAP C C C C ..      hears coordinates, four to a symbol, -8192 to 8192, into an output of CAP words
                             Answer: TAKEN WRITTEN N, for a 5 ` place P`, and if words were written ` :` and the words
   marked CAP MARKS C ..     the same with points that never came: MARKS has a digit for each symbol, 0 both points heard, 1 the first
@@ -52,7 +54,7 @@ fn numbers(to: i32) -> bool {
         b"N, the number given back:
 
   0 done                        6 the window is full: finish, and open again
-  1 width above 8               7 4294967295 symbols were taken
+  1 width above 8, or no map's  7 4294967295 symbols were taken
   2 window not 1 to 64          8 the output is shorter than needed
   3 start above 15              9 closed: open it first
   4 no word of this width      10 coordinates not in fours, or other marks

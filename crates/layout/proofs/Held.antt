@@ -20,13 +20,12 @@ module _ (size tag : ℕ) (ws : List ℕ) where
   unfolding holds
   held-other h e = rw (le-leb size (length ws) h, ne-eqb (getD ws 0 0) tag e)
 
-  pub held-by : size ≤ length ws → getD ws 0 0 ≡ tag → holds size tag ws ≡ (isHalf (getD ws 1 0) && (isHalf (getD ws 2 0) && isHalf (getD ws 3 0)))
+  pub held-by : size ≤ length ws → getD ws 0 0 ≡ tag → holds size tag ws ≡ (isHalf (getD ws 2 0) && isHalf (getD ws 3 0))
   unfolding holds
   held-by h e = rw (le-leb size (length ws) h, eq-eqb (getD ws 0 0) tag e)
 
   pub record Held : Type 0 where
     pub long : size ≤ length ws
-    pub one : getD ws 1 0 < 2 ^ 32
     pub two : getD ws 2 0 < 2 ^ 32
     pub three : getD ws 3 0 < 2 ^ 32
 
@@ -36,13 +35,10 @@ module _ (size tag : ℕ) (ws : List ℕ) where
       let t : T (holds size tag ws) = subst T (sym e) tt in
       let c = isHalf (getD ws 3 0) in
       let b = isHalf (getD ws 2 0) in
-      let a = isHalf (getD ws 1 0) in
-      let t₁ = and-right (leb size (length ws)) (eqb (getD ws 0 0) tag && (a && (b && c))) t in
-      let t₂ = and-right (eqb (getD ws 0 0) tag) (a && (b && c)) t₁ in
-      let t₃ = and-right a (b && c) t₂ in
+      let t₁ = and-right (leb size (length ws)) (eqb (getD ws 0 0) tag && (b && c)) t in
+      let t₂ = and-right (eqb (getD ws 0 0) tag) (b && c) t₁ in
       record {
-        long = leb→le size (length ws) (and-left (leb size (length ws)) (eqb (getD ws 0 0) tag && (a && (b && c))) t);
-        one = ltb→lt (getD ws 1 0) (2 ^ 32) (and-left a (b && c) t₂);
-        two = ltb→lt (getD ws 2 0) (2 ^ 32) (and-left b c t₃);
-        three = ltb→lt (getD ws 3 0) (2 ^ 32) (and-right b c t₃);
+        long = leb→le size (length ws) (and-left (leb size (length ws)) (eqb (getD ws 0 0) tag && (b && c)) t);
+        two = ltb→lt (getD ws 2 0) (2 ^ 32) (and-left b c t₂);
+        three = ltb→lt (getD ws 3 0) (2 ^ 32) (and-right b c t₂);
       }

@@ -6,10 +6,10 @@ use Prim.Native.Nat.{ℕ}
 
 -- the letters "demf", "tx" or "rx", and the number of the layout
 abbrev pub senderTag : ℕ
-senderTag = 0x64656d6674780001
+senderTag = 0x64656d6674780002
 
 abbrev pub receiverTag : ℕ
-receiverTag = 0x64656d6672780003
+receiverTag = 0x64656d6672780004
 
 abbrev pub closedTag : ℕ
 closedTag = 0

@@ -15,7 +15,7 @@ tagOf live tag = cond live tag closedTag
 abbrev pub isHalf : ℕ → Bool
 isHalf n = ltb n (2 ^ 32)
 
--- so many words, this tag, and three numbers that fit their fields
+-- so many words, this tag, and two numbers that fit their fields; any word is a map and a width, or names no line
 unfoldable pub holds : ℕ → ℕ → List ℕ → Bool
 holds size tag ws =
-    leb size (length ws) && (eqb (getD ws 0 0) tag && (isHalf (getD ws 1 0) && (isHalf (getD ws 2 0) && isHalf (getD ws 3 0))))
+    leb size (length ws) && (eqb (getD ws 0 0) tag && (isHalf (getD ws 2 0) && isHalf (getD ws 3 0)))

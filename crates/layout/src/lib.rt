@@ -7,14 +7,14 @@ ghost use lib.ListN.{length, drop};
 ghost use Rattle.layout.specs.Tagged.{tagOf, isHalf, holds};
 
 // Word 0 says what the state is: the letters "demf", "tx" or "rx", and the number of the layout. A closed end has 0 there.
-pub const SENDER: u64 = 0x6465_6d66_7478_0001;
+pub const SENDER: u64 = 0x6465_6d66_7478_0002;
 
-pub const RECEIVER: u64 = 0x6465_6d66_7278_0003;
+pub const RECEIVER: u64 = 0x6465_6d66_7278_0004;
 
-// Both ends: the tag, then the width.
+// Both ends: the tag, then map and width in one word (crate accords).
 pub const TAG: usize = 0;
 
-pub const WIDTH: usize = 1;
+pub const ACCORD: usize = 1;
 
 // A sender: its turn and its state.
 pub const SENDER_TURN: usize = 2;
@@ -58,9 +58,6 @@ pub fn holds_record(words: &[u64], size: usize, tag: u64) -> bool
         return false;
     }
     if words[TAG] != tag {
-        return false;
-    }
-    if !is_half(words[1]) {
         return false;
     }
     if !is_half(words[2]) {

@@ -20,10 +20,16 @@ use Rattle.text.specs.declared.number.Number.{Number}
 use Rattle.text.specs.declared.number.Number.the-variants as number
 use Rattle.wholes.specs.declared.Many.{Many}
 use Rattle.wholes.specs.declared.Many.the-variants as many
+use Rattle.points.specs.declared.Map.{Map}
+use Rattle.map_names.specs.declared.Which.{Which}
+use Rattle.map_names.specs.declared.Which.the-variants as which
+use Rattle.map_names.specs.declared.Numbered.{Numbered}
+use Rattle.map_names.specs.declared.Numbered.the-variants as numbered
+use Rattle.map_names.specs.Names.{mapNamed, numberedOf}
 use Rattle.requests.specs.declared.Request.{Request}
 use Rattle.requests.specs.declared.Request.the-variants as request
 use Rattle.requests.specs.Verb.{just, both, one, two, anyNumber, capNumber, atStart, filledBy, coordinateFills, markedFills, marksAfter, marksOf}
-use Rattle.requests.specs.Verb.{senderOf, finishOf, sendOf, sampleOf, startOf, windowOf, openOf, receiverOf, heardOf, pieceOf, sentOf, listOf}
+use Rattle.requests.specs.Verb.{onMap, onNumber, senderOf, finishOf, sendOf, sampleOf, startOf, windowBy, openBy, openOf, receiverOf, heardOf, pieceOf, sentOf, listOf}
 use Rattle.requests.specs.Verb.{markedBy, markedAfter, markedOf}
 use Rattle.protocol.specs.Request.{senderVerb, receiverVerb, finishVerb, sampleVerb, sendVerb, pieceVerb, listVerb, verbOf, pendingAlone}
 use Rattle.protocol.specs.Request.{lineOf, requestOf, pieceOnly, listCoordinates, listWords, lineFills, wordFills}
@@ -71,9 +77,17 @@ module _ (d : Desk) where
   cond-same true k k' h h' = h
   cond-same false k k' h h' = h'
 
+  map-same : (f : Map → Request) → ((m : Map) → Same (f m)) → (w : Which) → Same (onMap f w)
+  map-same f h (which.On m) = h m
+  map-same f h which.Unread = unread-same
+
+  number-same : (f : Map → ℕ → Request) → ((m : Map) (n : ℕ) → Same (f m n)) → (o : Numbered) → Same (onNumber f o)
+  number-same f h (numbered.On m n) = h m n
+  number-same f h numbered.Unread = unread-same
+
   sender-same : (ts : List (List ℕ)) → Same (senderOf ts)
   unfolding acting
-  sender-same ts = one-same _ (λ u. just-same _ (λ n l l'. refl) (anyNumber u)) ts
+  sender-same ts = number-same _ (λ m u l l'. refl) (numberedOf ts)
 
   finish-same : (ts : List (List ℕ)) → Same (finishOf ts)
   unfolding acting
@@ -93,21 +107,26 @@ module _ (d : Desk) where
   start-same : (u w : ℕ) (ts : List (List ℕ)) → Same (startOf u w ts)
   unfolding acting
   start-same u w [] = λ l l'. refl
-  start-same u w (f ∷ []) = cond-same (sameBytes f (bytes "free")) _ _ (λ l l'. refl) (λ l l'. refl)
-  start-same u w (a ∷ s ∷ ts) = cond-same (sameBytes a (bytes "at")) _ _ (one-same _ (λ s. just-same _ (λ n l l'. refl) (anyNumber s)) (s ∷ ts)) (λ l l'. refl)
+  start-same u w (f ∷ ts) =
+      cond-same (sameBytes f (bytes "free")) _ _ (map-same _ (λ m l l'. refl) (mapNamed ts))
+      (cond-same (sameBytes f (bytes "at")) _ _ (number-same _ (λ m s l l'. refl) (numberedOf ts)) unread-same)
 
   receiver-same : (ts : List (List ℕ)) → Same (receiverOf ts)
   unfolding acting
   receiver-same [] = λ l l'. refl
   receiver-same (t ∷ ts) = by (anyNumber t) ts where
-    window : (u : ℕ) (o : Number) (ts : List (List ℕ)) → Same (windowOf u o ts)
+    window : (u : ℕ) (o : Number) (ts : List (List ℕ)) → Same (windowBy u o ts)
     window u (number.Got w) ts = start-same u w ts
     window u number.Bad ts = λ l l'. refl
 
+    opened : (u : ℕ) (w : Which) (ts : List (List ℕ)) → Same (openBy u w ts)
+    opened u (which.On m) ts = λ l l'. refl
+    opened u which.Unread [] = λ l l'. refl
+    opened u which.Unread (w ∷ ts) = window u (anyNumber w) ts
+
     by : (o : Number) (ts : List (List ℕ)) → Same (openOf o ts)
     by number.Bad ts = λ l l'. refl
-    by (number.Got u) [] = λ l l'. refl
-    by (number.Got u) (w ∷ ts) = window u (anyNumber w) ts
+    by (number.Got u) ts = opened u (mapNamed ts) ts
 
   -- the numbers at the start of a list are those that the tokens write
   at-start : {A : Type 0} (p : List ℕ → Option A) (ts : List (List ℕ)) (list : List A) {n : ℕ} → manyOf p (length list) ts ≡ many.Got n

@@ -22,7 +22,8 @@ use Rattle.nearest.specs.declared.Received.{Received}
 use Rattle.nearest.specs.declared.Weighed.{Weighed}
 use Rattle.nearest.specs.Line.{lineChoice}
 use Rattle.nearest.specs.Found.{weighedOf, pickedFrom}
-use Rattle.nearest.proofs.Laws.{least-le, i3s-below, w1-below, w2-below, best-read}
+use Rattle.trellis.proofs.Least.{least-is}
+use Rattle.nearest.proofs.Laws.{i3s-below, w1-below, w2-below, best-read}
 use Rattle.select.specs.Select.{limit, sixteen, arrive, winner, sumAt, fromAt, firstStep, followed, stepAt, rowOf}
 use Rattle.picks.specs.Picks.{byteAt, numbersOf, symbolBy}
 use Rattle.picks.proofs.Bytes.{first-number, second-number}
@@ -38,7 +39,7 @@ use Rattle.points.proofs.Agreed.{accord-width}
 module _ (sums costs : List ℕ) (t : ℕ) (h : t < 16) where
   from-below : fromAt sums costs t < 16
   unfolding winner
-  from-below = before-below t (winner sums costs t) h (omega (arith, least-le (arrive sums costs t) 3))
+  from-below = before-below t (winner sums costs t) h (omega (arith, least-is (arrive sums costs t) 3 .low))
 
   pub first-from : firstStep sums costs t / 8 % 16 ≡ fromAt sums costs t
   unfolding firstStep

@@ -26,7 +26,7 @@ use Rattle.trellis.specs.Measure.{Start, free, named, Two}
 use Rattle.trellis.specs.Words.{wordsFrom, turnAfter, firstTurn}
 use Rattle.wei.specs.Symbol.{Symbol}
 use Rattle.points.specs.declared.Accord.{Accord}
-use Rattle.points.specs.Agreed.{isAccord}
+use Rattle.points.specs.Agreed.{isAccord, ofWidth}
 use Rattle.nearest.specs.declared.Received.{Received}
 use Rattle.nearest.specs.Found.{weighedOf}
 use Rattle.planes.specs.Planes.{subsetIn, movedOf, sameAt, oldest}
@@ -52,7 +52,7 @@ unfoldable pub opened : Accord → ℕ → Start → Receiver
 opened k window b = record { live = true; core = core k window (firstTurn b); sums = freshSums b; planes = replicate 48 0; picks = replicate 72 0 }
 
 unfoldable pub shut : Receiver
-shut = record { live = false; core = core (record { u = 0 }) 0 0; sums = replicate 16 0; planes = replicate 48 0; picks = replicate 72 0 }
+shut = record { live = false; core = core (ofWidth 0) 0 0; sums = replicate 16 0; planes = replicate 48 0; picks = replicate 72 0 }
 
 -- ---- one symbol
 

@@ -26,22 +26,22 @@ least-flat f z zero = refl
 least-flat f z (suc n) =
     ap (λ (b : Bool). keepN b (least f n) (suc n)) (le-ltb (f (suc n)) (f (least f n)) (omega (arith, z (least f n)))) ∙ least-flat f z n
 
-module _ (u : ℕ) (l : ℕ) where
-  near-missing : near u lineDistance Missing l ≡ 0
+module _ (k : Accord) (l : ℕ) where
+  near-missing : near (k .u) (lineDistance k) Missing l ≡ 0
   unfolding near lineDistance
-  near-missing = least-flat (λ w. 0) (λ _. refl) (2 ^ u - 1)
+  near-missing = least-flat (λ w. 0) (λ _. refl) (2 ^ k .u - 1)
 
-  gap-missing : gapOf u lineDistance Missing l ≡ 0
+  gap-missing : gapOf (k .u) (lineDistance k) Missing l ≡ 0
   unfolding gapOf lineDistance
   gap-missing = refl
 
-  counted-missing : counted (gapOf u lineDistance Missing l) ≡ 0
+  counted-missing : counted (gapOf (k .u) (lineDistance k) Missing l) ≡ 0
   unfolding counted
   counted-missing = rw gap-missing
 
 pub none-found : (k : Accord) → record { w = 0 ∷ 0 ∷ 0 ∷ 0 ∷ []; d = 0 ∷ 0 ∷ 0 ∷ 0 ∷ []; counted = 0 ∷ 0 ∷ 0 ∷ 0 ∷ [] } ≡ nearestOf k Missing
 unfolding nearestOf gapOf lineDistance counted
-none-found k = let u = k .u in cc (near-missing u 0, near-missing u 1, near-missing u 2, near-missing u 3)
+none-found k = cc (near-missing k 0, near-missing k 1, near-missing k 2, near-missing k 3)
 
 module _ (k : Accord) where
   pub far-missing : (c : Symbol) → lineMeasure k .far (heardAs Missing Missing) c ≡ 0
@@ -49,13 +49,13 @@ module _ (k : Accord) where
   far-missing c = refl
 
   module _ (y0 i1 i2 : ℕ) where
-    sum-missing : (i3 : ℕ) → typeSum (k .u) lineDistance counted (heardAs Missing Missing) y0 i1 i2 i3 ≡ 0
+    sum-missing : (i3 : ℕ) → typeSum (k .u) (lineDistance k) counted (heardAs Missing Missing) y0 i1 i2 i3 ≡ 0
     unfolding typeSum
-    sum-missing i3 = ap₂ (λ (m n : ℕ). m + n) (counted-missing (k .u) _) (counted-missing (k .u) _)
+    sum-missing i3 = ap₂ (λ (m n : ℕ). m + n) (counted-missing k _) (counted-missing k _)
 
-    i3-missing : bestI3 (k .u) lineDistance counted (heardAs Missing Missing) y0 i1 i2 ≡ 0
+    i3-missing : bestI3 (k .u) (lineDistance k) counted (heardAs Missing Missing) y0 i1 i2 ≡ 0
     unfolding bestI3
-    i3-missing = least-flat (typeSum (k .u) lineDistance counted (heardAs Missing Missing) y0 i1 i2) sum-missing 1
+    i3-missing = least-flat (typeSum (k .u) (lineDistance k) counted (heardAs Missing Missing) y0 i1 i2) sum-missing 1
 
     pub cost-missing : costOf k (heardAs Missing Missing) y0 i1 i2 ≡ 0
     unfolding costOf
@@ -63,4 +63,4 @@ module _ (k : Accord) where
 
     pub choice-missing : lineChoice k (heardAs Missing Missing) y0 i1 i2 ≡ record { y0 = y0; i1 = i1; i2 = i2; i3 = 0; w1 = 0; w2 = 0 }
     unfolding bestOf
-    choice-missing = rw (i3-missing) (cc (near-missing (k .u) (turnOf i2 0), near-missing (k .u) (secondLabel (turnOf i2 0) y0 i1)))
+    choice-missing = rw (i3-missing) (cc (near-missing k (turnOf i2 0), near-missing k (secondLabel (turnOf i2 0) y0 i1)))

@@ -8,7 +8,7 @@ use native.Mathlib.Omega.{arith}
 use lib.ListN.{getD}
 use Rattle.wei.specs.State.{subsetOf}
 use Rattle.types.specs.Types.{eight}
-use Rattle.nearest.specs.Found.{four}
+use Rattle.spots.specs.Found.{four}
 
 pub four-at : (f : ℕ → ℕ) (l : ℕ) → l < 4 → getD (four f) l 0 ≡ f l
 four-at f zero h = refl

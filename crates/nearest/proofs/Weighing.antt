@@ -16,8 +16,9 @@ use Rattle.nearest.specs.declared.Received.{Received}
 use Rattle.nearest.specs.declared.Nearest.{Nearest}
 use Rattle.types.specs.declared.Nearer.{Nearer}
 use Rattle.types.specs.declared.Choices.{Choices}
+use Rattle.spots.specs.Found.{four}
 use Rattle.nearest.specs.Line.{lineDistance}
-use Rattle.nearest.specs.Found.{four, heardAs, nearestOf, costOf, weighedOf}
+use Rattle.nearest.specs.Found.{heardAs, nearestOf, costOf, weighedOf}
 use Rattle.types.specs.Types.{Summable, sumOf, nearerOf, choicesOf}
 use Rattle.nearest.proofs.Rows.{four-at}
 use Rattle.nearest.proofs.Laws.{counted-below}
@@ -29,11 +30,11 @@ summable k g h = record { first-below = counted-below k g; second-below = counte
 abbrev found : Accord → Two Received → ℕ → ℕ → ℕ → ℕ → ℕ
 found k y = sumOf (nearestOf k (y .first) .counted) (nearestOf k (y .second) .counted)
 
-at-label : (k : Accord) (h : Received) (l : ℕ) → l < 4 → getD (nearestOf k h .counted) l 0 ≡ counted (gapOf (k .u) lineDistance h l)
+at-label : (k : Accord) (h : Received) (l : ℕ) → l < 4 → getD (nearestOf k h .counted) l 0 ≡ counted (gapOf (k .u) (lineDistance k) h l)
 unfolding nearestOf
-at-label k h = four-at (λ l. counted (gapOf (k .u) lineDistance h l))
+at-label k h = four-at (λ l. counted (gapOf (k .u) (lineDistance k) h l))
 
-sum-is : (k : Accord) (y : Two Received) (y0 i1 i2 i3 : ℕ) → i2 < 2 → i3 < 2 → found k y y0 i1 i2 i3 ≡ typeSum (k .u) lineDistance counted y y0 i1 i2 i3
+sum-is : (k : Accord) (y : Two Received) (y0 i1 i2 i3 : ℕ) → i2 < 2 → i3 < 2 → found k y y0 i1 i2 i3 ≡ typeSum (k .u) (lineDistance k) counted y y0 i1 i2 i3
 unfolding sumOf typeSum
 sum-is k y y0 i1 i2 i3 a b =
     let q = turnOf i2 i3 in
@@ -48,12 +49,12 @@ both f g p q = rw (p, q) (go (ltb (g 1) (g 0)))
     go true = ap (λ (n : ℕ). record { cost = n; i3 = 1 }) q
     go false = ap (λ (n : ℕ). record { cost = n; i3 = 0 }) p
 
-chosen : (k : Accord) (y : Two Received) (y0 i1 i2 : ℕ) → i2 < 2 → nearerOf (found k y y0 i1 i2) ≡ record { cost = costOf k y y0 i1 i2; i3 = bestI3 (k .u) lineDistance counted y y0 i1 i2 }
+chosen : (k : Accord) (y : Two Received) (y0 i1 i2 : ℕ) → i2 < 2 → nearerOf (found k y y0 i1 i2) ≡ record { cost = costOf k y y0 i1 i2; i3 = bestI3 (k .u) (lineDistance k) counted y y0 i1 i2 }
 unfolding costOf bestI3 nearerOf
 chosen k y y0 i1 i2 h =
-    both (found k y y0 i1 i2) (typeSum (k .u) lineDistance counted y y0 i1 i2) (sum-is k y y0 i1 i2 0 h (omega arith)) (sum-is k y y0 i1 i2 1 h (omega arith))
+    both (found k y y0 i1 i2) (typeSum (k .u) (lineDistance k) counted y y0 i1 i2) (sum-is k y y0 i1 i2 0 h (omega arith)) (sum-is k y y0 i1 i2 1 h (omega arith))
 
-numbers : (k : Accord) (h : Received) → nearestOf k h .w ≡ four (near (k .u) lineDistance h)
+numbers : (k : Accord) (h : Received) → nearestOf k h .w ≡ four (near (k .u) (lineDistance k) h)
 unfolding nearestOf
 numbers k h = refl
 

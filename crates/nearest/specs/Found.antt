@@ -1,6 +1,5 @@
 -- What is found for a received point and for a received symbol, as rows by label and by subset. Which number is nearest and which
 -- symbol is best is said by the theory alone (`near`, `gapOf`, `typeSum`, `bestI3`): here it is only laid out.
---   four f            f at the labels 0 to 3
 --   heardAs g h       the received symbol of two received points
 --   chartOf k         what a search on a line of the accord k needs
 --   nearestOf k h     for each label the nearest number below 2^u, its true distance and what that counts for
@@ -9,7 +8,7 @@
 --   weighedOf k y     for each subset that cost and the chosen I3'; for each label the nearest numbers
 --   pickedFrom        the symbol of a subset, read off the rows of I3' and of the numbers
 use Prim.Native.Nat.{ℕ}
-use mathlib.Core.List.{List, [], _∷_}
+use mathlib.Core.List.{List}
 use lib.IntN.{ℤ}
 use lib.ListN.{getD}
 use Rattle.points.specs.declared.Accord.{Accord}
@@ -20,15 +19,13 @@ use Rattle.wei.specs.Symbol.{Symbol}
 use Rattle.trellis.specs.Measure.{Two, counted}
 use Rattle.trellis.specs.Pick.{near, gapOf, typeSum, bestI3}
 use Rattle.types.specs.Types.{eight}
-use Rattle.nearest.specs.declared.Spot.{Spot}
+use Rattle.spots.specs.declared.Spot.{Spot}
+use Rattle.spots.specs.Found.{four}
 use Rattle.nearest.specs.declared.Received.{Received}
 use Rattle.nearest.specs.declared.Received.the-variants.{Heard}
 use Rattle.nearest.specs.declared.Nearest.{Nearest}
 use Rattle.nearest.specs.declared.Weighed.{Weighed}
 use Rattle.nearest.specs.Line.{lineDistance}
-
-abbrev pub four : (ℕ → ℕ) → List ℕ
-four f = f 0 ∷ f 1 ∷ f 2 ∷ f 3 ∷ []
 
 abbrev pub heardAs : Received → Received → Two Received
 heardAs g h = record { first = g; second = h }
@@ -40,24 +37,24 @@ chartOf k = coordinates
 unfoldable pub nearestOf : Accord → Received → Nearest
 nearestOf k h =
     record {
-      w = four (near (k .u) lineDistance h);
-      d = four (gapOf (k .u) lineDistance h);
-      counted = four (λ l. counted (gapOf (k .u) lineDistance h l));
+      w = four (near (k .u) (lineDistance k) h);
+      d = four (gapOf (k .u) (lineDistance k) h);
+      counted = four (λ l. counted (gapOf (k .u) (lineDistance k) h l));
     }
 
 abbrev pub nearestTo : Accord → Spot → Nearest
 nearestTo k s = nearestOf k (Heard s)
 
 unfoldable pub costOf : Accord → Two Received → ℕ → ℕ → ℕ → ℕ
-costOf k y y0 i1 i2 = typeSum (k .u) lineDistance counted y y0 i1 i2 (bestI3 (k .u) lineDistance counted y y0 i1 i2)
+costOf k y y0 i1 i2 = typeSum (k .u) (lineDistance k) counted y y0 i1 i2 (bestI3 (k .u) (lineDistance k) counted y y0 i1 i2)
 
 unfoldable pub weighedOf : Accord → Two Received → Weighed
 weighedOf k y =
     record {
       costs = eight (costOf k y);
-      i3 = eight (bestI3 (k .u) lineDistance counted y);
-      w1 = four (near (k .u) lineDistance (y .first));
-      w2 = four (near (k .u) lineDistance (y .second));
+      i3 = eight (bestI3 (k .u) (lineDistance k) counted y);
+      w1 = four (near (k .u) (lineDistance k) (y .first));
+      w2 = four (near (k .u) (lineDistance k) (y .second));
     }
 
 -- of i3, w1 and w2 of `Weighed`, and of Y0, I1 and I2'

@@ -1,5 +1,3 @@
 -- what must be believed
 pub mod Line
 pub mod Found
--- how it is found
-pub mod Key

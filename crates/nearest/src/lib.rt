@@ -2,27 +2,26 @@
 //
 // A received point is heard, with two coordinates in line units, or missing; the point coordinate c stands at 128·c. `search` gives,
 // for each of the four labels, the number of the nearest point, its squared distance and what that counts for; of equals the smaller
-// number. A missing point is as near to every point, at distance 0, so its number is 0 and no table is read for it.
+// number. Each map has a search of its own (crates round_nearest, square_nearest). A missing point is as near to every point, at
+// distance 0, so its number is 0 and nothing is searched for it.
 // `weigh` gives, for a received symbol and each of the eight subsets, the best symbol: its cost, a sum of counted distances, and
 // its I3', with the numbers of its points in the rows of `search`. Both types of a subset are weighed, always. A caller makes
 // the chart once and lends it.
 //
 // Each contract here is an equation of the result with one definition, so any two results that it allows are equal.
-mod key;
-mod line;
-
 use points::Accord;
+use points::Map;
+use spots::Found;
+use spots::Spot;
 ghost use mathlib.Core.Path.{_≡_};
 ghost use mathlib.Core.Bool.{true};
-ghost use Rattle.points.specs.Agreed.{isAccord};
-ghost use Rattle.nearest.specs.Line.{isCoordinate, SpotInRange, InRange};
+ghost use Rattle.points.specs.Agreed.{hasWidth, isAccord};
+ghost use Rattle.points.specs.Points.{coordinates};
+ghost use Rattle.trellis.specs.Measure.{counted};
+ghost use Rattle.spots.specs.Distance.{SpotInRange};
+ghost use Rattle.spots.specs.Found.{foundBy};
+ghost use Rattle.nearest.specs.Line.{isCoordinate, mapDistance, InRange};
 ghost use Rattle.nearest.specs.Found.{chartOf, nearestOf, nearestTo, heardAs, weighedOf};
-
-// Where a point was heard.
-pub struct Spot {
-    pub x: i32,
-    pub y: i32,
-}
 
 // A received point.
 pub enum Received {
@@ -65,23 +64,43 @@ pub fn is_coordinate(x: i32) -> bool
     -8192 <= x && x <= 8192
 }
 
-// The nearest number below 2^u of each label, its distance, and what that counts for. Keys carry number and distance (see `key`):
-// `rest` is the remainder that all distances from h leave modulo 256, as that of number 0 shows. The nearest is found by the true
-// distance, so the cap is met by the four that were found and not by each candidate.
+// What a squared distance counts for.
+fn counted_of(d: u32) -> u32
+    ensures { λ r. ⌜ r ≡ counted d ⌝ }
+{
+    if CAP < d { CAP } else { d }
+}
+
+// The nearest number below 2^u of each label and its distance, on either map: only the round map reads the table.
+fn search_on(t: &Chart, map: Map, u: u32, h: Spot) -> Found
+    requires { ⌜ (now t ≡ coordinates) × (hasWidth map u ≡ true) × SpotInRange h ⌝ }
+    ensures { λ r. ⌜ r ≡ foundBy u (mapDistance map u) h ⌝ }
+{
+    match map {
+        Map::Round => round_nearest::search(t, u, h),
+        Map::Square => square_nearest::search(u, h),
+    }
+}
+
+// The same, and what each distance counts for. The nearest is found by the true distance, so the cap is met by the four that were
+// found and not by each candidate.
 fn search_heard(t: &Chart, k: Accord, h: Spot) -> Nearest
     requires { ⌜ (now t ≡ chartOf k) × (isAccord k ≡ true) × SpotInRange h ⌝ }
     ensures { λ r. ⌜ r ≡ nearestTo k h ⌝ }
 {
-    let rest = line::distance_from(h, points::a_point(t, 0)) % 256;
-    let keys = key::least_keys(t, h, 1usize << k.u);
-    let a = key::read_off(keys.a, rest);
-    let c = key::read_off(keys.c, rest);
-    let b = key::read_off(keys.b, rest);
-    let d = key::read_off(keys.d, rest);
+    let map = k.map;
+    let f = search_on(t, map, k.u, h);
+    let w = f.w;
+    let d = f.d;
     Nearest {
-        w: [a.w, c.w, b.w, d.w],
-        d: [a.d, c.d, b.d, d.d],
-        counted: [a.counted, c.counted, b.counted, d.counted],
+        w: w,
+        d: d,
+        counted: [
+            counted_of(d[0]),
+            counted_of(d[1]),
+            counted_of(d[2]),
+            counted_of(d[3]),
+        ],
     }
 }
 

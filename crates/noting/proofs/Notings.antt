@@ -18,7 +18,6 @@ use lib.Dec.{T, eqb}
 use lib.ListN.{length, take, drop, length-append, length-drop, length-take}
 use lib.Seq.{take-at, length-take-le}
 use Rattle.points.specs.declared.Accord.{Accord}
-use Rattle.points.specs.Agreed.{ofWidth}
 use Rattle.machine.specs.declared.Receiver.{Receiver}
 use Rattle.reasons.specs.Reason.{givenOf}
 use Rattle.openings.specs.declared.Opened.{Opened}
@@ -136,9 +135,9 @@ module _ (rx : Receiver) (begun : Bool) (l : Named) (room : ℕ) where
   pub noted-as : {asked k : Request} → asked ≡ k → noting rx begun k l room ≡ noting rx begun asked l room
   noted-as e = ap (λ (a : Request). noting rx begun a l room) (sym e)
 
-  pub at-noted : {asked : Request} {u w s n : ℕ} → asked ≡ request.At u w s → n ≡ startNumber s → opens rx begun (ofWidth u) w n room ≡ noting rx begun asked l room
+  pub at-noted : {asked : Request} {k : Accord} {w s n : ℕ} → asked ≡ request.At k w s → n ≡ startNumber s → opens rx begun k w n room ≡ noting rx begun asked l room
   unfolding noting
-  at-noted {u = u} {w = w} e z = ap (λ (m : ℕ). opens rx begun (ofWidth u) w m room) z ∙ noted-as e
+  at-noted {k = k} {w = w} e z = ap (λ (m : ℕ). opens rx begun k w m room) z ∙ noted-as e
 
   -- the places of an output that is lent as long as the cap says
   at-cap : (p : Piece) {cap : ℕ} → cap ≤ length (l .words)
@@ -179,11 +178,11 @@ pub other-noted : (rx : Receiver) (begun : Bool) (l : Named) (room : ℕ) (asked
 unfolding noting isOther
 other-noted rx begun l room request.Nothing h = absurd (subst T (sym (other-tag 0 h)) tt)
 other-noted rx begun l room request.Unread h = refl
-other-noted rx begun l room (request.Sender u) h = refl
+other-noted rx begun l room (request.Sender k) h = refl
 other-noted rx begun l room (request.Send w cap) h = refl
-other-noted rx begun l room (request.Plain u) h = absurd (subst T (sym (other-tag 4 h)) tt)
-other-noted rx begun l room (request.Free u w) h = absurd (subst T (sym (other-tag 5 h)) tt)
-other-noted rx begun l room (request.At u w s) h = absurd (subst T (sym (other-tag 6 h)) tt)
+other-noted rx begun l room (request.Plain k) h = absurd (subst T (sym (other-tag 4 h)) tt)
+other-noted rx begun l room (request.Free k w) h = absurd (subst T (sym (other-tag 5 h)) tt)
+other-noted rx begun l room (request.At k w s) h = absurd (subst T (sym (other-tag 6 h)) tt)
 other-noted rx begun l room (request.Piece cap n) h = absurd (subst T (sym (other-tag 7 h)) tt)
 other-noted rx begun l room (request.Finish cap) h = absurd (subst T (sym (other-tag 8 h)) tt)
 other-noted rx begun l room (request.Sample x y) h = refl

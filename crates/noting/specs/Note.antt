@@ -18,7 +18,6 @@ use mathlib.Core.List.{List, []}
 use lib.Dec.{eqb, ltb}
 use lib.ListN.{length, take}
 use Rattle.points.specs.declared.Accord.{Accord}
-use Rattle.points.specs.Agreed.{ofWidth}
 use Rattle.machine.specs.declared.Receiver.{Receiver}
 use Rattle.reasons.specs.Reason.{givenOf}
 use Rattle.openings.specs.Given.{startAt, plainWindow}
@@ -67,14 +66,14 @@ startNumber s = cond (eqb s 16) 17 s
 
 unfoldable pub noting : Receiver → Bool → Request → Named → ℕ → Note
 noting rx begun request.Nothing l room = stays rx begun []
-noting rx begun (request.Plain u) l room = opens rx begun (ofWidth u) plainWindow freeNumber room
-noting rx begun (request.Free u w) l room = opens rx begun (ofWidth u) w freeNumber room
-noting rx begun (request.At u w s) l room = opens rx begun (ofWidth u) w (startNumber s) room
+noting rx begun (request.Plain k) l room = opens rx begun k plainWindow freeNumber room
+noting rx begun (request.Free k w) l room = opens rx begun k w freeNumber room
+noting rx begun (request.At k w s) l room = opens rx begun k w (startNumber s) room
 noting rx begun (request.Piece cap n) l room = taped begun (tapedHearing rx (pieceOf (take n (l .coordinates))) cap room)
-noting rx begun (request.Marked cap k n) l room = taped begun (tapedHearing rx (markedPiece (take k (l .marks)) (take n (l .coordinates))) cap room)
+noting rx begun (request.Marked cap m n) l room = taped begun (tapedHearing rx (markedPiece (take m (l .marks)) (take n (l .coordinates))) cap room)
 noting rx begun (request.Finish cap) l room = taped begun (tapedFinishing rx cap room)
 noting rx begun request.Unread l room = stays rx begun unreadLine
-noting rx begun (request.Sender u) l room = stays rx begun unreadLine
+noting rx begun (request.Sender k) l room = stays rx begun unreadLine
 noting rx begun (request.Send w cap) l room = stays rx begun unreadLine
 noting rx begun (request.Sample x y) l room = stays rx begun unreadLine
 noting rx begun request.Pending l room = stays rx begun unreadLine

@@ -10,7 +10,6 @@ ghost use mathlib.Core.Path.{_≡_};
 ghost use mathlib.Core.List.{List};
 ghost use Prim.Native.Nat.{ℕ, _≤_};
 ghost use lib.ListN.{length};
-ghost use Rattle.points.specs.Agreed.{ofWidth};
 ghost use Rattle.recorder.specs.Promise.{Is};
 ghost use Rattle.told.specs.Piece.{pieceOf, markedPiece};
 ghost use Rattle.taping.specs.Taping.{Ran};
@@ -51,14 +50,14 @@ fn unread(rx: Receiver, begun: bool, bytes: &[u8], page: &mut [u8]) -> Noted
 fn opening(
     rx: Receiver,
     begun: bool,
-    u: u32,
+    accord: Accord,
     window: u32,
     start: u32,
     bytes: &mut [u8],
     page: &mut [u8],
 ) -> Noted
     requires { ⌜ pageRoom ≤ length (now page) ⌝ }
-    ensures { λ r. ⌜ Notes (opens rx begun (ofWidth u) window start (length (now (bytes .entry)))) (now (bytes .entry)) (now (page .entry)) r (now (bytes .exit)) (now (page .exit)) ⌝ }
+    ensures { λ r. ⌜ Notes (opens rx begun accord window start (length (now (bytes .entry)))) (now (bytes .entry)) (now (page .entry)) r (now (bytes .exit)) (now (page .exit)) ⌝ }
 {
     if begun {
         return Noted {
@@ -69,7 +68,6 @@ fn opening(
             ends: true,
         };
     }
-    let accord = Accord { u: u };
     let n = recorder::record_open(accord, window, start, bytes);
     let o = openings::open_receiver(accord, window, openings::start_at(start));
     let receiver = o.receiver;
@@ -187,11 +185,23 @@ pub fn note(
             at: 0,
             ends: false,
         },
-        Request::Plain { u } => opening(rx, begun, u, openings::PLAIN_WINDOW, FREE, bytes, page),
-        Request::Free { u, window } => opening(rx, begun, u, window, FREE, bytes, page),
-        Request::At { u, window, state } => {
-            opening(rx, begun, u, window, start_number(state), bytes, page)
+        Request::Plain { accord } => opening(
+            rx,
+            begun,
+            accord,
+            openings::PLAIN_WINDOW,
+            FREE,
+            bytes,
+            page,
+        ),
+        Request::Free { accord, window } => {
+            opening(rx, begun, accord, window, FREE, bytes, page)
         }
+        Request::At {
+            accord,
+            window,
+            state,
+        } => opening(rx, begun, accord, window, start_number(state), bytes, page),
         Request::Piece { cap, count } => hear(
             rx,
             begun,

@@ -5,6 +5,7 @@
 use machine::Core;
 use machine::Receiver;
 use points::Accord;
+use points::Map;
 use reasons::Why;
 ghost use mathlib.Core.Path.{_≡_};
 ghost use mathlib.Core.Bool.{true, cond, _&&_};
@@ -31,7 +32,14 @@ pub fn closed_receiver() -> Receiver
 {
     Receiver {
         live: false,
-        core: fresh_core(Accord { u: 0 }, 0, 0),
+        core: fresh_core(
+            Accord {
+                map: Map::Round,
+                u: 0,
+            },
+            0,
+            0,
+        ),
         sums: [0u64; 16],
         planes: [0u64; 48],
         picks: [0u64; 72],

@@ -1,4 +1,5 @@
-// The points of the line: what both ends agree on, the first 256 A points, the quarter turn, and the point with a label and a number.
+// The points of the line: what both ends agree on, the first 256 A points, the quarter turn, and the round map's point with a label
+// and a number. The square map stands in crate square, and crate maps has both.
 //
 // All coordinates are odd, and twice those of the paper. Label l has the A points turned clockwise l times: A 0, C 1, B 2,
 // D 3. A caller makes the table once by `table::a_points` and lends it to `point_of`, the only way to a point.
@@ -10,8 +11,15 @@ ghost use Rattle.points.specs.Agreed.{isAccord};
 ghost use Rattle.points.specs.Points.{coordinates, aPoint};
 ghost use Rattle.points.specs.Turn.{turned, pointOf, Small};
 
-// What both ends of a line must agree on before the first word: the width u, the number of bits in w1 and in w2.
+// Which points a line has.
+pub enum Map {
+    Round,
+    Square,
+}
+
+// What both ends of a line must agree on before the first word: the map, and the width u, the number of bits in w1 and in w2.
 pub struct Accord {
+    pub map: Map,
     pub u: u32,
 }
 
@@ -19,7 +27,12 @@ pub struct Accord {
 pub fn is_accord(a: Accord) -> bool
     ensures { λ r. ⌜ r ≡ isAccord a ⌝ }
 {
-    a.u <= 8
+    let map = a.map;
+    let u = a.u;
+    match map {
+        Map::Round => u <= 8,
+        Map::Square => u <= 8 && u % 2 == 0,
+    }
 }
 
 pub struct Point {

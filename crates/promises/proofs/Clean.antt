@@ -9,14 +9,12 @@
 use mathlib.Core.Path.{_≡_, refl, sym, ap, ap₂, subst, _∙_}
 use mathlib.Core.Bool.{Bool, true, false}
 use mathlib.Core.List.{List, [], _∷_, _++_, map}
-use Prim.Native.Nat.{ℕ, zero, suc, _+_, _*_, _/_, _^_, _≤_}
+use Prim.Native.Nat.{ℕ, zero, suc, _+_, _*_, _/_}
 use native.Mathlib.Omega.{arith}
 use lib.IntN.{ℤ, pos, negsuc, negℤ, natAbs, _+ℤ_, +ℤ-idl, +ℤ-invr, -ℤ-+ℤ-cancel, pos-*ℤ-pos, pos-*ℤ-negsuc}
 use lib.ListN.{take}
-use lib.Pow.{pow-mono}
 use Rattle.points.specs.declared.Accord.{Accord}
 use Rattle.points.specs.Agreed.{isAccord}
-use Rattle.points.proofs.Agreed.{accord-width}
 use Rattle.samples.specs.Given.{GivenSample}
 use Rattle.samples.proofs.Laws.{sample-point-heard}
 use Rattle.wei.specs.Word.{isWord}
@@ -24,17 +22,17 @@ use Rattle.wei.specs.State.{nextState}
 use Rattle.wei.specs.Symbol.{Symbol, Valid, AllowedFrom, firstLabel, lastLabel, symbolOf, symbolsFrom}
 use Rattle.points.specs.declared.Point.{Point}
 use Rattle.points.specs.Turn.{Small}
-use Rattle.points.specs.Pair.{firstPoint, secondPoint}
-use Rattle.points.proofs.Turns.{small-point}
-use Rattle.points.proofs.Apart.{symbols-apart}
+use Rattle.maps.specs.PointMap.{firstAt, secondAt}
+use Rattle.maps.proofs.Apart.{small-at, symbols-apart}
 use Rattle.trellis.specs.Lists.{Every}
 use Rattle.trellis.specs.Measure.{Two, counted, firstFar, secondFar, farOf}
 use Rattle.trellis.specs.Clean.{Hits, Exact}
-use Rattle.nearest.specs.declared.Spot.{Spot}
+use Rattle.spots.specs.declared.Spot.{Spot}
+use Rattle.spots.specs.Distance.{onLine, difference, square, distance}
 use Rattle.nearest.specs.declared.Received.{Received}
 use Rattle.nearest.specs.declared.Received.the-variants.{Heard}
 use Rattle.nearest.specs.Found.{heardAs}
-use Rattle.nearest.specs.Line.{onLine, difference, square, distance, lineDistance, lineMeasure}
+use Rattle.nearest.specs.Line.{lineDistance, lineMeasure}
 use Rattle.sender.specs.declared.Sender.{Sender}
 use Rattle.sender.specs.Send.{after, four, opening}
 use Rattle.sender.specs.Run as sender
@@ -79,8 +77,8 @@ one-point h p q e f =
     let y : p .y ≡ q .y = one-coordinate (h .y) (p .y) (q .y) (omega arith) (omega arith) in
     λ i. record { x = x i; y = y i }
 
-far-points : (ac : Accord) (g h : Spot) (c : Symbol) → lineMeasure ac .far (heardAs (Heard g) (Heard h)) c ≡ counted (distance g (firstPoint c)) + counted (distance h (secondPoint c))
-unfolding farOf firstFar secondFar lineDistance firstPoint secondPoint
+far-points : (ac : Accord) (g h : Spot) (c : Symbol) → lineMeasure ac .far (heardAs (Heard g) (Heard h)) c ≡ counted (distance g (firstAt ac c)) + counted (distance h (secondAt ac c))
+unfolding farOf firstFar secondFar lineDistance firstAt secondAt
 far-points ac g h c = refl
 
 -- what counts for nothing is no distance
@@ -91,9 +89,9 @@ none-counted a b e = (omega arith, omega arith)
 -- both points heard
 one-symbol : (ac : Accord) → isAccord ac ≡ true → (p q : Spot) → Exact (ac .u) (lineMeasure ac) (heardAs (Heard p) (Heard q))
 one-symbol ac h p q c d v w e f =
-    let (c₁, c₂) = none-counted (distance p (firstPoint c)) (distance q (secondPoint c)) (sym (far-points ac p q c) ∙ e) in
-    let (d₁, d₂) = none-counted (distance p (firstPoint d)) (distance q (secondPoint d)) (sym (far-points ac p q d) ∙ f) in
-    symbols-apart (ac .u) c d (accord-width ac h) v w (one-point p (firstPoint c) (firstPoint d) c₁ d₁) (one-point q (secondPoint c) (secondPoint d) c₂ d₂)
+    let (c₁, c₂) = none-counted (distance p (firstAt ac c)) (distance q (secondAt ac c)) (sym (far-points ac p q c) ∙ e) in
+    let (d₁, d₂) = none-counted (distance p (firstAt ac d)) (distance q (secondAt ac d)) (sym (far-points ac p q d) ∙ f) in
+    symbols-apart ac h c d v w (one-point p (firstAt ac c) (firstAt ac d) c₁ d₁) (one-point q (secondAt ac c) (secondAt ac d) c₂ d₂)
 
 -- ---- symbols heard exactly
 
@@ -105,53 +103,52 @@ counts-nothing : {d : ℕ} → d ≡ 0 → counted d ≡ 0
 unfolding counted
 counts-nothing e = omega arith
 
-pub hits : (ac : Accord) (cs : List Symbol) → Hits (lineMeasure ac) (map heardExactly cs) cs
+pub hits : (ac : Accord) (cs : List Symbol) → Hits (lineMeasure ac) (map (heardExactly ac) cs) cs
 hits ac [] = tt
 hits ac (c ∷ cs) = (
-  far-points ac (spotAt (firstPoint c)) (spotAt (secondPoint c)) c ∙ ap₂ (λ (a b : ℕ). a + b)
-      (counts-nothing (at-itself (firstPoint c))) (counts-nothing (at-itself (secondPoint c))),
+  far-points ac (spotAt (firstAt ac c)) (spotAt (secondAt ac c)) c ∙ ap₂ (λ (a b : ℕ). a + b)
+      (counts-nothing (at-itself (firstAt ac c))) (counts-nothing (at-itself (secondAt ac c))),
   hits ac cs,
 )
 
-pub exact : (ac : Accord) → isAccord ac ≡ true → (cs : List Symbol) → Every (Exact (ac .u) (lineMeasure ac)) (map heardExactly cs)
+pub exact : (ac : Accord) → isAccord ac ≡ true → (cs : List Symbol) → Every (Exact (ac .u) (lineMeasure ac)) (map (heardExactly ac) cs)
 exact ac h [] = tt
-exact ac h (c ∷ cs) = (one-symbol ac h (spotAt (firstPoint c)) (spotAt (secondPoint c)), exact ac h cs)
+exact ac h (c ∷ cs) = (one-symbol ac h (spotAt (firstAt ac c)) (spotAt (secondAt ac c)), exact ac h cs)
 
-take-symbols : (u s q m : ℕ) (ns : List ℕ) → take m (map heardExactly (symbolsFrom u s q ns)) ≡ map heardExactly (symbolsFrom u s q (take m ns))
+take-symbols : (ac : Accord) (s q m : ℕ) (ns : List ℕ) → let u = ac .u in take m (map (heardExactly ac) (symbolsFrom u s q ns)) ≡ map (heardExactly ac) (symbolsFrom u s q (take m ns))
 unfolding symbolsFrom
-take-symbols u s q zero ns = refl
-take-symbols u s q (suc m) [] = refl
-take-symbols u s q (suc m) (n ∷ ns) =
-    let c = symbolOf u s q n in
-    ap (λ (l : List (Two Received)). heardExactly c ∷ l) (take-symbols u (nextState s (c .i1) (c .i2)) (firstLabel c) m ns)
+take-symbols ac s q zero ns = refl
+take-symbols ac s q (suc m) [] = refl
+take-symbols ac s q (suc m) (n ∷ ns) =
+    let c = symbolOf (ac .u) s q n in
+    ap (λ (l : List (Two Received)). heardExactly ac c ∷ l) (take-symbols ac (nextState s (c .i1) (c .i2)) (firstLabel c) m ns)
 
 pub first-sent : (ac : Accord) (m : ℕ) (sent : List ℕ) → take m (cleanly ac sent) ≡ cleanly ac (take m sent)
-first-sent ac m sent = take-symbols (ac .u) 0 0 m sent
+first-sent ac m sent = take-symbols ac 0 0 m sent
 
-pub read-back : (cs : List Symbol) → symbolsOf (allOnLine (sender.coordinatesOf cs)) ≡ map heardExactly cs
+pub read-back : (ac : Accord) (cs : List Symbol) → symbolsOf (allOnLine (sender.coordinatesOf ac cs)) ≡ map (heardExactly ac) cs
 unfolding four
-read-back [] = refl
-read-back (c ∷ cs) = ap (λ (l : List (Two Received)). heardExactly c ∷ l) (read-back cs)
+read-back ac [] = refl
+read-back ac (c ∷ cs) = ap (λ (l : List (Two Received)). heardExactly ac c ∷ l) (read-back ac cs)
 
 -- ---- as floats
 
-small : (u : ℕ) (c : Symbol) → u ≤ 8 → Valid u c → Small (firstPoint c) × Small (secondPoint c)
-unfolding firstPoint secondPoint
-small u c h v =
-    let k : 2 ^ u ≤ 256 = pow-mono h in
-    (small-point (firstLabel c) (c .w1) (omega (arith, v .w1-below)), small-point (lastLabel c) (c .w2) (omega (arith, v .w2-below)))
+small : (ac : Accord) (c : Symbol) → isAccord ac ≡ true → Valid (ac .u) c → Small (firstAt ac c) × Small (secondAt ac c)
+unfolding firstAt secondAt
+small ac c h v = (small-at ac h (firstLabel c) (c .w1) (v .w1-below), small-at ac h (lastLabel c) (c .w2) (v .w2-below))
 
 point-floats : (p : Point) → Small p → (ps : List ℤ) → floatsHeard ps ≡ samplesAt (allOnLine ps) → floatsHeard (p .x ∷ p .y ∷ ps) ≡ samplesAt (allOnLine (p .x ∷ p .y ∷ ps))
 point-floats p h ps e =
     ap₂ (λ (g : GivenSample) (l : List GivenSample). g ∷ l) (sample-point-heard (p .x) (p .y) (omega (arith, h .x-small)) (omega (arith, h .y-small))) e
 
-pub floats : (u s : ℕ) (cs : List Symbol) → u ≤ 8 → AllowedFrom u s cs → floatsHeard (sender.coordinatesOf cs) ≡ samplesAt (allOnLine (sender.coordinatesOf cs))
+pub floats : (ac : Accord) (s : ℕ) (cs : List Symbol) → isAccord ac ≡ true → AllowedFrom (ac .u) s cs →
+    floatsHeard (sender.coordinatesOf ac cs) ≡ samplesAt (allOnLine (sender.coordinatesOf ac cs))
 unfolding four
-floats u s [] h a = refl
-floats u s (c ∷ cs) h a =
-    let (p, q) = small u c h (a .0 .valid) in
-    let rest = sender.coordinatesOf cs in
-    point-floats (firstPoint c) p (secondPoint c .x ∷ secondPoint c .y ∷ rest) (point-floats (secondPoint c) q rest (floats u (nextState s (c .i1) (c .i2)) cs h (a .1)))
+floats ac s [] h a = refl
+floats ac s (c ∷ cs) h a =
+    let (p, q) = small ac c h (a .0 .valid) in
+    let rest = sender.coordinatesOf ac cs in
+    point-floats (firstAt ac c) p (secondAt ac c .x ∷ secondAt ac c .y ∷ rest) (point-floats (secondAt ac c) q rest (floats ac (nextState s (c .i1) (c .i2)) cs h (a .1)))
 
 pub agreed-sent : (ac : Accord) (ws : List ℕ) (ps : List ℤ) (s : Sender) → sender.Talk ac ws ps s → isAccord ac ≡ true
 agreed-sent ac ws ps s k = along (λ _ _ _. isAccord ac ≡ true) (λ _ _ _ _ _ e _. e) ac go ws ps s k

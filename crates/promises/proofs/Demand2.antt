@@ -5,7 +5,8 @@
 -- these two bits with a free start": `asHeard` (trellis/specs/Words) clears bits 1 and 2 of the first word there, and changes nothing
 -- with start 0. Wish 8: demand 2 "reads 'least sum of counted distances'", and the order of ties is its own: both are in `lineMeasure`
 -- (nearest/specs/Line). And with no condition on refusals: "if the symbols taken are the first m of the sender's, the words written so far begin
--- the words sent, and with a finish that succeeds they are the first m."
+-- the words sent, and with a finish that succeeds they are the first m." Wish 11: the round trip "is for the same map at both ends": both
+-- have the one accord `ac`.
 --
 -- `Talk u w b took ws rx` and `Ended u w b took ws` (specs/Talk) are any runs of calls on a receiver, cut as they may be and whichever
 -- calls refuse; `sender.Talk u sent ps s` (sender/specs/Run) is any run of calls on a sender that accepted the words `sent` and wrote
@@ -24,7 +25,6 @@ use Prim.Native.Nat.{ℕ}
 use native.Mathlib.Omega.{arith}
 use lib.IntN.{ℤ}
 use lib.ListN.{take, drop, take-append-drop}
-use Rattle.points.proofs.Agreed.{accord-width}
 use Rattle.points.specs.declared.Accord.{Accord}
 use Rattle.wei.specs.Word.{isWord}
 use Rattle.wei.specs.Symbol.{Symbol, symbolsFrom}
@@ -109,7 +109,7 @@ module _ (ac : Accord) (w : ℕ) (b : Start) (z : StartsAtZero b) (sent : List �
 sent-cleanly : (ac : Accord) (sent : List ℕ) (ps : List ℤ) (s : Sender) → sender.Talk ac sent ps s → symbolsOf (allOnLine ps) ≡ cleanly ac sent
 sent-cleanly ac sent ps s k =
     let r = ran ac sent ps s k in
-    ap (λ (l : List ℤ). symbolsOf (allOnLine l)) (r .written ∙ ap sender.coordinatesOf (r .are)) ∙ read-back (symbolsFrom (ac .u) 0 0 sent)
+    ap (λ (l : List ℤ). symbolsOf (allOnLine l)) (r .written ∙ ap (sender.coordinatesOf ac) (r .are)) ∙ read-back ac (symbolsFrom (ac .u) 0 0 sent)
 
 module _ (ac : Accord) (w : ℕ) (b : Start) (z : StartsAtZero b) (sent : List ℕ) (ps : List ℤ) (s : Sender) (k : sender.Talk ac sent ps s) where
   words-sent : Every (λ n. isWord (ac .u) n ≡ true) sent
@@ -135,4 +135,4 @@ module _ (ac : Accord) (w : ℕ) (b : Start) (z : StartsAtZero b) (sent : List �
 pub as-floats : (ac : Accord) (sent : List ℕ) (ps : List ℤ) (s : Sender) → sender.Talk ac sent ps s → floatsHeard ps ≡ samplesAt (allOnLine ps)
 as-floats ac sent ps s k =
     let r = ran ac sent ps s k in
-    subst (λ (l : List ℤ). floatsHeard l ≡ samplesAt (allOnLine l)) (sym (r .written)) (floats (ac .u) 0 (r .symbols) (accord-width ac (agreed-sent ac sent ps s k)) (r .allowed))
+    subst (λ (l : List ℤ). floatsHeard l ≡ samplesAt (allOnLine l)) (sym (r .written)) (floats ac 0 (r .symbols) (agreed-sent ac sent ps s k) (r .allowed))

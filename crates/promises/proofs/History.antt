@@ -13,7 +13,7 @@ use lib.ListN.{length, replicate, length-replicate}
 use Rattle.points.specs.declared.Accord.{Accord}
 use Rattle.calls.specs.Calls.{walk}
 use Rattle.trellis.specs.Measure.{Two}
-use Rattle.nearest.specs.declared.Spot.{Spot}
+use Rattle.spots.specs.declared.Spot.{Spot}
 use Rattle.nearest.specs.declared.Received.{Received}
 use Rattle.nearest.specs.declared.Received.the-variants.{Heard, Missing}
 use Rattle.nearest.specs.Line.{BothInRange}

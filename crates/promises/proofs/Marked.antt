@@ -5,7 +5,7 @@ use mathlib.Core.List.{map}
 use lib.Ieee.{toBits}
 use Rattle.points.specs.Points.{aPoint, coordinates}
 use Rattle.points.specs.Turn.{pointOf}
-use Rattle.points.specs.Pair.{firstPoint, secondPoint}
+use Rattle.maps.specs.PointMap.{firstAt, secondAt}
 use Rattle.wei.specs.Word.{unpacked}
 use Rattle.wei.specs.State.{nextState}
 use Rattle.wei.specs.Label.{secondLabel}
@@ -15,5 +15,5 @@ use Rattle.sender.specs.Send.{after, four, sending}
 use Rattle.promises.specs.Marked.{MarkedRow, markedRows}
 
 pub marked-rows : map (λ (r : MarkedRow). r .gives) markedRows ≡ map (λ (r : MarkedRow). r .printed) markedRows
-unfolding markedRows sending symbolOf after four firstPoint secondPoint lastLabel pointOf aPoint coordinates unpacked nextState secondLabel heardCoordinate toBits
+unfolding markedRows sending symbolOf after four firstAt secondAt lastLabel pointOf aPoint coordinates unpacked nextState secondLabel heardCoordinate toBits
 marked-rows = refl

@@ -13,7 +13,7 @@ use Rattle.requests.specs.declared.Request.{Request}
 use Rattle.requests.specs.declared.Request.the-variants as request
 use Rattle.requests.specs.Named.{Named}
 use Rattle.requests.specs.Verb.{Fit}
-use Rattle.requests.proofs.Readers.{after, alone, cut-off}
+use Rattle.text.proofs.Cut.{after, alone, cut-off}
 use Rattle.protocol.proofs.Fits.{fits}
 use Rattle.protocol.specs.Request.{verbOf, pendingAlone, lineOf, requestOf, lineFills, wordFills, markFills, coordinatesOf, wordsOf, marksIn, Reads}
 

@@ -1,6 +1,6 @@
 -- THE THEOREM. What the recorder writes from an opening on, however cut into calls and whichever refuse, replays as `agree N` with N the
--- words written, with or without a finish. `Recording` and `Ended` (specs/Recording) are any runs of calls; `verdictOf` (replay/specs/Meaning)
--- is 02's verdict on the bytes of a capture.
+-- words written, with or without a finish, on either map. `Recording` and `Ended` (specs/Recording) are any runs of calls; `verdictOf`
+-- (replay/specs/Meaning) is 02's verdict on the bytes of a capture.
 --   agrees         without a finish
 --   ended-agrees   with one
 use mathlib.Core.Path.{_≡_, refl, sym, ap, ap₂, _∙_}
@@ -234,17 +234,17 @@ follows k w s ws bs rx (opens r is z bytes b n o e) =
       told-is = record { accord = k; window = w; start = given.startOf (startAt s); heard = [] };
       fine = is .fresh z .0;
       is = is .fresh z .1;
-      records = openEntry (k .u) w s ∷ [];
-      bytes = taken-words (bytesOf (openEntry (k .u) w s ∷ [])) bytes b 4 four put;
-      form = open-runs (k .u) w s;
+      records = openEntry k w s ∷ [];
+      bytes = taken-words (bytesOf (openEntry k w s ∷ [])) bytes b 4 four put;
+      form = open-runs k w s;
       number = 1;
       sees = open-seen k w s (sym (is .owed) ∙ z);
     }
   where
-    four : _≡_ {A = ℕ} 4 (length (bytesOf (openEntry (k .u) w s ∷ [])))
+    four : _≡_ {A = ℕ} 4 (length (bytesOf (openEntry k w s ∷ [])))
     four = sym (open-space k w s)
 
-    put : b ≡ bytesOf (openEntry (k .u) w s ∷ []) ++ drop (length (bytesOf (openEntry (k .u) w s ∷ []))) bytes
+    put : b ≡ bytesOf (openEntry k w s ∷ []) ++ drop (length (bytesOf (openEntry k w s ∷ []))) bytes
     put = rw (eq-eqb (openingRecorded k w s (length bytes)) 0 (sym (o .number) ∙ e)) at (o .bytes-are)
 follows k w s ws bs rx (hears {ws = vs} {bs = cs} {rx = ry} q p out bytes o b r is) =
     let F = follows k w s vs cs ry q in

@@ -14,6 +14,9 @@ use Rattle.records.specs.declared.Phase.{Phase}
 use Rattle.records.specs.declared.Phase.the-variants.{Start, Opened, Running, Over}
 use Rattle.records.specs.declared.Role.the-variants.{Symbol, Word, Finish}
 use Rattle.records.specs.Kinds.{kindOf, mayStand, afterRole, begins}
+use Rattle.points.specs.declared.Map.{Map}
+use Rattle.points.specs.declared.Map.the-variants.{Round, Square}
+use Rattle.points.specs.declared.Accord.{Accord}
 use Rattle.records.specs.Values.{Entry, openEntry, halfOf, byteFits, fitsFrom, bodyFits}
 use Rattle.records.specs.Reading.{WellFormed}
 use Rattle.tape.specs.Front.{wordEntries, symbolRecords, finishRecords}
@@ -82,9 +85,13 @@ symbol-runs p r y ws = go (y .first) (y .second)
     go Missing (Heard b) = record { formed = (r .symbol, refl, refl, k .0); ready = after }
     go Missing Missing = record { formed = (r .symbol, refl, refl, k .0); ready = after }
 
-pub open-runs : (u w s : ℕ) → Runs Start (openEntry u w s ∷ [])
+pub open-runs : (k : Accord) (w s : ℕ) → Runs Start (openEntry k w s ∷ [])
 unfolding kindOf fitsFrom byteFits
-open-runs u w s = record { formed = (refl, refl, refl, tt); ready = ready-opened }
+open-runs k w s = go (k .map)
+  where
+    go : (n : Map) → Runs Start (openEntry (record { map = n; u = k .u }) w s ∷ [])
+    go Round = record { formed = (refl, refl, refl, tt); ready = ready-opened }
+    go Square = record { formed = (refl, refl, refl, tt); ready = ready-opened }
 
 -- after a finish and its words the capture may end
 pub finish-formed : (p : Phase) → Ready p → (ws : List ℕ) → Formed p (finishRecords ws) × (begins (phaseAfter p (finishRecords ws)) ≡ true)

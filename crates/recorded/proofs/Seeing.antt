@@ -15,11 +15,14 @@ use lib.Pow.{pow-mono}
 use Rattle.calls.specs.Calls.{walk, fresh, rest}
 use Rattle.trellis.specs.Measure.{Two}
 use Rattle.trellis.specs.Lists.{Every}
-use Rattle.nearest.specs.declared.Spot.{Spot}
+use Rattle.spots.specs.declared.Spot.{Spot}
 use Rattle.nearest.specs.declared.Received.{Received}
 use Rattle.nearest.specs.declared.Received.the-variants.{Heard, Missing}
 use Rattle.nearest.specs.Line.{InRange}
 use Rattle.points.specs.declared.Accord.{Accord}
+use Rattle.points.specs.declared.Map.{Map}
+use Rattle.points.specs.declared.Map.the-variants.{Round, Square}
+use Rattle.points.proofs.Agreed.{accord-width}
 use Rattle.machine.proofs.Owed.{fresh-most, rest-most}
 use Rattle.reasons.specs.Reason.{Reason, reason}
 use Rattle.openings.specs.Given.{startAt}
@@ -109,7 +112,7 @@ all-small u h [] k = tt
 all-small u h (w ∷ ws) k = (word-small u w h (k .0), all-small u h ws (k .1))
 
 narrow : (t : Told) → Fine t → t .accord .u ≤ 8
-narrow t f = leb-true (t .accord .u) 8 (f .agreed)
+narrow t f = accord-width (t .accord) (f .agreed)
 
 module _ (t : Told) (ys : List (Two Received)) (f : Fine (withHeard t ys)) (y : Two Received) (g : Fine (withHeard t (y ∷ ys))) (room : ℕ) (z : judgeSymbol t ys y room .number ≡ 0) where
   abbrev ws : List ℕ
@@ -168,10 +171,16 @@ module _ (t : Told) (ys : List (Two Received)) (f : Fine (withHeard t ys)) (y : 
 
 -- ---- an open and a finish
 
+-- the kind says which map's line it is
 pub open-seen : (k : Accord) (w s : ℕ) → openingOwed k w (startAt s) ≡ 0 →
-    takings nothingSeen (openEntry (k .u) w s ∷ []) ≡ seen (told (record { accord = k; window = w; start = given.startOf (startAt s); heard = [] })) [] 1 0
+    takings nothingSeen (openEntry k w s ∷ []) ≡ seen (told (record { accord = k; window = w; start = given.startOf (startAt s); heard = [] })) [] 1 0
 unfolding takings taking kindOf
-open-seen k w s z = rw z
+open-seen k w s = go (k .map)
+  where
+    go : (n : Map) → let v : Accord = record { map = n; u = k .u } in openingOwed v w (startAt s) ≡ 0 →
+        takings nothingSeen (openEntry v w s ∷ []) ≡ seen (told (record { accord = v; window = w; start = given.startOf (startAt s); heard = [] })) [] 1 0
+    go Round z = rw z
+    go Square z = rw z
 
 finish-owed : (t : Told) → Fine t → finishOwed t 65 ≡ record { reason = reason 0; words = rest (speakerOf t) (t .heard); closes = true }
 unfolding finishOwed

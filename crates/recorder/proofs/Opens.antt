@@ -11,6 +11,7 @@ use borrow.Author.Tests.{lt-ltb, le-ltb, eq-eqb, ne-eqb, eqb-true, leb-true}
 use lib.Dec.{eqb, leb}
 use lib.ListN.{length}
 use Rattle.points.specs.declared.Accord.{Accord}
+use Rattle.points.proofs.Agreed.{accord-width}
 use Rattle.points.specs.Agreed.{isAccord}
 use Rattle.reasons.specs.Reason.{givenOf}
 use Rattle.openings.specs.declared.Opened.{Opened}
@@ -44,7 +45,7 @@ module _ (k : Accord) (w s : ℕ) (bytes : List ℕ) where
     unfolding bytesOf
     open-refused z = record { number = sym owed; bytes-are = rw (owed, ne-eqb n 0 z) }
 
-    pub open-done : n ≡ 0 → (b : List ℕ) → Fronted (openEntry (k .u) w s ∷ []) bytes b → OpenTaped k w s bytes n b
+    pub open-done : n ≡ 0 → (b : List ℕ) → Fronted (openEntry k w s ∷ []) bytes b → OpenTaped k w s bytes n b
     open-done z b put = record { number = sym owed; bytes-are = rw (owed, eq-eqb n 0 z) put }
 
     pub open-small : n ≡ 0 → (k .u < 256) × (w < 256) × (s < 256)
@@ -59,7 +60,7 @@ module _ (k : Accord) (w s : ℕ) (bytes : List ℕ) where
 
         go : (a b c d : Bool) → isAccord k ≡ a → leb w 64 ≡ c → startFits (startAt s) ≡ d → _≡_ {A = ℕ} (cond a (cond (b && c) (cond d 0 3) 2) 1) 0 →
             (k .u < 256) × (w < 256) × (s < 256)
-        go true true true true p q r e = (omega (arith, leb-true (k .u) 8 p), omega (arith, leb-true w 64 q), start-small r)
+        go true true true true p q r e = (omega (arith, accord-width k p), omega (arith, leb-true w 64 q), start-small r)
         go true true true false p q r e = absurd (omega arith)
         go true true false d p q r e = absurd (omega arith)
         go true false c d p q r e = absurd (omega arith)

@@ -25,7 +25,7 @@ use Rattle.records.specs.Values.{Entry, openEntry}
 use Rattle.tape.specs.Front.{symbolRecords, finishRecords, spaceOf}
 
 abbrev pub openRecords : Accord → ℕ → ℕ → List Entry
-openRecords k window start = openEntry (k .u) window start ∷ []
+openRecords k window start = openEntry k window start ∷ []
 
 -- ---- a piece
 

@@ -34,7 +34,7 @@ pub fn record_open(accord: Accord, window: u32, start: u32, bytes: &mut [u8]) ->
     if n != 0 {
         return n;
     }
-    tape::put_open(accord.u, window, start, bytes);
+    tape::put_open(accord, window, start, bytes);
     n
 }
 

@@ -35,16 +35,18 @@ use Rattle.records.proofs.Fits.{both-true, fits-front, fits-next}
 -- no body is longer than a frame can hold
 pub size-fits : (k : ℕ) → kindOf k .size ≤ 9
 unfolding kindOf
-size-fits k = go (eqb k 1) (eqb k 2) (eqb k 3) (eqb k 4) (eqb k 5)
+size-fits k = go (eqb k 1) (eqb k 2) (eqb k 3) (eqb k 4) (eqb k 5) (eqb k 6)
   where
-    go : (a b c d e : Bool)
-        → cond a (row Open 3) (cond b (row Symbol 8) (cond c (row Word 4) (cond d (row Finish 0) (cond e (row Symbol 9) (row Unknown 0))))) .size ≤ 9
-    go true b c d e = omega arith
-    go false true c d e = omega arith
-    go false false true d e = omega arith
-    go false false false true e = omega arith
-    go false false false false true = omega arith
-    go false false false false false = omega arith
+    go : (a b c d e f : Bool)
+        → cond a (row Open 3)
+        (cond b (row Symbol 8) (cond c (row Word 4) (cond d (row Finish 0) (cond e (row Symbol 9) (cond f (row Open 3) (row Unknown 0)))))) .size ≤ 9
+    go true b c d e f = omega arith
+    go false true c d e f = omega arith
+    go false false true d e f = omega arith
+    go false false false true e f = omega arith
+    go false false false false true f = omega arith
+    go false false false false false true = omega arith
+    go false false false false false false = omega arith
 
 false-true : false ≡ true → ⊥
 false-true e = let z : _≡_ {A = ℕ} 0 1 = cc in omega arith

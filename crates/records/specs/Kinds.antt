@@ -1,4 +1,4 @@
--- The kinds of records in one table, and where each may stand: 02, Wishes 2 and 4. A kind that is added later is a row of `kindOf`.
+-- The kinds of records in one table, and where each may stand: 02, Wishes 2, 4 and 11. A kind that is added later is a row of `kindOf`.
 --   kindOf k        "one byte of kind, then a body whose length the kind fixes"
 --   mayStand p r    whether a record of this role may stand in this phase
 --   afterRole p r   the phase after it
@@ -15,7 +15,7 @@ abbrev pub row : Role → ℕ → Kind
 row r n = record { role = r; size = n }
 
 -- "Kind 1, open: .. 3 bytes. Kind 2, symbol taken: .. 8 bytes. Kind 3, word released: 4 bytes .. Kind 4, finish: none"; "kind 5: one byte ..,
--- then the eight coordinate bytes"
+-- then the eight coordinate bytes"; "A capture with this map opens with kind 6, same body as kind 1"
 unfoldable pub kindOf : ℕ → Kind
 kindOf k =
     cond (eqb k 1) (row Open 3)
@@ -23,7 +23,8 @@ kindOf k =
     (cond (eqb k 3) (row Word 4)
     (cond (eqb k 4) (row Finish 0)
     (cond (eqb k 5) (row Symbol 9)
-    (row Unknown 0)))))
+    (cond (eqb k 6) (row Open 3)
+    (row Unknown 0))))))
 
 -- "Malformed is: an unknown kind, .. no open first .., a second open, a word right after the open, or anything but words after a finish"
 abbrev pub mayStand : Phase → Role → Bool

@@ -1,7 +1,8 @@
--- What the bytes of a body say, and the records that say something: 02, Wishes 2 and 4. Decoding and encoding stand side by side; that they undo
--- each other is proofs/Back.
+-- What the bytes of a body say, and the records that say something: 02, Wishes 2, 4 and 11. Decoding and encoding stand side by side; that they
+-- undo each other is proofs/Back.
 --   Entry               a record: its kind and its body
 --   widthOf, windowOf, startOf   of an open: "u, window, start (0 to 15, 16 for free), 3 bytes"
+--   mapIn k, accordOf k b   of an open of kind k: its map, and what both ends agree on; openKind: the kind that opens a map's line
 --   coordinateOf lo hi  "signed 16-bit coordinates, low byte first"; coordinatesOf k b the four of a symbol, markIn k b its mark
 --   byteFits k m i b    whether b may be the byte i of a body of kind k whose first byte is m; bodyFits k body: all of its bytes
 --   numberOf a b c d    "4 bytes, low byte first"; wordOf the one of a word
@@ -13,6 +14,9 @@ use mathlib.Core.List.{List, [], _∷_, _++_}
 use lib.Dec.{eqb, ltb, leb}
 use lib.IntN.{ℤ, pos, negsuc}
 use lib.ListN.{getD}
+use Rattle.points.specs.declared.Map.{Map}
+use Rattle.points.specs.declared.Map.the-variants.{Round, Square}
+use Rattle.points.specs.declared.Accord.{Accord}
 
 pub record Entry : Type 0 where
   pub kind : ℕ
@@ -31,6 +35,13 @@ windowOf b = getD b 1 0
 
 abbrev pub startOf : List ℕ → ℕ
 startOf b = getD b 2 0
+
+-- "A capture with this map opens with kind 6"
+abbrev pub mapIn : ℕ → Map
+mapIn k = cond (eqb k 6) Square Round
+
+abbrev pub accordOf : ℕ → List ℕ → Accord
+accordOf k b = record { map = mapIn k; u = widthOf b }
 
 -- two's complement: from 32768 on a number stands for itself less 65536
 unfoldable pub coordinateOf : ℕ → ℕ → ℤ
@@ -85,8 +96,12 @@ halfOf (negsuc n) = 65535 - n % 65536
 abbrev pub halfBytes : ℤ → List ℕ → List ℕ
 halfBytes z rest = (halfOf z % 256) ∷ (halfOf z / 256) ∷ rest
 
-abbrev pub openEntry : ℕ → ℕ → ℕ → Entry
-openEntry u window start = entry 1 (u ∷ window ∷ start ∷ [])
+abbrev pub openKind : Map → ℕ
+openKind Round = 1
+openKind Square = 6
+
+abbrev pub openEntry : Accord → ℕ → ℕ → Entry
+openEntry k window start = entry (openKind (k .map)) (k .u ∷ window ∷ start ∷ [])
 
 abbrev pub symbolEntry : ℤ → ℤ → ℤ → ℤ → Entry
 symbolEntry a b c d = entry 2 (halfBytes a (halfBytes b (halfBytes c (halfBytes d []))))

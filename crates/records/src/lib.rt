@@ -3,11 +3,12 @@
 // A capture is read by a byte step: `start` gives a frame, `push` takes one byte more. A frame holds one record at most, and says after each
 // byte whether a record has just become whole or the capture is malformed; at the end of input it is well formed exactly if the frame is
 // whole. specs/Reading says the same record by record, and proofs/Steps shows that the steps give it.
+use points::Map;
 ghost use mathlib.Core.Path.{_≡_};
 ghost use Prim.Native.Nat.{_+_, _≤_};
 ghost use lib.IntN.{natAbs};
 ghost use Rattle.records.specs.Kinds.{kindOf, mayStand, afterRole};
-ghost use Rattle.records.specs.Values.{byteFits, leadOf, coordinateOf, numberOf};
+ghost use Rattle.records.specs.Values.{byteFits, mapIn, leadOf, coordinateOf, numberOf};
 ghost use Rattle.records.specs.Frames.{capped, stageAt, begun, mayGrow, grown, fresh, pushed};
 
 // What a record is for.
@@ -85,6 +86,12 @@ pub fn kind_of(k: u8) -> Kind
         return Kind {
             role: Role::Symbol,
             size: 9,
+        };
+    }
+    if k == 6 {
+        return Kind {
+            role: Role::Open,
+            size: 3,
         };
     }
     Kind {
@@ -277,6 +284,13 @@ pub fn push(f: Frame, b: u8) -> Frame
         Stage::Whole => begin(f, b),
         Stage::Bad => f,
     }
+}
+
+// The map of an open of kind k.
+pub fn map_in(k: u8) -> Map
+    ensures { λ r. ⌜ r ≡ mapIn k ⌝ }
+{
+    if k == 6 { Map::Square } else { Map::Round }
 }
 
 // How many bytes stand before a symbol's coordinates: its mark, in a record of kind 5.

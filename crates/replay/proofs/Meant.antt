@@ -34,7 +34,7 @@ use Rattle.records.specs.declared.Stage.{Stage}
 use Rattle.records.specs.declared.Stage.the-variants.{Fresh, Part, Whole, Bad}
 use Rattle.records.specs.declared.Frame.{Frame}
 use Rattle.records.specs.Kinds.{kindOf}
-use Rattle.records.specs.Values.{Entry, widthOf, windowOf, startOf, markIn, coordinatesOf, wordOf}
+use Rattle.records.specs.Values.{Entry, accordOf, windowOf, startOf, markIn, coordinatesOf, wordOf}
 use Rattle.records.specs.Reading.{Ending, clean, malformed, readingOf}
 use Rattle.records.specs.Frames.{capped, fresh, following, endingOf, endingAt, cappedEnding}
 use Rattle.records.proofs.Counts.{capped-more}
@@ -139,24 +139,27 @@ module _ (s : State) (m : Seen) (p : Shows s m) where
 
   -- ---- an open
 
-  shows-open : (b : List ℕ) → Shows (code.opened s (widthOf b) (windowOf b) (startOf b)) (opens m b)
+  shows-open : (k : ℕ) (b : List ℕ) → Shows (code.opened s (accordOf k b) (windowOf b) (startOf b)) (opens m k b)
   unfolding code.opened
-  shows-open b = subst (λ (k : ℕ). Shows (cond (eqb k 0) (code.went s (o .receiver) (s .due) 0) (code.refusedBy s (o .why))) (opens m b)) (sym (g .owed)) (go (eqb n 0) refl)
+  shows-open k b =
+      subst (λ (r : ℕ). Shows (cond (eqb r 0) (code.went s (o .receiver) (s .due) 0) (code.refusedBy s (o .why))) (opens m k b)) (sym (g .owed))
+      (go (eqb n 0) refl)
     where
       o : Opening
-      o = opening (record { u = widthOf b }) (windowOf b) (startAt (startOf b))
+      o = opening (accordOf k b) (windowOf b) (startAt (startOf b))
 
       n : ℕ
-      n = openingOwed (record { u = widthOf b }) (windowOf b) (startAt (startOf b))
+      n = openingOwed (accordOf k b) (windowOf b) (startAt (startOf b))
 
-      g : Opens (record { u = widthOf b }) (windowOf b) (startAt (startOf b)) (record { receiver = o .receiver; why = o .why })
-      g = opening-opens (record { u = widthOf b }) (windowOf b) (startAt (startOf b))
+      g : Opens (accordOf k b) (windowOf b) (startAt (startOf b)) (record { receiver = o .receiver; why = o .why })
+      g = opening-opens (accordOf k b) (windowOf b) (startAt (startOf b))
 
-      go : (t : Bool) → eqb n 0 ≡ t → Shows (cond t (code.went s (o .receiver) (s .due) 0) (code.refusedBy s (o .why))) (cond t (went m (told (opened b)) []) (fault m (Refused (m .number) n)))
-      go true k =
-          let h = g .fresh (g .owed ∙ eqb-true n 0 k) in
+      go : (t : Bool) → eqb n 0 ≡ t → Shows (cond t (code.went s (o .receiver) (s .due) 0) (code.refusedBy s (o .why)))
+          (cond t (went m (told (opened k b)) []) (fault m (Refused (m .number) n)))
+      go true z =
+          let h = g .fresh (g .owed ∙ eqb-true n 0 z) in
           record { receiver = h .1; fine = h .0; due = nothing-left (s .due); long = p .long; records = counted; verdict = p .verdict }
-      go false k = refused-is (o .why) n (g .owed)
+      go false z = refused-is (o .why) n (g .owed)
 
   -- ---- a symbol and a finish
 
@@ -224,7 +227,7 @@ module _ (s : State) (m : Seen) (p : Shows s m) where
 
   shows-role : (r : Role) (n k : ℕ) (b : List ℕ) → Shows (code.byRole r s (capped n) k b) (byRole r m n k b)
   unfolding code.heard code.finished
-  shows-role Open n k b = shows-open b
+  shows-role Open n k b = shows-open k b
   shows-role Symbol n k b = unless-left _ _ (answers-symbol (m .line) (pieceIn k b) (p .receiver) (p .fine) k b refl)
   shows-role Word n k b = subst (λ (l : List ℕ). Shows (code.worded s (capped n) (wordOf b) l) (says m n (wordOf b) (m .due))) (sym (p .due)) (says-word n (wordOf b) (m .due) (p .due))
   shows-role Finish n k b = unless-left _ _ (answers-finish (m .line) (p .receiver) (p .fine))

@@ -1,8 +1,9 @@
 -- 02's whole case, and one capture for each kind of fault, computed: the machine is run on the bytes, and by `verdict-meant` what it finds is
 -- the verdict that is meant.
 --   whole w     02's whole case, whose last byte is w
---   rows        agree; another word; one missing; one too many; refused, an open and a symbol; no finish; a symbol whose first point is missing
---   form-rows   malformed: an empty capture, a cut record, kind 5 with a wrong mark or filler, kind 6, a second open, a word after the open,
+--   rows        agree; another word; one missing; one too many; refused, an open and a symbol; no finish; a symbol whose first point is missing;
+--               the square map, and an odd width of it
+--   form-rows   malformed: an empty capture, a cut record, kind 5 with a wrong mark or filler, kind 7, a second open, a word after the open,
 --               a symbol after the finish
 use mathlib.Core.Path.{_≡_, refl, sym, _∙_}
 use mathlib.Core.List.{List, [], _∷_, _++_}
@@ -17,7 +18,9 @@ use Rattle.trellis.specs.Pick.{least, near, gapOf, typeSum, bestI3}
 use Rattle.trellis.specs.Search.{range}
 use Rattle.trellis.specs.Speak.{speak, after}
 use Rattle.trellis.specs.Words.{word, wordParts}
-use Rattle.nearest.specs.Line.{distance, lineDistance}
+use Rattle.square.specs.Map.{squareOf, gridPoint}
+use Rattle.spots.specs.Distance.{distance}
+use Rattle.nearest.specs.Line.{lineDistance}
 use Rattle.nearest.specs.Found.{costOf, weighedOf}
 use Rattle.lists.specs.Tabled.{tabled}
 use Rattle.planes.specs.Planes.{carried, movedWords, movedOf, sameFrom, oldest}
@@ -43,6 +46,10 @@ use Rattle.replay.proofs.Meant.{endedAt, verdict-meant}
 abbrev open-record : List ℕ
 open-record = 1 ∷ 0 ∷ 64 ∷ 16 ∷ []
 
+-- the same on the square map
+abbrev square-record : List ℕ
+square-record = 6 ∷ 0 ∷ 64 ∷ 16 ∷ []
+
 abbrev symbol : List ℕ
 symbol = 2 ∷ 128 ∷ 0 ∷ 128 ∷ 0 ∷ 128 ∷ 0 ∷ 128 ∷ 0 ∷ []
 
@@ -63,7 +70,7 @@ computed-form : (replayed [] ≡ Malformed 0)
     × (replayed (open-record ++ (5 ∷ [])) ≡ Malformed 4)
     × (replayed (open-record ++ (5 ∷ 4 ∷ [])) ≡ Malformed 4)
     × (replayed (open-record ++ (5 ∷ 2 ∷ 1 ∷ 0 ∷ 0 ∷ 0 ∷ 1 ∷ [])) ≡ Malformed 4)
-    × (replayed (6 ∷ 0 ∷ 64 ∷ 16 ∷ []) ≡ Malformed 0)
+    × (replayed (7 ∷ 0 ∷ 64 ∷ 16 ∷ []) ≡ Malformed 0)
     × (replayed (open-record ++ open-record) ≡ Malformed 4)
     × (replayed (open-record ++ the-word 0) ≡ Malformed 4)
 unfolding feedings stepped settled code.took code.opened code.left frames.pushed frames.begun frames.grown frames.mayGrow frames.capped kindOf byteFits
@@ -80,12 +87,14 @@ computed : (replayed (whole 0) ≡ Agree 1)
     × (replayed (open-record ++ symbol ++ (4 ∷ 3 ∷ 0 ∷ [])) ≡ Malformed 14)
     × (replayed (whole 0 ++ symbol) ≡ Malformed 19)
     × (replayed (open-record ++ (5 ∷ 1 ∷ 0 ∷ 0 ∷ 0 ∷ 0 ∷ 0 ∷ 0 ∷ 0 ∷ 0 ∷ []) ++ (4 ∷ []) ++ the-word 0) ≡ Agree 1)
+    × (replayed (square-record ++ symbol ++ (4 ∷ []) ++ the-word 0) ≡ Agree 1)
+    × (replayed (6 ∷ 1 ∷ 64 ∷ 16 ∷ []) ≡ Refused 0 1)
 unfolding feedings stepped settled code.took code.opened code.heard code.finished code.answered code.unlessDue code.left frames.pushed frames.begun
     frames.grown frames.mayGrow frames.capped kindOf byteFits coordinateOf numberOf opening hearing finishing sound soundCore allUpTo opened shut freshSums running symbolAt
     faultAt faultOf taking agreedOf grown releasedOf oldest sameFrom carried movedWords movedOf tabled followed liveOf reachedOf sumAt stepAt firstStep winner
-    arrive weighedOf costOf bestI3 typeSum counted gapOf near least lineDistance distance pointOf aPoint coordinates secondLabel before between
+    arrive weighedOf costOf bestI3 typeSum counted gapOf near least lineDistance distance pointOf aPoint coordinates squareOf gridPoint secondLabel before between
     carryI1 carryI2 wayFrom range speak after endOf lastSymbols symbolBy numbersOf keptIn word wordParts packed
-computed = (refl, refl, refl, refl, refl, refl, refl, refl, refl, refl)
+computed = (refl, refl, refl, refl, refl, refl, refl, refl, refl, refl, refl, refl)
 
 abbrev says : List ℕ → Verdict → Type 0
 says bs v = cappedVerdict (verdictOf bs) ≡ v
@@ -98,23 +107,26 @@ pub rows : says (whole 0) (Agree 1)
     × says (open-record ++ (2 ∷ 255 ∷ 127 ∷ 0 ∷ 0 ∷ 0 ∷ 0 ∷ 0 ∷ 0 ∷ [])) (Refused 1 5)
     × says (open-record ++ symbol) (Agree 0)
     × says (open-record ++ (5 ∷ 1 ∷ 0 ∷ 0 ∷ 0 ∷ 0 ∷ 0 ∷ 0 ∷ 0 ∷ 0 ∷ []) ++ (4 ∷ []) ++ the-word 0) (Agree 1)
+    × says (square-record ++ symbol ++ (4 ∷ []) ++ the-word 0) (Agree 1)
+    × says (6 ∷ 1 ∷ 64 ∷ 16 ∷ []) (Refused 0 1)
 rows = (
   meant _ _ (computed .0),
   meant _ _ (computed .1),
   meant _ _ (computed .2),
   meant _ _ (computed .3),
-  meant _ _
-      (computed .4),
+  meant _ _ (computed .4),
   meant _ _ (computed .5),
   meant _ _ (computed .6),
   meant _ _ (computed .9),
+  meant _ _ (computed .10),
+  meant _ _ (computed .11),
 )
 
 pub form-rows : says [] (Malformed 0)
     × says (open-record ++ (5 ∷ [])) (Malformed 4)
     × says (open-record ++ (5 ∷ 4 ∷ [])) (Malformed 4)
     × says (open-record ++ (5 ∷ 2 ∷ 1 ∷ 0 ∷ 0 ∷ 0 ∷ 1 ∷ [])) (Malformed 4)
-    × says (6 ∷ 0 ∷ 64 ∷ 16 ∷ []) (Malformed 0)
+    × says (7 ∷ 0 ∷ 64 ∷ 16 ∷ []) (Malformed 0)
     × says (open-record ++ open-record) (Malformed 4)
     × says (open-record ++ the-word 0) (Malformed 4)
     × says (open-record ++ symbol ++ (4 ∷ 3 ∷ 0 ∷ [])) (Malformed 14)

@@ -1,4 +1,4 @@
--- The verdict on a capture, in the words of 02, Wishes 2 and 4, record by record: what a reader believes. The receiver stands here as what it has
+-- The verdict on a capture, in the words of 02, Wishes 2, 4 and 11, record by record: what a reader believes. The receiver stands here as what it has
 -- been told and what it owes for it (told/specs), not as a machine.
 --   Line            what the receiver has been told; closed before the open and after a finish
 --   Seen            the line, the words still due, the number of the next record, and the verdict so far: `Agree`, as long as no fault is found
@@ -19,7 +19,7 @@ use Rattle.openings.specs.Opening.{openingOwed}
 use Rattle.records.specs.declared.Role.{Role}
 use Rattle.records.specs.declared.Role.the-variants.{Open, Symbol, Word, Finish, Unknown}
 use Rattle.records.specs.Kinds.{kindOf}
-use Rattle.records.specs.Values.{Entry, widthOf, windowOf, startOf, markIn, coordinatesOf, wordOf}
+use Rattle.records.specs.Values.{Entry, accordOf, windowOf, startOf, markIn, coordinatesOf, wordOf}
 use Rattle.records.specs.Reading.{Ending, clean, malformed, readingOf}
 use Rattle.replay_step.specs.declared.Verdict.{Verdict}
 use Rattle.replay_step.specs.declared.Verdict.the-variants.{Agree, Differs, Extra, Missing, Refused, Malformed}
@@ -53,12 +53,12 @@ answered s n l ws = cond (eqb n 0) (went s l ws) (fault s (Refused (s .number) n
 abbrev pub room : ℕ
 room = 65
 
--- "Kind 1, open: u, window, start (0 to 15, 16 for free)"; "A refused open is `record 0 refused R`"
-abbrev pub opened : List ℕ → Told
-opened b = record { accord = record { u = widthOf b }; window = windowOf b; start = given.startOf (startAt (startOf b)); heard = [] }
+-- "Kind 1, open: u, window, start (0 to 15, 16 for free)", and kind 6, on the square map; "A refused open is `record 0 refused R`"
+abbrev pub opened : ℕ → List ℕ → Told
+opened k b = record { accord = accordOf k b; window = windowOf b; start = given.startOf (startAt (startOf b)); heard = [] }
 
-abbrev pub opens : Seen → List ℕ → Seen
-opens s b = answered s (openingOwed (record { u = widthOf b }) (windowOf b) (startAt (startOf b))) (told (opened b)) []
+abbrev pub opens : Seen → ℕ → List ℕ → Seen
+opens s k b = answered s (openingOwed (accordOf k b) (windowOf b) (startAt (startOf b))) (told (opened k b)) []
 
 -- "Kind 2, symbol taken", and kind 5, a symbol with missing points: a piece of one symbol with its mark, in kind 2 none; a closed line answers 9
 abbrev pub hears : Seen → Line → ℕ → List ℕ → Seen
@@ -83,7 +83,7 @@ says s n g [] = fault s (Extra (s .number) g)
 says s n g (h ∷ hs) = cond (eqb g h) (record { line = s .line; due = hs; number = s .number + 1; verdict = Agree (n + 1) }) (fault s (Differs (s .number) g h))
 
 abbrev pub byRole : Role → Seen → ℕ → ℕ → List ℕ → Seen
-byRole Open s n k b = opens s b
+byRole Open s n k b = opens s k b
 byRole Symbol s n k b = unlessDue s (s .due) (hears s (s .line) k b)
 byRole Word s n k b = says s n (wordOf b) (s .due)
 byRole Finish s n k b = unlessDue s (s .due) (ends s (s .line))

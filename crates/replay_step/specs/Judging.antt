@@ -2,13 +2,14 @@
 --   State, stateOf j ..    a judge together with the receiver's lists and the words that are due
 --   left shown given due   the words that are still due; firstDue the next of them
 --   answeredBy j why ..    the judge after the receiver's answer; tookWord j n g: after a word, where n agreed before it
---   opened s u w b         an open; heard s k body: a symbol, in a record of kind k; finished s: a finish
+--   opened s k w b         an open of the accord k; heard s k body: a symbol, in a record of kind k; finished s: a finish
 --   took s r               a record: after a fault nothing is looked at
 use Prim.Native.Nat.{ℕ, _+_}
 use mathlib.Core.Bool.{Bool, cond}
 use mathlib.Core.List.{List, [], _∷_, _++_}
 use lib.Dec.{eqb}
 use lib.ListN.{length, take, drop}
+use Rattle.points.specs.declared.Accord.{Accord}
 use Rattle.machine.specs.declared.Core.{Core}
 use Rattle.machine.specs.declared.Receiver.{Receiver}
 use Rattle.reasons.specs.declared.Why.{Why}
@@ -21,7 +22,7 @@ use Rattle.receiver.specs.Promise.{partsOf}
 use Rattle.records.specs.declared.Role.{Role}
 use Rattle.records.specs.declared.Role.the-variants.{Open, Symbol, Word, Finish, Unknown}
 use Rattle.records.specs.Kinds.{kindOf}
-use Rattle.records.specs.Values.{Entry, widthOf, windowOf, startOf, markIn, coordinatesOf, wordOf}
+use Rattle.records.specs.Values.{Entry, accordOf, windowOf, startOf, markIn, coordinatesOf, wordOf}
 use Rattle.records.specs.Frames.{capped}
 use Rattle.replay_step.specs.declared.Verdict.{Verdict}
 use Rattle.replay_step.specs.declared.Verdict.the-variants.{Agree, Differs, Extra, Missing, Refused, Malformed}
@@ -95,9 +96,9 @@ went s rx due given = record { receiver = rx; due = due; given = given; shown = 
 abbrev pub refusedBy : State → Why → State
 refusedBy s w = faulted s (Refused (s .records) (givenOf w .number))
 
-unfoldable pub opened : State → ℕ → ℕ → ℕ → State
-opened s u w b =
-    let o = opening (record { u = u }) w (startAt b) in
+unfoldable pub opened : State → Accord → ℕ → ℕ → State
+opened s k w b =
+    let o = opening k w (startAt b) in
     cond (isDone (o .why)) (went s (o .receiver) (s .due) 0) (refusedBy s (o .why))
 
 -- what the receiver answered to a symbol or a finish; a refusal leaves all as it was
@@ -143,7 +144,7 @@ worded s n g (h ∷ hs) = cond (eqb g h) (agreedMore s n) (faulted s (Differs (s
 
 -- a record of kind k, where n words have agreed before it
 abbrev pub byRole : Role → State → ℕ → ℕ → List ℕ → State
-byRole Open s n k body = opened s (widthOf body) (windowOf body) (startOf body)
+byRole Open s n k body = opened s (accordOf k body) (windowOf body) (startOf body)
 byRole Symbol s n k body = heard s k body
 byRole Word s n k body = worded s n (wordOf body) (leftOf s)
 byRole Finish s n k body = finished s

@@ -17,6 +17,7 @@ use lib.ListN.{getD, length, drop}
 use mir.Syntax.{w32}
 use mir.Val.{toZ, ofZ}
 use Rattle.points.proofs.Signed.{reads}
+use Rattle.points.specs.declared.Accord.{Accord}
 use Rattle.machine.specs.declared.Core.{Core}
 use Rattle.machine.specs.declared.Receiver.{Receiver}
 use Rattle.machine.specs.Machine.{sound, Outcome}
@@ -114,21 +115,21 @@ module _ (j : Judge) (sums planes picks due : List ℕ) where
 
   -- ---- an open
 
-  pub open-is : (u w b : ℕ) (o : Opened) → Opens (record { u = u }) w (startAt b) o → (sums₁ planes₁ picks₁ : List ℕ)
+  pub open-is : (k : Accord) (w b : ℕ) (o : Opened) → Opens k w (startAt b) o → (sums₁ planes₁ picks₁ : List ℕ)
       → Laid (o .why) (o .receiver) sums planes picks sums₁ planes₁ picks₁ → (r : Judge) → r ≡ answeredBy j (o .why) (o .receiver .live) (o .receiver .core) 0
-      → stateOf r sums₁ planes₁ picks₁ due ≡ opened s u w b
+      → stateOf r sums₁ planes₁ picks₁ due ≡ opened s k w b
   unfolding opened answeredBy
-  open-is u w b o g sums₁ planes₁ picks₁ l r z = go (isDone (o .why)) refl
+  open-is k w b o g sums₁ planes₁ picks₁ l r z = go (isDone (o .why)) refl
     where
-      go : (t : Bool) → isDone (o .why) ≡ t → stateOf r sums₁ planes₁ picks₁ due ≡ opened s u w b
+      go : (t : Bool) → isDone (o .why) ≡ t → stateOf r sums₁ planes₁ picks₁ due ≡ opened s k w b
       go true h =
-          let k : isDone (opening (record { u = u }) w (startAt b) .why) ≡ true = sym (done-is (g .always-given)) ∙ h in
+          let e : isDone (opening k w (startAt b) .why) ≡ true = sym (done-is (g .always-given)) ∙ h in
           let x = new-lists l h in
-          rw (z, h, k, x .sums-is, x .planes-is, x .picks-is, sym (g .always-receiver))
+          rw (z, h, e, x .sums-is, x .planes-is, x .picks-is, sym (g .always-receiver))
       go false h =
-          let k : isDone (opening (record { u = u }) w (startAt b) .why) ≡ false = sym (done-is (g .always-given)) ∙ h in
+          let e : isDone (opening k w (startAt b) .why) ≡ false = sym (done-is (g .always-given)) ∙ h in
           let x = old-lists l h in
-          rw (z, h, k, number-is (g .always-given), x .sums-is, x .planes-is, x .picks-is)
+          rw (z, h, e, number-is (g .always-given), x .sums-is, x .planes-is, x .picks-is)
 
   -- ---- what the receiver answered to a symbol or a finish
 

@@ -29,16 +29,21 @@ fn lay(why: Why, rx: Receiver, sums: &mut [u64; 16], planes: &mut [u64; 48], pic
     *picks = k;
 }
 
+// An open of the kind k.
 fn take_open(
     j: Judge,
+    k: u8,
     body: [u8; 9],
     sums: &mut [u64; 16],
     planes: &mut [u64; 48],
     picks: &mut [u64; 72],
 ) -> Judge
-    ensures { λ r. ⌜ OpensLent j body (now (sums .entry)) (now (planes .entry)) (now (picks .entry)) r (now (sums .exit)) (now (planes .exit)) (now (picks .exit)) ⌝ }
+    ensures { λ r. ⌜ OpensLent j k body (now (sums .entry)) (now (planes .entry)) (now (picks .entry)) r (now (sums .exit)) (now (planes .exit)) (now (picks .exit)) ⌝ }
 {
-    let accord = Accord { u: body[0] as u32 };
+    let accord = Accord {
+        map: records::map_in(k),
+        u: body[0] as u32,
+    };
     let start = openings::start_at(body[2] as u32);
     let o = openings::open_receiver(accord, body[1] as u32, start);
     let why = o.why;
@@ -160,7 +165,7 @@ fn take_kind(
     let kind = records::kind_of(k);
     let role = kind.role;
     match role {
-        Role::Open => take_open(j, body, sums, planes, picks),
+        Role::Open => take_open(j, k, body, sums, planes, picks),
         Role::Symbol => take_undue(j, false, k, body, sums, planes, picks, due),
         Role::Word => {
             let g = records::number(body[0], body[1], body[2], body[3]);

@@ -17,10 +17,16 @@ use Rattle.text.proofs.Digits.{got-most}
 use Rattle.marks.specs.Row.{countOf, rowOf}
 use Rattle.marks.proofs.Rows.{row-most}
 use Rattle.wholes.proofs.Lists.{many-most}
+use Rattle.points.specs.declared.Map.{Map}
+use Rattle.map_names.specs.declared.Which.{Which}
+use Rattle.map_names.specs.declared.Which.the-variants as which
+use Rattle.map_names.specs.declared.Numbered.{Numbered}
+use Rattle.map_names.specs.declared.Numbered.the-variants as numbered
+use Rattle.map_names.specs.Names.{mapNamed, numberedOf}
 use Rattle.requests.specs.declared.Request.{Request}
 use Rattle.requests.specs.declared.Request.the-variants as request
-use Rattle.requests.specs.Verb.{anyNumber, capNumber, just, both, one, two, Fit}
-use Rattle.requests.specs.Verb.{senderOf, finishOf, sendOf, sampleOf, startOf, windowOf, openOf, receiverOf, heardOf, pieceOf, markedBy, markedOf, sentOf, listOf}
+use Rattle.requests.specs.Verb.{anyNumber, capNumber, just, both, one, two, onMap, onNumber, Fit}
+use Rattle.requests.specs.Verb.{senderOf, finishOf, sendOf, sampleOf, startOf, windowBy, windowOf, openBy, openOf, receiverOf, heardOf, pieceOf, markedBy, markedOf, sentOf, listOf}
 
 module _ (room : ℕ) where
   pub fit-cond : (b : Bool) {x y : Request} → Fit room x → Fit room y → Fit room (cond b x y)
@@ -44,8 +50,16 @@ module _ (room : ℕ) where
   fit-two g [] f = record { sizes = tt }
   fit-two g (t ∷ ts) f = fit-one (g t) ts (f t)
 
+  fit-map : (f : Map → Request) (w : Which) → ((m : Map) → Fit room (f m)) → Fit room (onMap f w)
+  fit-map f (which.On m) g = g m
+  fit-map f which.Unread g = record { sizes = tt }
+
+  fit-number : (f : Map → ℕ → Request) (o : Numbered) → ((m : Map) (n : ℕ) → Fit room (f m n)) → Fit room (onNumber f o)
+  fit-number f (numbered.On m n) g = g m n
+  fit-number f numbered.Unread g = record { sizes = tt }
+
   pub fit-sender : (ts : List (List ℕ)) → Fit room (senderOf ts)
-  fit-sender ts = fit-one (λ u. just request.Sender (anyNumber u)) ts (λ u. fit-just request.Sender (anyNumber u) (λ n e. record { sizes = tt }))
+  fit-sender ts = fit-number _ (numberedOf ts) (λ m u. record { sizes = tt })
 
   pub fit-finish : (ts : List (List ℕ)) → Fit room (finishOf ts)
   fit-finish ts = fit-one (λ c. just request.Finish (capNumber c)) ts (λ c. fit-just request.Finish (capNumber c) (λ n e. record { sizes = got-most 10 4096 c e }))
@@ -60,20 +74,25 @@ module _ (room : ℕ) where
 
   fit-start : (u w : ℕ) (ts : List (List ℕ)) → Fit room (startOf u w ts)
   fit-start u w [] = record { sizes = tt }
-  fit-start u w (f ∷ []) = fit-cond (sameBytes f (bytes "free")) (record { sizes = tt }) (record { sizes = tt })
-  fit-start u w (a ∷ s ∷ ts) =
-      fit-cond (sameBytes a (bytes "at"))
-      (fit-one (λ s. just (request.At u w) (anyNumber s)) (s ∷ ts) (λ t. fit-just (request.At u w) (anyNumber t) (λ n e. record { sizes = tt })))
-      (record { sizes = tt })
+  fit-start u w (f ∷ ts) =
+      fit-cond (sameBytes f (bytes "free")) (fit-map _ (mapNamed ts) (λ m. record { sizes = tt }))
+      (fit-cond (sameBytes f (bytes "at")) (fit-number _ (numberedOf ts) (λ m s. record { sizes = tt })) (record { sizes = tt }))
 
-  fit-window : (u : ℕ) (o : Number) (ts : List (List ℕ)) → Fit room (windowOf u o ts)
-  fit-window u (number.Got w) ts = fit-start u w ts
-  fit-window u number.Bad ts = record { sizes = tt }
+  fit-window-by : (u : ℕ) (o : Number) (ts : List (List ℕ)) → Fit room (windowBy u o ts)
+  fit-window-by u (number.Got w) ts = fit-start u w ts
+  fit-window-by u number.Bad ts = record { sizes = tt }
+
+  fit-window : (u : ℕ) (ts : List (List ℕ)) → Fit room (windowOf u ts)
+  fit-window u [] = record { sizes = tt }
+  fit-window u (w ∷ ts) = fit-window-by u (anyNumber w) ts
+
+  fit-open-by : (u : ℕ) (w : Which) (ts : List (List ℕ)) → Fit room (openBy u w ts)
+  fit-open-by u (which.On m) ts = record { sizes = tt }
+  fit-open-by u which.Unread ts = fit-window u ts
 
   fit-open : (o : Number) (ts : List (List ℕ)) → Fit room (openOf o ts)
   fit-open number.Bad ts = record { sizes = tt }
-  fit-open (number.Got u) [] = record { sizes = tt }
-  fit-open (number.Got u) (w ∷ ts) = fit-window u (anyNumber w) ts
+  fit-open (number.Got u) ts = fit-open-by u (mapNamed ts) ts
 
   pub fit-receiver : (ts : List (List ℕ)) → Fit room (receiverOf ts)
   fit-receiver [] = record { sizes = tt }

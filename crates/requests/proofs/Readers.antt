@@ -1,10 +1,9 @@
 -- Laws of the readers: how what the code reads of a text, token by token, is what the grammar says of all its tokens.
-use Prim.Native.Nat.{ℕ, suc, _+_, _-_, _<_}
+use Prim.Native.Nat.{ℕ, suc, _<_}
 use mathlib.Core.Path.{_≡_, refl, sym, _∙_}
 use mathlib.Core.Bool.{Bool, true, false, cond}
 use mathlib.Core.List.{List, [], _∷_}
 use native.Mathlib.Omega.{arith}
-use native.Mathlib.Numerals.{add-one}
 use borrow.Author.Tests.{ltb-true, ltb-false}
 use lib.Dec.{ltb}
 use lib.IntN.{ℤ}
@@ -18,25 +17,12 @@ use Rattle.marks.specs.Row.{Row}
 use Rattle.wholes.specs.declared.Many.{Many}
 use Rattle.text.specs.declared.number.Number.{Number}
 use Rattle.text.specs.declared.number.Number.the-variants as number
-use Rattle.text.proofs.Digits.{to-end}
 use Rattle.text.proofs.Tokens.{last-token, more-tokens, first-token, not-empty, spaced-number, spaced-hex, at-most-all}
+use Rattle.text.proofs.Cut.{after, alone, cut-off}
 use Rattle.requests.specs.declared.Request.{Request}
 use Rattle.requests.specs.declared.Request.the-variants as request
 use Rattle.requests.specs.Verb.{anyNumber, capNumber, just, both, one, two, coordinateFills, markedFills, marksAfter, marksOf, listFills}
-use Rattle.requests.specs.Verb.{startOf, windowOf, openOf, receiverOf, heardOf, pieceOf, markedBy, markedAfter, markedOf, sentOf, listOf, sampleOf}
-
--- the text after the token that ends at n
-abbrev pub after : ℕ → List ℕ → List ℕ
-after n s = take (length s - (n + 1)) (drop (n + 1) s)
-
-module _ {s : List ℕ} {n : ℕ} (cut : Cuts 32 s n) where
-  pub alone : n ≡ length s → tokens s ≡ s ∷ []
-  alone h = last-token s (omega (arith, cut .is))
-
-  pub cut-off : (n ≡ length s → ⊥) → tokens s ≡ take n s ∷ tokens (after n s)
-  cut-off h =
-      let less : lengthBefore 32 s < length s = omega (arith, cut .is, cut .within) in
-      rw (more-tokens s less, ← cut .is, to-end (n + 1) s, ← add-one n)
+use Rattle.requests.specs.Verb.{heardOf, pieceOf, markedBy, markedAfter, markedOf, sentOf, listOf, sampleOf}
 
 -- what reads a token, and refuses a text with a space
 pub record Reader (p : List ℕ → Number) : Type 0 where
@@ -81,42 +67,6 @@ module _ {s : List ℕ} {n : ℕ} (cut : Cuts 32 s n) where
 
   pub two-alone : (g : List ℕ → List ℕ → Request) → n ≡ length s → request.Unread ≡ two g (tokens s)
   two-alone g h = rw (alone cut h)
-
-  pub receiver-bad : number.Bad ≡ anyNumber (take n s) → request.Unread ≡ receiverOf (tokens s)
-  receiver-bad e = rw (first-token s n (cut .is) .1, ← e)
-
-  pub receiver-plain : {u : ℕ} → n ≡ length s → number.Got u ≡ anyNumber (take n s) → request.Plain u ≡ receiverOf (tokens s)
-  receiver-plain h e = rw (alone cut h, ← whole h) (rw (← e))
-
-  pub receiver-more : {u : ℕ} → (n ≡ length s → ⊥) → number.Got u ≡ anyNumber (take n s) → openOf (number.Got u) (tokens (after n s)) ≡ receiverOf (tokens s)
-  receiver-more h e = rw (cut-off cut h, ← e)
-
-  pub window-alone : (u : ℕ) → n ≡ length s → request.Unread ≡ openOf (number.Got u) (tokens s)
-  window-alone u h = rw (alone cut h) (none (anyNumber s)) where
-    none : (o : Number) → request.Unread ≡ windowOf u o []
-    none (number.Got w) = refl
-    none number.Bad = refl
-
-  pub window-more : (u : ℕ) (o : Number) → (n ≡ length s → ⊥) → o ≡ anyNumber (take n s) → windowOf u o (tokens (after n s)) ≡ openOf (number.Got u) (tokens s)
-  window-more u o h e = rw (cut-off cut h, e)
-
-  pub start-alone : (u w : ℕ) (b : Bool) → n ≡ length s → b ≡ sameBytes s (bytes "free") → cond b (request.Free u w) request.Unread ≡ startOf u w (tokens s)
-  start-alone u w b h e = rw (alone cut h, e)
-
-  pub start-more : (u w : ℕ) (b : Bool) (o : Number) → (n ≡ length s → ⊥) → b ≡ sameBytes (take n s) (bytes "at") → o ≡ anyNumber (after n s)
-      → cond b (just (request.At u w) o) request.Unread ≡ startOf u w (tokens s)
-  start-more u w b o h e f = rw (cut-off cut h, e, one-read any-reader (request.At u w) (after n s) f) (more (tokens (after n s)) (not-empty (after n s))) where
-    more : (ts : List (List ℕ)) → (length ts ≡ 0 → ⊥)
-        → cond (sameBytes (take n s) (bytes "at")) (one (λ t. just (request.At u w) (anyNumber t)) ts) request.Unread ≡ startOf u w (take n s ∷ ts)
-    more [] g = absurd (g refl)
-    more (t ∷ ts) g = refl
-
-  -- the tokens after the first, where the code has cut it off or found no more
-  pub no-more : n ≡ length s → drop 1 (tokens s) ≡ []
-  no-more h = rw (alone cut h)
-
-  pub some-more : (n ≡ length s → ⊥) → drop 1 (tokens s) ≡ tokens (after n s)
-  some-more h = rw (cut-off cut h)
 
   -- the cap, and what stands after it
   pub piece-read : (room : ℕ) {o : Number} {m : Many} {r : Request} → o ≡ capNumber (take n s) → m ≡ manyOf wholeIn room (drop 1 (tokens s)) → r ≡ heardOf o m → r ≡ pieceOf room (tokens s)

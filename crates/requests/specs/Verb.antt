@@ -5,8 +5,10 @@
 --   anyNumber, capNumber    "U, W, WINDOW, S and CAP are 0 to 4294967295, a CAP above 4096 is `?`"
 --   just f, both f          the request f with one number or two, unread if one is bad
 --   one g, two g            g of just one token or two, unread for any other count of them
+--   line m u                what both ends agree on, by its map and its width
+--   onMap f, onNumber f     the request f of a map, or of a map and a number; unread if none is named
 --   senderOf, sendOf, finishOf, sampleOf   what the tokens after these verbs ask for
---   receiverOf              plain with a width alone, else a window and the start: `free`, or `at` and a state
+--   receiverOf              plain with a width alone, else a window and the start: `free`, or `at` and a state; the map at the end
 --   coordinateFills ts list the list lent for coordinates after the tokens ts: those at its start, up to the first that is none
 --   pieceOf room            a cap and the coordinates, no more than there is room for; none is the empty piece
 --   pieceFills ts list      the list lent for coordinates after that
@@ -32,6 +34,13 @@ use Rattle.text.specs.declared.number.Number.{Number}
 use Rattle.text.specs.declared.number.Number.the-variants as number
 use Rattle.wholes.specs.declared.Many.{Many}
 use Rattle.wholes.specs.declared.Many.the-variants as many
+use Rattle.points.specs.declared.Map.{Map}
+use Rattle.points.specs.declared.Accord.{Accord}
+use Rattle.map_names.specs.declared.Which.{Which}
+use Rattle.map_names.specs.declared.Which.the-variants as which
+use Rattle.map_names.specs.declared.Numbered.{Numbered}
+use Rattle.map_names.specs.declared.Numbered.the-variants as numbered
+use Rattle.map_names.specs.Names.{mapNamed, numberedOf}
 use Rattle.requests.specs.declared.Request.{Request}
 use Rattle.requests.specs.declared.Request.the-variants as request
 
@@ -40,6 +49,9 @@ anyNumber t = numberOf 10 4294967295 t
 
 abbrev pub capNumber : List ℕ → Number
 capNumber t = numberOf 10 4096 t
+
+abbrev pub line : Map → ℕ → Accord
+line m u = record { map = m; u = u }
 
 abbrev pub just : (ℕ → Request) → Number → Request
 just f (number.Got n) = f n
@@ -58,8 +70,17 @@ abbrev pub two : (List ℕ → List ℕ → Request) → List (List ℕ) → Req
 two g [] = request.Unread
 two g (t ∷ ts) = one (g t) ts
 
+abbrev pub onMap : (Map → Request) → Which → Request
+onMap f (which.On m) = f m
+onMap f which.Unread = request.Unread
+
+abbrev pub onNumber : (Map → ℕ → Request) → Numbered → Request
+onNumber f (numbered.On m n) = f m n
+onNumber f numbered.Unread = request.Unread
+
+-- "`sender U`" and "`sender U square`"
 abbrev pub senderOf : List (List ℕ) → Request
-senderOf ts = one (λ u. just request.Sender (anyNumber u)) ts
+senderOf ts = onNumber (λ m u. request.Sender (line m u)) (numberedOf ts)
 
 abbrev pub finishOf : List (List ℕ) → Request
 finishOf ts = one (λ c. just request.Finish (capNumber c)) ts
@@ -72,19 +93,31 @@ sampleOf [] = request.Unread
 sampleOf (m ∷ []) = cond (sameBytes m (bytes "missing")) request.Missing request.Unread
 sampleOf (x ∷ y ∷ ts) = two (λ x y. both request.Sample (hexOf x) (hexOf y)) (x ∷ y ∷ ts)
 
+abbrev pub stateOf : ℕ → ℕ → List (List ℕ) → Request
+stateOf u w ts = onNumber (λ m s. request.At (line m u) w s) (numberedOf ts)
+
 abbrev pub startOf : ℕ → ℕ → List (List ℕ) → Request
 startOf u w [] = request.Unread
-startOf u w (f ∷ []) = cond (sameBytes f (bytes "free")) (request.Free u w) request.Unread
-startOf u w (a ∷ s ∷ ts) = cond (sameBytes a (bytes "at")) (one (λ s. just (request.At u w) (anyNumber s)) (s ∷ ts)) request.Unread
+startOf u w (f ∷ ts) =
+    cond (sameBytes f (bytes "free")) (onMap (λ m. request.Free (line m u) w) (mapNamed ts))
+    (cond (sameBytes f (bytes "at")) (stateOf u w ts) request.Unread)
 
-abbrev pub windowOf : ℕ → Number → List (List ℕ) → Request
-windowOf u (number.Got w) ts = startOf u w ts
-windowOf u number.Bad ts = request.Unread
+abbrev pub windowBy : ℕ → Number → List (List ℕ) → Request
+windowBy u (number.Got w) ts = startOf u w ts
+windowBy u number.Bad ts = request.Unread
+
+abbrev pub windowOf : ℕ → List (List ℕ) → Request
+windowOf u [] = request.Unread
+windowOf u (w ∷ ts) = windowBy u (anyNumber w) ts
+
+-- the tokens after a width: those that name a map alone ask for the plain opening
+abbrev pub openBy : ℕ → Which → List (List ℕ) → Request
+openBy u (which.On m) ts = request.Plain (line m u)
+openBy u which.Unread ts = windowOf u ts
 
 abbrev pub openOf : Number → List (List ℕ) → Request
 openOf number.Bad ts = request.Unread
-openOf (number.Got u) [] = request.Plain u
-openOf (number.Got u) (w ∷ ts) = windowOf u (anyNumber w) ts
+openOf (number.Got u) ts = openBy u (mapNamed ts) ts
 
 abbrev pub receiverOf : List (List ℕ) → Request
 receiverOf [] = request.Unread
@@ -158,10 +191,10 @@ Sizes room (request.Finish c) = c ≤ 4096
 Sizes room (request.List c n) = (c ≤ 4096) × (n ≤ 1024)
 Sizes room request.Nothing = Unit {0}
 Sizes room request.Unread = Unit {0}
-Sizes room (request.Sender u) = Unit {0}
-Sizes room (request.Plain u) = Unit {0}
-Sizes room (request.Free u w) = Unit {0}
-Sizes room (request.At u w s) = Unit {0}
+Sizes room (request.Sender k) = Unit {0}
+Sizes room (request.Plain k) = Unit {0}
+Sizes room (request.Free k w) = Unit {0}
+Sizes room (request.At k w s) = Unit {0}
 Sizes room (request.Sample x y) = Unit {0}
 Sizes room request.Pending = Unit {0}
 Sizes room request.Missing = Unit {0}

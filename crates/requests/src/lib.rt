@@ -1,5 +1,5 @@
 // What the tokens after each verb of the laboratory's protocol ask for: a file for each verb, and the requests that they name. The verb
-// `receiver` has a crate of its own, `verb_receiver`, and the marks of a piece theirs, `marks`.
+// `receiver` has a crate of its own, `verb_receiver`, the marks of a piece theirs, `marks`, and the map of an opening its own, `map_names`.
 // A number is decimal digits and nothing else, zeros in front allowed; U, W, WINDOW, S and CAP are 0 to 4294967295, and a CAP is
 // 4096 at most. A coordinate C may have one `-` before it and has 32 bits. HEX is eight hexadecimal digits, small or large.
 // Other tokens are unread. specs/Verb.antt says what each verb asks for.
@@ -11,6 +11,7 @@ pub mod sample;
 pub mod send;
 pub mod sender;
 
+use points::Accord;
 use text::number;
 use text::number::Number;
 use wholes::Many;
@@ -26,7 +27,7 @@ pub enum Request {
     // A line that is none of the protocol's.
     Unread,
     Sender {
-        u: u32,
+        accord: Accord,
     },
     Send {
         word: u32,
@@ -34,14 +35,14 @@ pub enum Request {
     },
     // A receiver with the plain window and a free start.
     Plain {
-        u: u32,
+        accord: Accord,
     },
     Free {
-        u: u32,
+        accord: Accord,
         window: u32,
     },
     At {
-        u: u32,
+        accord: Accord,
         window: u32,
         state: u32,
     },

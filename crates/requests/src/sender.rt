@@ -1,6 +1,7 @@
-// `sender U`: one number, the width. It is any number; the sender says which widths there are.
+// `sender U` and `sender U square`: one number, the width, and the map. It is any number; the sender says which widths there are.
 use crate::Request;
-use text::number::Number;
+use map_names::Numbered;
+use points::Accord;
 ghost use mathlib.Core.Path.{_≡_};
 ghost use Rattle.text.specs.Token.{tokens};
 ghost use Rattle.requests.specs.Verb.{senderOf};
@@ -8,8 +9,10 @@ ghost use Rattle.requests.specs.Verb.{senderOf};
 pub fn read(rest: &[u8]) -> Request
     ensures { λ r. ⌜ r ≡ senderOf (tokens (now (rest .entry))) ⌝ }
 {
-    let Number::Got(u) = crate::number_of(rest) else {
+    let Numbered::On { map, number } = map_names::number_and_map(rest) else {
         return Request::Unread;
     };
-    Request::Sender { u }
+    Request::Sender {
+        accord: Accord { map, u: number },
+    }
 }

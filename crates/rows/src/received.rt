@@ -4,10 +4,18 @@ use crate::say;
 use machine::Receiver;
 use openings::Start;
 use points::Accord;
+use points::Map;
 use reasons::Why;
 
 fn fresh(window: u32) -> Receiver {
-    let r = openings::open_receiver(Accord { u: 0 }, window, Start::Free);
+    let r = openings::open_receiver(
+        Accord {
+            map: Map::Round,
+            u: 0,
+        },
+        window,
+        Start::Free,
+    );
     r.receiver
 }
 

@@ -4,7 +4,10 @@ use crate::say;
 use sender::Sender;
 
 fn fresh(u: u32) -> Sender {
-    let r = sender::open_sender(points::Accord { u: u });
+    let r = sender::open_sender(points::Accord {
+        map: points::Map::Round,
+        u: u,
+    });
     r.sender
 }
 

@@ -2,12 +2,12 @@
 use mathlib.Core.Path.{_≡_, refl, sym, ap, subst, _∙_}
 use mathlib.Core.Bool.{true, false}
 use mathlib.Core.List.{List, [], _∷_, _++_}
-use Prim.Native.Nat.{ℕ, _+_, _≤_, _<_}
+use Prim.Native.Nat.{ℕ, _≤_, _<_}
 use native.Mathlib.Omega.{arith}
 use borrow.Author.Tests.{le-leb, lt-leb}
 use lib.IntN.{ℤ}
 use lib.ListN.{length, drop, set}
-use Rattle.points.specs.Pair.{firstPoint, secondPoint}
+use Rattle.maps.specs.PointMap.{firstAt, secondAt}
 use Rattle.wei.specs.State.{nextState}
 use Rattle.wei.specs.Symbol.{firstLabel}
 use Rattle.wei.specs.Word.{isWord}
@@ -76,13 +76,13 @@ module _ (s : Sender) (n : ℕ) (out : List ℤ) where
   -- y is what `symbols::make` promises
   pub sends-done : (y : Made) (o : List ℤ) → sound s ≡ true → isWord (s .accord .u) n ≡ true → 4 ≤ length out →
       (let c = symbolFor s n in
-      y ≡ record { turn = firstLabel c; state = nextState (s .state) (c .i1) (c .i2); first = firstPoint c; second = secondPoint c }) →
+      y ≡ record { turn = firstLabel c; state = nextState (s .state) (c .i1) (c .i2); first = firstAt (s .accord) c; second = secondAt (s .accord) c }) →
       o ≡ set (set (set (set out 0 (y .first .x)) 1 (y .first .y)) 2 (y .second .x)) 3 (y .second .y) →
       Sends s n out (record { sender = record { live = true; accord = s .accord; turn = y .turn; state = y .state }; why = Done }) o
   unfolding sending four after
   sends-done y o e f h m d =
       let now : Sender = record { live = true; accord = s .accord; turn = y .turn; state = y .state } in
-      sends (record { sender = now; why = Done }) o (record { number = 0; sender = after s n; output = four (symbolFor s n) ++ drop 4 out })
+      sends (record { sender = now; why = Done }) o (record { number = 0; sender = after s n; output = four (s .accord) (symbolFor s n) ++ drop 4 out })
       (rw (e, f, le-leb 4 (length out) h)) refl (λ i. record { live = true; accord = s .accord; turn = m i .turn; state = m i .state })
       (d ∙ stored out (y .first .x) (y .first .y) (y .second .x) (y .second .y) h
       ∙ ap (λ (z : Made). z .first .x ∷ z .first .y ∷ z .second .x ∷ z .second .y ∷ drop 4 out) m)

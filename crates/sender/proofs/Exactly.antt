@@ -52,14 +52,14 @@ module _ (s : Sender) (n : ℕ) (out : List ℤ) where
     closed : sound s ≡ false → Outcome (given 9 s out)
     bad-word : sound s ≡ true → isWord (s .accord .u) n ≡ false → Outcome (given 4 s out)
     no-room : sound s ≡ true → isWord (s .accord .u) n ≡ true → length out < 4 → Outcome (given 8 s out)
-    taken : sound s ≡ true → isWord (s .accord .u) n ≡ true → 4 ≤ length out → Outcome (given 0 (after s n) (four (symbolFor s n) ++ drop 4 out))
+    taken : sound s ≡ true → isWord (s .accord .u) n ≡ true → 4 ≤ length out → Outcome (given 0 (after s n) (four (s .accord) (symbolFor s n) ++ drop 4 out))
 
   pub outcome : Outcome (sending s n out)
   unfolding sending
   outcome = go (sound s) (isWord (s .accord .u) n) (leb 4 (length out)) refl refl refl
     where
       go : (a b c : Bool) → sound s ≡ a → isWord (s .accord .u) n ≡ b → leb 4 (length out) ≡ c →
-          Outcome (cond a (cond b (cond c (given 0 (after s n) (four (symbolFor s n) ++ drop 4 out)) (given 8 s out)) (given 4 s out)) (given 9 s out))
+          Outcome (cond a (cond b (cond c (given 0 (after s n) (four (s .accord) (symbolFor s n) ++ drop 4 out)) (given 8 s out)) (given 4 s out)) (given 9 s out))
       go true true true e f g = taken e f (leb-true 4 (length out) g)
       go true true false e f g = no-room e f (leb-false 4 (length out) g)
       go true false c e f g = bad-word e f
@@ -81,7 +81,7 @@ module _ (s : Sender) (n : ℕ) (out : List ℤ) where
     pub word : isWord (s .accord .u) n ≡ true
     pub room : 4 ≤ length out
     pub sender : sending s n out .sender ≡ after s n
-    pub output : sending s n out .output ≡ four (symbolFor s n) ++ drop 4 out
+    pub output : sending s n out .output ≡ four (s .accord) (symbolFor s n) ++ drop 4 out
 
   pub done : sending s n out .number ≡ 0 → Taken
   done h = go (sending s n out) outcome refl h

@@ -48,7 +48,7 @@ module _ (s : Sender) (n : ℕ) (out : List ℤ) (e : sending s n out .number �
 abbrev givenBy : Sender → ℕ → Bool → Bool → Bool → List ℤ → Given
 givenBy s n a b c out =
     let given : ℕ → Sender → List ℤ → Given = λ k t o. record { number = k; sender = t; output = o } in
-    cond a (cond b (cond c (given 0 (after s n) (four (symbolFor s n) ++ drop 4 out)) (given 8 s out)) (given 4 s out)) (given 9 s out)
+    cond a (cond b (cond c (given 0 (after s n) (four (s .accord) (symbolFor s n) ++ drop 4 out)) (given 8 s out)) (given 4 s out)) (given 9 s out)
 
 -- the accord stays, whatever is sent
 pub sending-accord : (s : Sender) (n : ℕ) (out : List ℤ) → sending s n out .sender .accord ≡ s .accord
@@ -66,8 +66,8 @@ live-of true c e = refl
 live-of false c e = e
 
 -- an open sender is what its numbers say
-pub at-is : (s : Sender) (u : ℕ) → sound s ≡ true → s .accord .u ≡ u → s ≡ senderAt u (s .turn) (s .state)
-at-is s u e f = let l = live-of (s .live) _ e in λ i. record { live = l i; accord = record { u = f i }; turn = s .turn; state = s .state }
+pub at-is : (s : Sender) (k : Accord) → sound s ≡ true → s .accord ≡ k → s ≡ senderAt k (s .turn) (s .state)
+at-is s k e f = let l = live-of (s .live) _ e in λ i. record { live = l i; accord = f i; turn = s .turn; state = s .state }
 
 closed-word : (s : Sender) (n : ℕ) (out : List ℤ) → sound s ≡ false → givenList 9 s 0 out ≡ givenList (sending s n out .number) (sending s n out .sender) 0 (sending s n out .output)
 unfolding sending
@@ -371,7 +371,7 @@ unfolding four
 sending-length s n out = go (eqb (sending s n out .number) 0) refl
   where
     go : (b : Bool) → eqb (sending s n out .number) 0 ≡ b → length (sending s n out .output) ≡ length out
-    go true e = let t = done s n out (eqb-true (sending s n out .number) 0 e) in rw (t .output, length-append (four (symbolFor s n)), length-drop) (omega (arith, t .room))
+    go true e = let t = done s n out (eqb-true (sending s n out .number) 0 e) in rw (t .output, length-append (four (s .accord) (symbolFor s n)), length-drop) (omega (arith, t .room))
     go false e = ap length (refused-keeps s n out (eqb-false (sending s n out .number) 0 e) .1)
 
 all-fits : (s : Sender) (ns : List ℕ) (out : List ℤ) → 4 * sendingAll s ns out .sent ≤ length out
@@ -462,15 +462,15 @@ list-alike s ns out out' e = go (sound s)
 
 -- a list of the sender s, whose numbers were given to the loop
 pub went-as : (s : Sender) (ns : List ℕ) (out : List ℤ) → sound s ≡ true → (r : SentList) (o : List ℤ)
-    → SendsList (senderAt (s .accord .u) (s .turn) (s .state)) ns out r o → SendsList s ns out r o
-went-as s ns out e r o p = subst (λ (t : Sender). SendsList t ns out r o) (sym (at-is s (s .accord .u) e refl)) p
+    → SendsList (senderAt (s .accord) (s .turn) (s .state)) ns out r o → SendsList s ns out r o
+went-as s ns out e r o p = subst (λ (t : Sender). SendsList t ns out r o) (sym (at-is s (s .accord) e refl)) p
 
 -- the loop began with s, and its sender t is given back as its numbers
-pub went-is : (s : Sender) (u q k : ℕ) → s ≡ senderAt u q k → (ns : List ℕ) (out : List ℤ) (t : Sender) (sent : ℕ) (why : Why) (o : List ℤ) → sound t ≡ true → t .accord ≡ s .accord →
-    SendsList s ns out (record { sender = t; sent = sent; why = why }) o → SendsList (senderAt u q k) ns out (listBy u (record { turn = t .turn; state = t .state; sent = sent; why = why })) o
-went-is s u q k is ns out t sent why o e f p =
-    let a : t .accord .u ≡ u = ap (λ (x : Accord). x .u) f ∙ ap (λ (x : Sender). x .accord .u) is in
-    subst (λ (x : Sender). SendsList (senderAt u q k) ns out (record { sender = x; sent = sent; why = why }) o) (at-is t u e a)
+pub went-is : (s : Sender) (a : Accord) (q k : ℕ) → s ≡ senderAt a q k → (ns : List ℕ) (out : List ℤ) (t : Sender) (sent : ℕ) (why : Why) (o : List ℤ) → sound t ≡ true → t .accord ≡ s .accord →
+    SendsList s ns out (record { sender = t; sent = sent; why = why }) o → SendsList (senderAt a q k) ns out (listBy a (record { turn = t .turn; state = t .state; sent = sent; why = why })) o
+went-is s a q k is ns out t sent why o e f p =
+    let b : t .accord ≡ a = f ∙ ap (λ (x : Sender). x .accord) is in
+    subst (λ (x : Sender). SendsList (senderAt a q k) ns out (record { sender = x; sent = sent; why = why }) o) (at-is t a e b)
     (subst (λ (x : Sender). SendsList x ns out (record { sender = t; sent = sent; why = why }) o) is p)
 
 -- ---- one word, of the calls themselves

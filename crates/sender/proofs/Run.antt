@@ -31,9 +31,9 @@ made-snoc u q [] (d ∷ cs) n c a m = absurd a
 made-snoc u q (k ∷ ns) [] n c a m = absurd a
 made-snoc u q (k ∷ ns) (d ∷ cs) n c a m = (a .0, made-snoc u (firstLabel d) ns cs n c (a .1) m)
 
-coordinates-snoc : (cs : List Symbol) (c : Symbol) → coordinatesOf (cs ++ (c ∷ [])) ≡ coordinatesOf cs ++ four c
-coordinates-snoc [] c = append-nil (four c)
-coordinates-snoc (d ∷ cs) c = ap (λ (l : List ℤ). four d ++ l) (coordinates-snoc cs c) ∙ sym (append-assoc (four d) (coordinatesOf cs) (four c))
+coordinates-snoc : (k : Accord) (cs : List Symbol) (c : Symbol) → coordinatesOf k (cs ++ (c ∷ [])) ≡ coordinatesOf k cs ++ four k c
+coordinates-snoc k [] c = append-nil (four k c)
+coordinates-snoc k (d ∷ cs) c = ap (λ (l : List ℤ). four k d ++ l) (coordinates-snoc k cs c) ∙ sym (append-assoc (four k d) (coordinatesOf k cs) (four k c))
 
 symbol-made : (s : Sender) (n : ℕ) → Made (s .accord .u) (s .turn) n (symbolFor s n)
 unfolding symbolOf
@@ -49,9 +49,9 @@ symbol-carries s n r =
       leads = refl;
     }
 
-take-four : (c : Symbol) (l : List ℤ) → take 4 (four c ++ l) ≡ four c
+take-four : (k : Accord) (c : Symbol) (l : List ℤ) → take 4 (four k c ++ l) ≡ four k c
 unfolding four
-take-four c l = refl
+take-four k c l = refl
 
 -- ---- the invariant
 
@@ -60,7 +60,7 @@ record Follows (ac : Accord) (ws : List ℕ) (ps : List ℤ) (s : Sender) : Type
   are : cs ≡ symbolsFrom (ac .u) 0 0 ws
   made : AllMade (ac .u) 0 ws cs
   allowed : AllowedFrom (ac .u) 0 cs
-  written : ps ≡ coordinatesOf cs
+  written : ps ≡ coordinatesOf ac cs
   accord : s .accord ≡ ac
   turn : s .turn ≡ turnsTo 0 cs
   state : s .state ≡ ending 0 cs
@@ -77,7 +77,7 @@ step ac ws ps s n out f t =
     subst (λ (v : Accord). Carries (v .u) (ending 0 cs) (nextState (ending 0 cs) (c .i1) (c .i2)) c) (f .accord)
     (subst (λ (q : ℕ). Carries (s .accord .u) q (nextState q (c .i1) (c .i2)) c) (f .state) (symbol-carries s n (ranges s (t .is-open)))) in
     let e = t .sender in
-    let w : take 4 (sending s n out .output) ≡ four c = ap (take 4) (t .output) ∙ take-four c (drop 4 out) in
+    let w : take 4 (sending s n out .output) ≡ four ac c = ap (take 4) (t .output) ∙ take-four (s .accord) c (drop 4 out) ∙ ap (λ (v : Accord). four v c) (f .accord) in
     record {
       cs = cs ++ (c ∷ []);
       are =
@@ -85,7 +85,7 @@ step ac ws ps s n out f t =
           ∙ ap (λ (l : List Symbol). symbolsFrom (ac .u) 0 0 ws ++ (symbolOf (ac .u) (ending 0 l) (turnsTo 0 l) n ∷ [])) (f .are) ∙ sym (symbols-snoc (ac .u) 0 0 ws n);
       made = made-snoc (ac .u) 0 ws cs n c (f .made) m;
       allowed = allowed-snoc (ac .u) 0 cs c (f .allowed) k;
-      written = ap₂ (λ (a b : List ℤ). a ++ b) (f .written) w ∙ sym (coordinates-snoc cs c);
+      written = ap₂ (λ (a b : List ℤ). a ++ b) (f .written) w ∙ sym (coordinates-snoc ac cs c);
       accord = ap (λ (r : Sender). r .accord) e ∙ f .accord;
       turn = ap (λ (r : Sender). r .turn) e ∙ sym (turns-snoc 0 cs c);
       state = ap (λ (r : Sender). r .state) e ∙ ap (λ (q : ℕ). nextState q (c .i1) (c .i2)) (f .state) ∙ sym (ending-snoc 0 cs c);

@@ -2,7 +2,7 @@
 -- of a run are an allowed sequence from state 0 with the words' parts is proved in proofs/Run.
 --   Made u q n c     the symbol c has the parts of the word n, where the turn before it is q
 --   AllMade u q      the same for words and symbols in the order of time
---   coordinatesOf    the coordinates of symbols, four for each
+--   coordinatesOf k  the coordinates of symbols on a line of the accord k, four for each
 --   Talk k ws ps s   a sender of the accord k accepted the words ws and wrote the coordinates ps for them, and is now s
 --   Ran k ws ps      there are such symbols: an allowed sequence from state 0
 use Prim.Native.Nat.{ℕ, _*_}
@@ -32,9 +32,9 @@ AllMade u q [] (c ∷ cs) = ⊥
 AllMade u q (n ∷ ns) [] = ⊥
 AllMade u q (n ∷ ns) (c ∷ cs) = Made u q n c × AllMade u (firstLabel c) ns cs
 
-abbrev pub coordinatesOf : List Symbol → List ℤ
-coordinatesOf [] = []
-coordinatesOf (c ∷ cs) = four c ++ coordinatesOf cs
+abbrev pub coordinatesOf : Accord → List Symbol → List ℤ
+coordinatesOf k [] = []
+coordinatesOf k (c ∷ cs) = four k c ++ coordinatesOf k cs
 
 pub data Talk (k : Accord) : List ℕ → List ℤ → Sender → Type 0 where
   opens : (r : Sent) → Opens k r → numberOf (r .why) ≡ 0 → Talk k [] [] (r .sender)
@@ -50,4 +50,4 @@ pub record Ran (k : Accord) (ws : List ℕ) (ps : List ℤ) : Type 0 where
   pub are : symbols ≡ symbolsFrom (k .u) 0 0 ws
   pub made : AllMade (k .u) 0 ws symbols
   pub allowed : AllowedFrom (k .u) 0 symbols
-  pub written : ps ≡ coordinatesOf symbols
+  pub written : ps ≡ coordinatesOf k symbols

@@ -3,7 +3,7 @@
 --   sound s             s is open, with a width, a turn and a state in range; anything else is answered like a closed sender
 --   symbolFor s n       the symbol that the word n makes
 --   after s n           the sender after it
---   four c              the coordinates of a symbol's two points
+--   four k c            the coordinates of a symbol's two points on a line of the accord k
 --   Given               what a call gives: the number, the sender after it, the output after it
 --   opening k           what the opening gives (it is lent no output)
 --   sending s n out     what sending n into the output `out` gives
@@ -15,8 +15,8 @@ use lib.Dec.{leb, ltb}
 use lib.IntN.{ℤ}
 use lib.ListN.{length, drop}
 use Rattle.points.specs.declared.Accord.{Accord}
-use Rattle.points.specs.Agreed.{isAccord}
-use Rattle.points.specs.Pair.{firstPoint, secondPoint}
+use Rattle.points.specs.Agreed.{isAccord, ofWidth}
+use Rattle.maps.specs.PointMap.{firstAt, secondAt}
 use Rattle.wei.specs.Word.{isWord}
 use Rattle.wei.specs.State.{nextState}
 use Rattle.wei.specs.Symbol.{Symbol, firstLabel, symbolOf}
@@ -42,8 +42,8 @@ after s n =
     let c = symbolFor s n in
     record { live = true; accord = s .accord; turn = firstLabel c; state = nextState (s .state) (c .i1) (c .i2) }
 
-unfoldable pub four : Symbol → List ℤ
-four c = firstPoint c .x ∷ firstPoint c .y ∷ secondPoint c .x ∷ secondPoint c .y ∷ []
+unfoldable pub four : Accord → Symbol → List ℤ
+four k c = firstAt k c .x ∷ firstAt k c .y ∷ secondAt k c .x ∷ secondAt k c .y ∷ []
 
 pub record Given : Type 0 where
   pub number : ℕ
@@ -57,9 +57,9 @@ abbrev pub fresh : Accord → Sender
 fresh k = record { live = true; accord = k; turn = 0; state = 0 }
 
 abbrev pub shut : Sender
-shut = record { live = false; accord = record { u = 0 }; turn = 0; state = 0 }
+shut = record { live = false; accord = ofWidth 0; turn = 0; state = 0 }
 
--- "u above 8 at an opening": 1, a closed end. "q starts at 0"; "The sender starts in state 0"
+-- "u above 8 at an opening": 1, a closed end; 02, Wish 11: "an odd u with this map is refused with 1". "q starts at 0"; "The sender starts in state 0"
 unfoldable pub opening : Accord → Given
 opening k = cond (isAccord k) (given 0 (fresh k) []) (given 1 shut [])
 
@@ -67,7 +67,7 @@ opening k = cond (isAccord k) (given 0 (fresh k) []) (given 1 shut [])
 unfoldable pub sending : Sender → ℕ → List ℤ → Given
 sending s n out =
     cond (sound s)
-    (cond (isWord (s .accord .u) n) (cond (leb 4 (length out)) (given 0 (after s n) (four (symbolFor s n) ++ drop 4 out)) (given 8 s out)) (given 4 s out))
+    (cond (isWord (s .accord .u) n) (cond (leb 4 (length out)) (given 0 (after s n) (four (s .accord) (symbolFor s n) ++ drop 4 out)) (given 8 s out)) (given 4 s out))
     (given 9 s out)
 
 -- "An end is a state that an opening, or a call after it, gave"

@@ -5,6 +5,7 @@
 // so for a list of words, each straight after the one before, and says how many it sent. A word that is refused leaves the sender
 // and the output as they stood. A closed sender, and any record that is out of range, is answered 9.
 use points::Accord;
+use points::Map;
 ghost use mathlib.Core.Path.{_≡_};
 ghost use mathlib.Core.Bool.{true};
 ghost use Rattle.points.specs.Points.{coordinates};
@@ -59,7 +60,10 @@ pub fn closed_sender() -> Sender
 {
     Sender {
         live: false,
-        accord: Accord { u: 0 },
+        accord: Accord {
+            map: Map::Round,
+            u: 0,
+        },
         turn: 0,
         state: 0,
     }
@@ -124,9 +128,9 @@ fn send_word(table: &[i8; 512], s: Sender, word: u32, out: &mut [i32]) -> Sent
     if out.len() < 4 {
         return refuse(s, Why::NoRoom);
     }
-    let y = symbols::make(table, s.accord.u, s.state, s.turn, word);
-    symbols::put(out, y.first, y.second);
     let accord = s.accord;
+    let y = symbols::make(table, accord, s.state, s.turn, word);
+    symbols::put(out, y.first, y.second);
     Sent {
         sender: Sender {
             live: true,
@@ -146,12 +150,12 @@ struct Went {
     why: Why,
 }
 
-fn sender_at(u: u32, turn: u32, state: u32) -> Sender
-    ensures { λ r. ⌜ r ≡ senderAt u turn state ⌝ }
+fn sender_at(accord: Accord, turn: u32, state: u32) -> Sender
+    ensures { λ r. ⌜ r ≡ senderAt accord turn state ⌝ }
 {
     Sender {
         live: true,
-        accord: Accord { u: u },
+        accord: accord,
         turn: turn,
         state: state,
     }
@@ -159,12 +163,12 @@ fn sender_at(u: u32, turn: u32, state: u32) -> Sender
 
 // The words one after another, each into the rest of the output, up to the first that is refused. The table is made once. An open
 // sender goes in and comes back as numbers: so they stay in the processor's registers, and both doors can share the loop.
-fn send_words(u: u32, turn: u32, state: u32, words: &[u32], out: &mut [i32]) -> Went
-    requires { ⌜ sound (senderAt u turn state) ≡ true ⌝ }
-    ensures { λ r. ⌜ SendsList (senderAt u turn state) (now (words .entry)) (now (out .entry)) (listBy u r) (now (out .exit)) ⌝ }
+fn send_words(accord: Accord, turn: u32, state: u32, words: &[u32], out: &mut [i32]) -> Went
+    requires { ⌜ sound (senderAt accord turn state) ≡ true ⌝ }
+    ensures { λ r. ⌜ SendsList (senderAt accord turn state) (now (words .entry)) (now (out .entry)) (listBy accord r) (now (out .exit)) ⌝ }
 {
     let table = points::table::a_points();
-    let mut sender = sender_at(u, turn, state);
+    let mut sender = sender_at(accord, turn, state);
     let mut sent: usize = 0;
     let mut why = Why::Done;
     while sent < words.len() {
@@ -195,10 +199,11 @@ pub fn send_list(s: Sender, words: &[u32], out: &mut [i32]) -> SentList
             why: Why::Closed,
         };
     }
-    let w = send_words(s.accord.u, s.turn, s.state, words, out);
+    let accord = s.accord;
+    let w = send_words(accord, s.turn, s.state, words, out);
     let why = w.why;
     SentList {
-        sender: sender_at(s.accord.u, w.turn, w.state),
+        sender: sender_at(accord, w.turn, w.state),
         sent: w.sent,
         why: why,
     }
@@ -211,11 +216,12 @@ pub fn send(s: Sender, word: u32, out: &mut [i32]) -> Sent
     if !is_open(s) {
         return refuse(s, Why::Closed);
     }
+    let accord = s.accord;
     let one = [word];
-    let w = send_words(s.accord.u, s.turn, s.state, &one[0..], out);
+    let w = send_words(accord, s.turn, s.state, &one[0..], out);
     let why = w.why;
     Sent {
-        sender: sender_at(s.accord.u, w.turn, w.state),
+        sender: sender_at(accord, w.turn, w.state),
         why: why,
     }
 }

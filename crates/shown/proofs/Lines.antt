@@ -1,5 +1,6 @@
 -- Laws of a record's line: its parts as the code puts them, and any two lines that the promise allows are one.
 --   start-free, start-named     the start of an open
+--   head-square, head-round     an open's kind in words, and its width
 --   head-marked, head-plain     a symbol's kind in words
 --   symbol-is                   the coordinates of a symbol
 --   values-as                   by the kind's role
@@ -19,7 +20,7 @@ use Rattle.records.specs.declared.Kind.{Kind}
 use Rattle.records.specs.declared.Frame.{Frame}
 use Rattle.records.specs.Kinds.{kindOf}
 use Rattle.records.specs.Values.{leadOf, coordinateOf}
-use Rattle.shown.specs.Shown.{startText, symbolHead, symbolText, valuesText, recordLine}
+use Rattle.shown.specs.Shown.{startText, openHead, symbolHead, symbolText, valuesText, recordLine}
 
 pub start-free : (s : ℕ) → s ≡ 16 → bytes " start free" ≡ startText s
 unfolding startText
@@ -28,6 +29,15 @@ start-free s e = sym (rw (eq-eqb s 16 e))
 pub start-named : (s n : ℕ) → (s ≡ 16 → ⊥) → n ≡ s → bytes " start " ++ decimal n ≡ startText s
 unfolding startText
 start-named s n e w = rw w (sym (rw (ne-eqb s 16 e)))
+
+module _ (k : ℕ) (body : List ℕ) (n : ℕ) where
+  pub head-square : k ≡ 6 → n ≡ getD body 0 0 → bytes " open square u " ++ decimal n ≡ openHead k body
+  unfolding openHead
+  head-square e w = rw w (sym (rw (eq-eqb k 6 e)))
+
+  pub head-round : (k ≡ 6 → ⊥) → n ≡ getD body 0 0 → bytes " open u " ++ decimal n ≡ openHead k body
+  unfolding openHead
+  head-round e w = rw w (sym (rw (ne-eqb k 6 e)))
 
 -- a text after another, each a space and something
 regroup : (t s a b c d : List ℕ) → t ++ (s ++ a) ++ (s ++ b) ++ (s ++ c) ++ (s ++ d) ≡ t ++ (s ++ a ++ (s ++ b ++ (s ++ c ++ (s ++ d ++ []))))

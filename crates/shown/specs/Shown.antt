@@ -1,8 +1,8 @@
 -- The text of a record, as `capture show` prints it: "one readable line for each record (number, offset, kind in words, its values)".
 -- Definitions only.
 --   startText s       of an open: "start (0 to 15, 16 for free)"
---   openText, symbolText, wordText   the kind in words, and what a body says: the numbers of an open, the coordinates of a symbol, behind its
---                     mark where points of it are missing, a word as eight hexadecimal digits
+--   openText, symbolText, wordText   the kind in words, and what a body says: the numbers of an open, on the square map behind its name, the
+--                     coordinates of a symbol, behind its mark where points of it are missing, a word as eight hexadecimal digits
 --   valuesText r k b  of the kind k and its role r
 --   recordLine n f    the line of record n, which the frame f holds
 --   lineRoom          what a line takes at most
@@ -31,8 +31,11 @@ isWhole Bad = false
 unfoldable pub startText : ℕ → List ℕ
 startText s = cond (eqb s 16) (bytes " start free") (bytes " start " ++ decimal s)
 
-unfoldable pub openText : List ℕ → List ℕ
-openText b = (bytes " open u " ++ decimal (widthOf b)) ++ (bytes " window " ++ decimal (windowOf b)) ++ startText (startOf b)
+unfoldable pub openHead : ℕ → List ℕ → List ℕ
+openHead k b = cond (eqb k 6) (bytes " open square u " ++ decimal (widthOf b)) (bytes " open u " ++ decimal (widthOf b))
+
+unfoldable pub openText : ℕ → List ℕ → List ℕ
+openText k b = openHead k b ++ (bytes " window " ++ decimal (windowOf b)) ++ startText (startOf b)
 
 unfoldable pub symbolHead : ℕ → List ℕ → List ℕ
 symbolHead k b = cond (eqb k 5) (bytes " marked " ++ decimal (markIn k b)) (bytes " symbol")
@@ -44,7 +47,7 @@ unfoldable pub wordText : List ℕ → List ℕ
 wordText b = bytes " word " ++ hex (wordOf b)
 
 unfoldable pub valuesText : Role → ℕ → List ℕ → List ℕ
-valuesText Open k b = openText b
+valuesText Open k b = openText k b
 valuesText Symbol k b = symbolText k b
 valuesText Word k b = wordText b
 valuesText Finish k b = bytes " finish"

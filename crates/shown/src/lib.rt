@@ -12,7 +12,7 @@ ghost use Rattle.text.specs.Bytes.{bytes};
 ghost use Rattle.phrases.specs.Phrase.{decimal, whole};
 ghost use Rattle.records.specs.Kinds.{kindOf};
 ghost use Rattle.records.specs.Values.{coordinateOf};
-ghost use Rattle.shown.specs.Shown.{isWhole, startText, openText, symbolHead, symbolText, wordText, valuesText, recordLine, lineRoom};
+ghost use Rattle.shown.specs.Shown.{isWhole, startText, openHead, openText, symbolHead, symbolText, wordText, valuesText, recordLine, lineRoom};
 
 pub fn is_whole(stage: Stage) -> bool
     ensures { λ r. ⌜ r ≡ isWhole stage ⌝ }
@@ -52,14 +52,26 @@ fn put_start(page: &mut [u8], at: usize, start: u8) -> usize
     put_named(page, at, b" start ", start as u64)
 }
 
-fn put_open(page: &mut [u8], at: usize, body: &[u8; 9]) -> usize
-    requires { ⌜ at + 120 ≤ length (now page) ⌝ }
-    ensures { λ r. ⌜ Puts (now (page .entry)) at (openText (now (body .entry))) r (now (page .exit)) ⌝ }
-    ensures { λ r. ⌜ r ≤ at + 120 ⌝ }
+// An open's kind in words, and its width.
+fn put_width(page: &mut [u8], at: usize, kind: u8, body: &[u8; 9]) -> usize
+    requires { ⌜ at + 35 ≤ length (now page) ⌝ }
+    ensures { λ r. ⌜ Puts (now (page .entry)) at (openHead kind (now (body .entry))) r (now (page .exit)) ⌝ }
+    ensures { λ r. ⌜ r ≤ at + 35 ⌝ }
 {
     let u = wide(body[0]);
+    if kind == 6 {
+        return put_named(page, at, b" open square u ", u);
+    }
+    put_named(page, at, b" open u ", u)
+}
+
+fn put_open(page: &mut [u8], at: usize, kind: u8, body: &[u8; 9]) -> usize
+    requires { ⌜ at + 120 ≤ length (now page) ⌝ }
+    ensures { λ r. ⌜ Puts (now (page .entry)) at (openText kind (now (body .entry))) r (now (page .exit)) ⌝ }
+    ensures { λ r. ⌜ r ≤ at + 120 ⌝ }
+{
     let window = wide(body[1]);
-    let p = put_named(page, at, b" open u ", u);
+    let p = put_width(page, at, kind, body);
     let p = put_named(page, p, b" window ", window);
     put_start(page, p, body[2])
 }
@@ -121,7 +133,7 @@ fn put_values(page: &mut [u8], at: usize, kind: u8, body: &[u8; 9]) -> usize
     let row = records::kind_of(kind);
     let role = row.role;
     match role {
-        Role::Open => put_open(page, at, body),
+        Role::Open => put_open(page, at, kind, body),
         Role::Symbol => put_symbol(page, at, kind, body),
         Role::Word => put_word(page, at, body),
         Role::Finish => page::put_text(page, at, b" finish"),

@@ -11,6 +11,8 @@ use borrow.Author.Tests.{lt-ltb, le-leb}
 use lib.Dec.{leb}
 use lib.ListN.{length, take, drop, length-append}
 use lib.Seq.{take-at, drop-at, drop-drop}
+use Rattle.points.specs.declared.Accord.{Accord}
+use Rattle.accords.proofs.Back.{accord-back}
 use Rattle.sender.specs.declared.Sender.{Sender}
 use Rattle.sender.specs.Send as sender
 use Rattle.machine.specs.declared.Receiver.{Receiver}
@@ -30,7 +32,7 @@ pub record SenderFits (s : Sender) : Type 0 where
 sender-live : (s : Sender) (rest : List ℕ) → SenderFits s → s .live ≡ true → senderIn (wordsOfSender s ++ rest) ≡ s
 unfolding senderIn holds wordsOfSender
 sender-live s rest f e =
-    let a = lt-ltb (s .accord .u) (2 ^ 32) (f .u) in
+    let a = accord-back (s .accord) (f .u) in
     let b = lt-ltb (s .turn) (2 ^ 32) (f .turn) in
     let d = lt-ltb (s .state) (2 ^ 32) (f .state) in
     let n : leb 4 (length (wordsOfSender s ++ rest)) ≡ true = le-leb 4 (length (wordsOfSender s ++ rest)) (omega arith) in
@@ -92,14 +94,15 @@ module _ (rx : Receiver) (rest : List ℕ) where
     unfolding holds wordsOfReceiver
     held-yes e =
         let n = le-leb receiverLength (length state) long in
-        let a = lt-ltb (rx .core .accord .u) (2 ^ 32) (f .u) in
         let b = lt-ltb (rx .core .taken) (2 ^ 32) (f .taken) in
         let d = lt-ltb (rx .core .turn) (2 ^ 32) (f .turn) in
-        rw (n, e, a, b, d)
+        rw (n, e, b, d)
 
     core-at : coreIn state ≡ rx .core
     unfolding wordsOfReceiver
-    core-at = refl
+    core-at =
+        let c = rx .core in
+        ap (λ (k : Accord). record { accord = k; window = c .window; taken = c .taken; turn = c .turn; slot = c .slot; pending = c .pending }) (accord-back (c .accord) (f .u))
 
     receiver-live : rx .live ≡ true → receiverIn (wordsOfReceiver rx ++ rest) ≡ rx
     unfolding receiverIn

@@ -9,7 +9,7 @@ use mathlib.Core.Path.{_≡_}
 use mathlib.Core.Bool.{true, cond}
 use mathlib.Core.List.{List, [], _∷_, _++_}
 use lib.ListN.{getD, take, drop}
-use Rattle.points.specs.Agreed.{ofWidth}
+use Rattle.accords.specs.Numbers.{accordIn, accordWord}
 use Rattle.machine.specs.declared.Receiver.{Receiver}
 use Rattle.machine.specs.Machine as machine
 use Rattle.sender.specs.declared.Sender.{Sender}
@@ -18,14 +18,14 @@ use Rattle.layout.specs.Layout.{senderTag, receiverTag, senderLength, receiverL
 use Rattle.layout.specs.Tagged.{tagOf, holds}
 use Rattle.front.specs.Words.{coreIn, wordsOfCore}
 
--- ---- a sender: the tag, the width, the turn, the state
+-- ---- a sender: the tag, map and width, the turn, the state
 
 unfoldable pub senderIn : List ℕ → Sender
 senderIn ws =
-    cond (holds senderLength senderTag ws) (record { live = true; accord = ofWidth (getD ws 1 0); turn = getD ws 2 0; state = getD ws 3 0 }) sending.shut
+    cond (holds senderLength senderTag ws) (record { live = true; accord = accordIn (getD ws 1 0); turn = getD ws 2 0; state = getD ws 3 0 }) sending.shut
 
 unfoldable pub wordsOfSender : Sender → List ℕ
-wordsOfSender s = tagOf (s .live) senderTag ∷ s .accord .u ∷ s .turn ∷ s .state ∷ []
+wordsOfSender s = tagOf (s .live) senderTag ∷ accordWord (s .accord) ∷ s .turn ∷ s .state ∷ []
 
 -- ---- a receiver: the tag, six numbers, sixteen sums, 48 registers and 72 words of picks
 

@@ -2,7 +2,6 @@
 // said in `layout`. Words that are too short, have another tag, or a number that does not fit its field, hold no end and are read as a
 // closed one: a state of an older layout too.
 use machine::Receiver;
-use points::Accord;
 use sender::Sender;
 ghost use mathlib.Core.Path.{_≡_};
 ghost use Prim.Native.Nat.{_≤_};
@@ -17,12 +16,12 @@ pub fn load_sender(words: &[u64]) -> Sender
     if !layout::holds_record(words, layout::SENDER_WORDS, layout::SENDER) {
         return sender::closed_sender();
     }
-    let u = words[layout::WIDTH] as u32;
+    let accord = accords::accord_in(words[layout::ACCORD]);
     let turn = words[layout::SENDER_TURN] as u32;
     let state = words[layout::SENDER_STATE] as u32;
     Sender {
         live: true,
-        accord: Accord { u: u },
+        accord: accord,
         turn: turn,
         state: state,
     }
@@ -34,7 +33,8 @@ pub fn store_sender(s: Sender, words: &mut [u64])
     ensures { λ _. ⌜ SenderStored s (now (words .entry)) (now (words .exit)) ⌝ }
 {
     words[layout::TAG] = layout::tag_of(s.live, layout::SENDER);
-    words[layout::WIDTH] = s.accord.u as u64;
+    let accord = s.accord;
+    words[layout::ACCORD] = accords::accord_word(accord);
     words[layout::SENDER_TURN] = s.turn as u64;
     words[layout::SENDER_STATE] = s.state as u64;
 }

@@ -2,14 +2,17 @@
 //
 // It leans on the code's rules (crate wei) and on the table of points, which the caller makes once and lends. Whether there is such
 // a word, and whether the output has room, is the sender's to test.
+use points::Accord;
 use points::Point;
 ghost use mathlib.Core.Path.{_≡_};
+ghost use mathlib.Core.Bool.{true};
 ghost use Prim.Native.Nat.{_≤_, _<_};
 ghost use lib.ListN.{length, set};
 ghost use Rattle.wei.specs.State.{nextState};
 ghost use Rattle.wei.specs.Symbol.{firstLabel, symbolOf};
 ghost use Rattle.points.specs.Points.{coordinates};
-ghost use Rattle.points.specs.Pair.{firstPoint, secondPoint};
+ghost use Rattle.points.specs.Agreed.{isAccord};
+ghost use Rattle.maps.specs.PointMap.{firstAt, secondAt};
 
 // A symbol's two points, and the turn and the state after it.
 pub struct Symbol {
@@ -19,16 +22,18 @@ pub struct Symbol {
     pub second: Point,
 }
 
-pub fn make(table: &[i8; 512], u: u32, state: u32, turn: u32, word: u32) -> Symbol
-    requires { ⌜ (now table ≡ coordinates) × (u ≤ 8) × (state < 16) × (turn < 4) ⌝ }
-    ensures { λ r. ⌜ (let y = symbolOf u state turn word in
-        r ≡ record { turn = firstLabel y; state = nextState state (y .i1) (y .i2); first = firstPoint y; second = secondPoint y }) ⌝ }
+pub fn make(table: &[i8; 512], k: Accord, state: u32, turn: u32, word: u32) -> Symbol
+    requires { ⌜ (now table ≡ coordinates) × (isAccord k ≡ true) × (state < 16) × (turn < 4) ⌝ }
+    ensures { λ r. ⌜ (let y = symbolOf (k .u) state turn word in
+        r ≡ record { turn = firstLabel y; state = nextState state (y .i1) (y .i2); first = firstAt k y; second = secondAt k y }) ⌝ }
 {
+    let map = k.map;
+    let u = k.u;
     let p = wei::word::unpack(u, word);
     let q = wei::label::turn_on(turn, p.i2, p.i3);
     let l = wei::label::labels(q, state & 1, p.i1);
-    let first = points::point_of(table, l.first, p.w1 as usize);
-    let second = points::point_of(table, l.second, p.w2 as usize);
+    let first = maps::point_on(table, map, u, l.first, p.w1);
+    let second = maps::point_on(table, map, u, l.second, p.w2);
     let next = wei::state::next(state, p.i1, q & 1);
     Symbol {
         turn: q,

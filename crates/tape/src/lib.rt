@@ -1,5 +1,7 @@
 // Records put into lent bytes: one place that writes an open, one that writes a symbol, one that writes words, one that writes a finish.
 // Each writes at the front of the bytes that it is lent and leaves the rest as it was; what the bytes say is records/specs/Values.
+use points::Accord;
+use points::Map;
 ghost use mathlib.Core.Path.{_≡_};
 ghost use mathlib.Core.Bool.{cond};
 ghost use mathlib.Core.List.{[], _∷_};
@@ -7,7 +9,7 @@ ghost use Prim.Native.Nat.{_+_, _*_, _%_, _≤_, _<_};
 ghost use lib.IntN.{pos, natAbs};
 ghost use lib.Dec.{leb};
 ghost use lib.ListN.{length};
-ghost use Rattle.records.specs.Values.{halfOf, openEntry, symbolEntry, markedEntry, wordEntry, finishEntry};
+ghost use Rattle.records.specs.Values.{halfOf, openKind, openEntry, symbolEntry, markedEntry, wordEntry, finishEntry};
 ghost use Rattle.tape.specs.Front.{symbolIn, symbolRecord, symbolSpace, wordEntries, symbolRecords, finishRecords, Fronted, Small};
 
 // A coordinate as a number of 16 bits.
@@ -21,13 +23,24 @@ fn bits(x: i32) -> u32
     x as u32
 }
 
-// The numbers of an opening.
-pub fn put_open(u: u32, window: u32, start: u32, bytes: &mut [u8])
-    requires { ⌜ (4 ≤ length (now bytes)) × (u < 256) × (window < 256) × (start < 256) ⌝ }
-    ensures { λ _. ⌜ Fronted (openEntry u window start ∷ []) (now (bytes .entry)) (now (bytes .exit)) ⌝ }
+// The kind that opens a line of this map.
+fn open_kind(map: Map) -> u8
+    ensures { λ r. ⌜ r ≡ openKind map ⌝ }
 {
-    bytes[0] = 1;
-    bytes[1] = u as u8;
+    match map {
+        Map::Round => 1,
+        Map::Square => 6,
+    }
+}
+
+// The map and the numbers of an opening.
+pub fn put_open(k: Accord, window: u32, start: u32, bytes: &mut [u8])
+    requires { ⌜ (4 ≤ length (now bytes)) × (k .u < 256) × (window < 256) × (start < 256) ⌝ }
+    ensures { λ _. ⌜ Fronted (openEntry k window start ∷ []) (now (bytes .entry)) (now (bytes .exit)) ⌝ }
+{
+    let map = k.map;
+    bytes[0] = open_kind(map);
+    bytes[1] = k.u as u8;
     bytes[2] = window as u8;
     bytes[3] = start as u8;
 }

@@ -1,3 +1,4 @@
 pub mod Digits
 pub mod Signs
 pub mod Tokens
+pub mod Cut

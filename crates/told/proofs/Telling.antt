@@ -20,7 +20,8 @@ use Rattle.points.specs.Agreed.{isAccord}
 use Rattle.trellis.specs.Measure.{Start, GoodStart, Two}
 use Rattle.nearest.specs.declared.Received.{Received}
 use Rattle.nearest.specs.declared.Received.the-variants.{Heard, Missing}
-use Rattle.nearest.specs.Line.{isCoordinate, SpotInRange, InRange, BothInRange}
+use Rattle.spots.specs.Distance.{SpotInRange}
+use Rattle.nearest.specs.Line.{isCoordinate, InRange, BothInRange}
 use Rattle.told.specs.Told.{Told, withHeard, pendingAfter, faultAt, faultOf, judgeSymbol, FineList, Fine}
 
 module _ (t : Told) (zs : List (Two Received)) where

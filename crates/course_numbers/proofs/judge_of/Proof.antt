@@ -16,13 +16,13 @@ array-read-g : tie.Need-array-read-g
 array-read-g c = search needs
 
 cast-g : tie.Need-cast-g
-cast-g c = let h : getD (c .args .t1) 17 0 ≤ 4294967295 = known (c) 17 (omega arith) in omega (arith, h)
+cast-g c = let h : getD (c .args .t1) 17 0 ≤ 4294967295 = known c 17 (omega arith) in omega (arith, h)
 
 array-read-h : tie.Need-array-read-h
 array-read-h c = search needs
 
 cast-h : tie.Need-cast-h
-cast-h c = let h : getD (c .args .t1) 18 0 ≤ 4294967295 = known (c) 18 (omega arith) in omega (arith, h)
+cast-h c = let h : getD (c .args .t1) 18 0 ≤ 4294967295 = known c 18 (omega arith) in omega (arith, h)
 
 array-read-t7 : tie.Need-array-read-t7
 array-read-t7 c = search needs

@@ -1,7 +1,7 @@
 -- `store`: the tag, the numbers, the lists and the words that are due, one behind the other.
 use mathlib.Core.Path.{_≡_, sym, ap, _∙_}
 use mathlib.Core.List.{List}
-use Prim.Native.Nat.{ℕ}
+use Prim.Native.Nat.{ℕ, _≤_}
 use native.Mathlib.Omega.{arith}
 use denote.Ref.{now}
 use lib.ListN.{length}
@@ -18,6 +18,9 @@ Sized r = (length (r .frame .body) ≡ 9) × (length (r .sums) ≡ 16) × (lengt
 
 sized : (s : tie.Start) → Sized (s .args .r)
 sized s = (search needs, search needs, search needs, search needs, search needs)
+
+wide : (s : tie.Start) → s .args .r .judge .core .accord .u ≤ 4294967295
+wide s = search needs
 
 numbers-of-requires : tie.Need-numbers-of-requires
 numbers-of-requires c κs = search needs
@@ -63,7 +66,7 @@ returns c =
     let ns = tag .before .before .before .numbers-of .ensures in
     let due = c .before .before .put-due .ensures in
     let within-all = ap (λ (l : List ℕ). within limits l) (sym (ns .0)) ∙ ns .1 in
-    let fits : CourseFits (replayOf r) = record { numbers = within-all; nine = n .0; sums = n .1; planes = n .2; picks = n .3; due = n .4; small = due .1 } in
+    let fits : CourseFits (replayOf r) = record { numbers = within-all; nine = n .0; sums = n .1; planes = n .2; picks = n .3; due = n .4; small = due .1; width = wide s } in
     all-put (replayOf r) (now (s .args .words)) (s .pre) fits (tag .put .ensures .is) (ns .0) (numbers .put2 .ensures .is) (lists .put-lists .ensures .is) (due .0 .is)
 
 pub store-spec : {M : Type 1} → statement M

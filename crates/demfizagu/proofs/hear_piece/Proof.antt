@@ -80,7 +80,7 @@ hear-piece-lent-requires : tie.Need-hear-piece-lent-requires
 hear-piece-lent-requires c κs = search needs
 
 answer-requires-2 : tie.Need-answer-requires-2
-answer-requires-2 c κs = search needs
+answer-requires-2 c κs = let e = to-load-front (c .before .before .before .before .before) .before .before in e .before .before .before .if1 .left
 
 same-length-3 : tie.Need-same-length-3
 same-length-3 c = search needs

@@ -1,5 +1,5 @@
-// `receiver U`, `receiver U WINDOW free` and `receiver U WINDOW at S`: a receiver is opened, and the answer is the number of the
-// opening. The three differ in the start and the window alone.
+// `receiver U`, `receiver U WINDOW free` and `receiver U WINDOW at S`, on either map: a receiver is opened, and the answer is the number
+// of the opening. The three differ in the start and the window alone.
 use crate::Desk;
 use crate::Done;
 use crate::ends;
@@ -19,7 +19,8 @@ ghost use Rattle.desk.specs.Desk.{openingGives, Does, Acts};
 // What an opening of a receiver gave.
 fn opened(desk: Desk, o: Opened, page: &mut [u8], at: usize) -> Done
     requires { ⌜ at + answerRoom ≤ length (now page) ⌝ }
-    ensures { λ r. ⌜ ((g : Opening) → givenOf (o .why) ≡ givenOf (g .why) → o .receiver ≡ g .receiver → Does (openingGives desk g) answerRoom (now (page .entry)) at r (now (page .exit))) ⌝ }
+    ensures { λ r. ⌜ ((g : Opening) → givenOf (o .why) ≡ givenOf (g .why) → o .receiver ≡ g .receiver
+        → Does (openingGives desk g) answerRoom (now (page .entry)) at r (now (page .exit))) ⌝ }
 {
     let why = o.why;
     let p = answers::number(page, at, reasons::number(why) as u64);
@@ -27,25 +28,32 @@ fn opened(desk: Desk, o: Opened, page: &mut [u8], at: usize) -> Done
     ends::with_receiver(desk, receiver, p)
 }
 
-pub fn open_plain(desk: Desk, u: u32, page: &mut [u8], at: usize) -> Done
+pub fn open_plain(desk: Desk, accord: Accord, page: &mut [u8], at: usize) -> Done
     requires { ⌜ at + answerRoom ≤ length (now page) ⌝ }
-    ensures { λ r. ⌜ Acts desk (Request.Plain u) noneNamed (now (page .entry)) at r (now (page .exit)) ⌝ }
+    ensures { λ r. ⌜ Acts desk (Request.Plain accord) noneNamed (now (page .entry)) at r (now (page .exit)) ⌝ }
 {
-    opened(desk, openings::open_plain(Accord { u: u }), page, at)
+    opened(desk, openings::open_plain(accord), page, at)
 }
 
-pub fn open_free(desk: Desk, u: u32, window: u32, page: &mut [u8], at: usize) -> Done
+pub fn open_free(desk: Desk, accord: Accord, window: u32, page: &mut [u8], at: usize) -> Done
     requires { ⌜ at + answerRoom ≤ length (now page) ⌝ }
-    ensures { λ r. ⌜ Acts desk (Request.Free u window) noneNamed (now (page .entry)) at r (now (page .exit)) ⌝ }
+    ensures { λ r. ⌜ Acts desk (Request.Free accord window) noneNamed (now (page .entry)) at r (now (page .exit)) ⌝ }
 {
-    let o = openings::open_receiver(Accord { u: u }, window, Start::Free);
+    let o = openings::open_receiver(accord, window, Start::Free);
     opened(desk, o, page, at)
 }
 
-pub fn open_at(desk: Desk, u: u32, window: u32, state: u32, page: &mut [u8], at: usize) -> Done
+pub fn open_at(
+    desk: Desk,
+    accord: Accord,
+    window: u32,
+    state: u32,
+    page: &mut [u8],
+    at: usize,
+) -> Done
     requires { ⌜ at + answerRoom ≤ length (now page) ⌝ }
-    ensures { λ r. ⌜ Acts desk (Request.At u window state) noneNamed (now (page .entry)) at r (now (page .exit)) ⌝ }
+    ensures { λ r. ⌜ Acts desk (Request.At accord window state) noneNamed (now (page .entry)) at r (now (page .exit)) ⌝ }
 {
-    let o = openings::open_receiver(Accord { u: u }, window, Start::At(state));
+    let o = openings::open_receiver(accord, window, Start::At(state));
     opened(desk, o, page, at)
 }

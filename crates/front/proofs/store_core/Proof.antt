@@ -14,20 +14,20 @@ tag-of-requires c κs = search needs
 slice-write-words : tie.Need-slice-write-words
 slice-write-words c = search needs
 
-cast-words : tie.Need-cast-words
-cast-words c = search needs
+accord-word-requires : tie.Need-accord-word-requires
+accord-word-requires c κs = search needs
 
 slice-write-words-2 : tie.Need-slice-write-words-2
 slice-write-words-2 c = simp length-set (omega arith)
 
-cast-words-2 : tie.Need-cast-words-2
-cast-words-2 c = search needs
+cast-words : tie.Need-cast-words
+cast-words c = search needs
 
 slice-write-words-3 : tie.Need-slice-write-words-3
 slice-write-words-3 c = simp length-set (omega arith)
 
-cast-words-3 : tie.Need-cast-words-3
-cast-words-3 c = search needs
+cast-words-2 : tie.Need-cast-words-2
+cast-words-2 c = search needs
 
 slice-write-words-4 : tie.Need-slice-write-words-4
 slice-write-words-4 c = simp length-set (omega arith)
@@ -47,7 +47,9 @@ same-length c = search needs
 returns : tie.Need-returns
 returns c =
     record {
-      words = let s = c .before .before .before .before .before in rw (c .before .before .before .tag-of .ensures) (stored (wordsOfCore (s .args .live) (s .args .c)) (now (s .args .words)) (s .pre));
+      words =
+          let s = c .before .before .before .before .before .before in
+          rw (c .before .before .before .before .tag-of .ensures, c .before .before .accord-word .ensures) (stored (wordsOfCore (s .args .live) (s .args .c)) (now (s .args .words)) (s .pre));
       u-fits = search needs;
       taken-fits = search needs;
       turn-fits = search needs;
@@ -59,11 +61,11 @@ store-core-spec =
     (tie.spec
     tag-of-requires
     slice-write-words
-    cast-words
+    accord-word-requires
     slice-write-words-2
-    cast-words-2
+    cast-words
     slice-write-words-3
-    cast-words-3
+    cast-words-2
     slice-write-words-4
     slice-write-words-5
     slice-write-words-6

@@ -42,28 +42,11 @@ is-half-requires-2 c κs = search needs
 
 returns-4 : tie.Need-returns-4
 returns-4 c =
-    let at-is-half = c .before .before .before .before in
+    let at-is-half = c .before .before .before in
     let s = to-else1 at-is-half .before .before in
     let ws = now (s .args .words) in
-    let yes = sym (at-is-half .is-half .ensures) ∙ not-false (at-is-half .is-half .result) (c .before .before .before .if3 .left) in
-    let no = sym (c .before .is-half2 .ensures) ∙ not-true (c .before .is-half2 .result) (c .if4 .taken) in
-    sym (held-by (s .args .size) (s .args .tag) ws (to-else1 at-is-half .if1 .left) (at-is-half .before .before .if2 .left) ∙ rw (yes, no))
-
-shared-slice-read-is-half-3 : tie.Need-shared-slice-read-is-half-3
-shared-slice-read-is-half-3 c = search needs
-
-is-half-requires-3 : tie.Need-is-half-requires-3
-is-half-requires-3 c κs = search needs
-
-returns-5 : tie.Need-returns-5
-returns-5 c =
-    let at-is-half2 = c .before .before .before in
-    let at-is-half = at-is-half2 .before .before .before in
-    let s = to-else1 at-is-half .before .before in
-    let ws = now (s .args .words) in
-    let yes = sym (at-is-half .is-half .ensures) ∙ not-false (at-is-half .is-half .result) (at-is-half2 .before .before .if3 .left) in
-    let also = sym (at-is-half2 .is-half2 .ensures) ∙ not-false (at-is-half2 .is-half2 .result) (c .before .before .if4 .left) in
-    c .is-half3 .ensures ∙ sym (held-by (s .args .size) (s .args .tag) ws (to-else1 at-is-half .if1 .left) (at-is-half .before .before .if2 .left) ∙ rw (yes, also))
+    let yes = sym (at-is-half .is-half .ensures) ∙ not-false (at-is-half .is-half .result) (c .before .before .if3 .left) in
+    c .is-half2 .ensures ∙ sym (held-by (s .args .size) (s .args .tag) ws (to-else1 at-is-half .if1 .left) (at-is-half .before .before .if2 .left) ∙ rw yes)
 
 pub holds-record-spec : {M : Type 1} → statement M
 holds-record-spec =
@@ -77,7 +60,4 @@ holds-record-spec =
     returns-3
     shared-slice-read-is-half-2
     is-half-requires-2
-    returns-4
-    shared-slice-read-is-half-3
-    is-half-requires-3
-    returns-5)
+    returns-4)

@@ -1,5 +1,5 @@
 -- `write_words`: the words and the turn so far are those of the symbols passed.
-use Prim.Native.Nat.{ℕ, _≤_, _+_, _-_}
+use Prim.Native.Nat.{ℕ, _≤_, _-_}
 use mathlib.Core.Path.{_≡_, refl, ap, _∙_}
 use mathlib.Core.List.{_++_}
 use native.Mathlib.Omega.{arith}
@@ -52,8 +52,9 @@ add-word-in c = let p = to-start (c .before) .pre in record { fits = omega (arit
 
 word-in-requires : tie.Need-word-in-requires Inv-loop μ-loop
 word-in-requires c κs =
-    let p = to-start (c .before) .pre in
-    (accord-width _ (p .0 .agreed), c .before .before .before .loop .inv .2, omega arith, omega (arith, p .2, p .0 .held, p .0 .small-window), c .subset-at .ensures .1, p .4)
+    let s = to-start (c .before) in
+    let p = s .pre in
+    (accord-width (s .args .core .accord) (p .0 .agreed), c .before .before .before .loop .inv .2, omega arith, omega (arith, p .2, p .0 .held, p .0 .small-window), c .subset-at .ensures .1, p .4)
 
 mul-out : tie.Need-mul-out Inv-loop μ-loop
 mul-out c = let p = to-start (c .before .before) .pre in record { fits = omega (arith, p .0 .held, p .0 .small-window) }

@@ -1,6 +1,6 @@
 -- `is_coordinate`: the two signed comparisons are one of the absolute value.
 use mir.Facts.{toZ-ofZ}
-use Rattle.nearest.proofs.Ints.{upper, lower}
+use Rattle.nearest.proofs.Range.{upper, lower}
 use Rattle.nearest.proofs.is_coordinate.Statement.{statement}
 use Rattle.nearest.proofs.is_coordinate.Tie as tie
 

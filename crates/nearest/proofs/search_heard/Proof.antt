@@ -1,128 +1,77 @@
--- `search_heard`: the least keys are those of the nearest numbers, and number, distance and counted distance are read off each.
-use Prim.Native.Nat.{ℕ, _*_, _%_, _^_, _≤_}
-use mathlib.Core.Path.{_≡_, sym, ap, subst, _∙_}
+-- `search_heard`: what is found on the map of the accord, and what each distance counts for.
+use Prim.Native.Nat.{ℕ}
+use mathlib.Core.Path.{_≡_}
 use mathlib.Core.List.{[], _∷_}
-use native.Mathlib.Nat.{one-mul}
-use native.Mathlib.Omega.{arith}
-use lib.Pow.{pow-mono, shl-exact}
 use borrow.Author.Needs.{needs}
+use lib.ListN.{getD}
 use Rattle.points.specs.declared.Accord.{Accord}
-use Rattle.points.specs.Points.{aPoint}
-use Rattle.points.proofs.Agreed.{accord-width}
-use Rattle.points.specs.Turn.{Small}
-use Rattle.points.proofs.Rule.{small}
 use Rattle.trellis.specs.Measure.{counted}
 use Rattle.trellis.specs.Pick.{near, gapOf}
-use Rattle.nearest.specs.declared.Spot.{Spot}
+use Rattle.spots.specs.declared.Spot.{Spot}
+use Rattle.spots.specs.declared.Found.{Found}
+use Rattle.spots.specs.Found.{foundBy}
 use Rattle.nearest.specs.declared.Received.the-variants.{Heard}
-use Rattle.nearest.specs.declared.key.Keys.{Keys}
-use Rattle.nearest.specs.declared.key.Candidate.{Candidate}
-use Rattle.nearest.specs.Line.{distance, lineDistance}
+use Rattle.nearest.specs.Line.{mapDistance, lineDistance}
 use Rattle.nearest.specs.Found.{chartOf, nearestOf}
-use Rattle.nearest.specs.Key.{keysOf, leastKeys, candidateOf}
-use Rattle.nearest.proofs.Keys.{nearKey, rest-le, read, keys-near}
 use Rattle.nearest.proofs.search_heard.Statement.{statement}
 use Rattle.nearest.proofs.search_heard.Tie as tie
 
--- 1 << u
-shifted : (u : ℕ) → u ≤ 8 → 1 * 2 ^ u % 2 ^ 64 ≡ 2 ^ u
-shifted u h = shl-exact {a = 1} 1 u 64 (omega arith) (omega arith) ∙ one-mul (2 ^ u)
+-- the row of counted distances beside what was found
+laid : (k : Accord) (h : Spot) (f : Found) (a c b d : ℕ) → f ≡ foundBy (k .u) (mapDistance (k .map) (k .u)) h →
+    a ≡ counted (getD (f .d) 0 0) → c ≡ counted (getD (f .d) 1 0) → b ≡ counted (getD (f .d) 2 0) → d ≡ counted (getD (f .d) 3 0) →
+    record { w = f .w; d = f .d; counted = a ∷ c ∷ b ∷ d ∷ [] } ≡ nearestOf k (Heard h)
+unfolding nearestOf foundBy near gapOf lineDistance
+laid k h f a c b d e p q r s = rw (p, q, r, s, e)
 
-rest-is : (c : tie.After-distance-from) → c .distance-from .result ≡ distance (c .before .before .args .h) (aPoint 0)
-rest-is c = c .distance-from .ensures ∙ ap (distance (c .before .before .args .h)) (c .before .a-point .ensures)
-
--- what is found for a label
-abbrev found : ℕ → Spot → ℕ → Candidate
-found u h l = record { w = near u lineDistance (Heard h) l; d = gapOf u lineDistance (Heard h) l; counted = counted (gapOf u lineDistance (Heard h) l) }
-
--- what reading off asks and gives, for each label
-module _ (c : tie.After-least-keys) where
-  abbrev k : Accord
-  k = c .before .before .before .before .args .k
-
-  abbrev u : ℕ
-  u = k .u
-
-  abbrev h : Spot
-  h = c .before .before .before .before .args .h
-
-  small-u : u ≤ 8
-  small-u = accord-width k (c .before .before .before .before .pre .1)
-
-  keys-are : c .least-keys .result ≡ keysOf (nearKey u h)
-  keys-are = c .least-keys .ensures ∙ ap (leastKeys h) (shifted u small-u) ∙ keys-near u h
-
-  module _ (l key : ℕ) (e : key ≡ nearKey u h l) where
-    asked : c .before .before .distance-from .result % 256 ≤ key
-    asked = rest-le u h small-u l key (c .before .before .distance-from .result) e (rest-is (c .before .before))
-
-    given : candidateOf key (c .before .before .distance-from .result % 256) ≡ found u h l
-    given = read u h small-u l key (c .before .before .distance-from .result) e (rest-is (c .before .before))
-
-  keys-at : (f : Keys → ℕ) → f (c .least-keys .result) ≡ f (keysOf (nearKey u h))
-  keys-at f = ap f keys-are
-
-a-point-requires : tie.Need-a-point-requires
+search-on-requires : tie.Need-search-on-requires
 unfolding chartOf
-a-point-requires c κs = (c .pre .0, omega arith)
+search-on-requires c κs = (c .pre .0, c .pre .1, c .pre .2)
 
-distance-from-requires : tie.Need-distance-from-requires
-distance-from-requires c κs = (c .before .pre .2, subst Small (sym (c .a-point .ensures)) (small 0 (omega arith)))
+array-read-counted-of : tie.Need-array-read-counted-of
+array-read-counted-of c = search needs
 
-cast-least-keys : tie.Need-cast-least-keys
-cast-least-keys c = search needs
+counted-of-requires : tie.Need-counted-of-requires
+counted-of-requires c κs = search needs
 
-shl-least-keys : tie.Need-shl-least-keys
-shl-least-keys c = omega (arith, accord-width (c .before .before .before .args .k) (c .before .before .before .pre .1))
+array-read-counted-of-2 : tie.Need-array-read-counted-of-2
+array-read-counted-of-2 c = search needs
 
-least-keys-requires : tie.Need-least-keys-requires
-unfolding chartOf
-least-keys-requires c κs =
-    let s = c .before .before .before in
-    let h = accord-width (s .args .k) (s .pre .1) in
-    let e : 2 ^ s .args .k .u ≤ 256 = pow-mono h in
-    (s .pre .0, s .pre .2, omega (arith, shifted (s .args .k .u) h))
+counted-of-requires-2 : tie.Need-counted-of-requires-2
+counted-of-requires-2 c κs = search needs
 
-read-off-requires : tie.Need-read-off-requires
-read-off-requires c κs = asked c 0 (c .least-keys .result .a) (keys-at c (λ k. k .a))
+array-read-counted-of-3 : tie.Need-array-read-counted-of-3
+array-read-counted-of-3 c = search needs
 
-read-off-requires-2 : tie.Need-read-off-requires-2
-read-off-requires-2 c κs = asked (c .before) 1 (c .before .least-keys .result .c) (keys-at (c .before) (λ k. k .c))
+counted-of-requires-3 : tie.Need-counted-of-requires-3
+counted-of-requires-3 c κs = search needs
 
-read-off-requires-3 : tie.Need-read-off-requires-3
-read-off-requires-3 c κs = asked (c .before .before) 2 (c .before .before .least-keys .result .b) (keys-at (c .before .before) (λ k. k .b))
+array-read-counted-of-4 : tie.Need-array-read-counted-of-4
+array-read-counted-of-4 c = search needs
 
-read-off-requires-4 : tie.Need-read-off-requires-4
-read-off-requires-4 c κs = asked (c .before .before .before) 3 (c .before .before .before .least-keys .result .d) (keys-at (c .before .before .before) (λ k. k .d))
-
--- the four candidates, as rows
-rows : (k : Accord) (h : Spot) (a c b d : Candidate) → a ≡ found (k .u) h 0 → c ≡ found (k .u) h 1 → b ≡ found (k .u) h 2 → d ≡ found (k .u) h 3 →
-    record { w = a .w ∷ c .w ∷ b .w ∷ d .w ∷ []; d = a .d ∷ c .d ∷ b .d ∷ d .d ∷ []; counted = a .counted ∷ c .counted ∷ b .counted ∷ d .counted ∷ [] } ≡ nearestOf k (Heard h)
-unfolding nearestOf
-rows k h a c b d p q r s = rw (p, q, r, s)
+counted-of-requires-4 : tie.Need-counted-of-requires-4
+counted-of-requires-4 c κs = search needs
 
 returns : tie.Need-returns
 returns c =
-    let q = c .before .before .before .before in
-    let a = c .before .before .before .read-off in
-    let b = c .before .before .read-off2 in
-    rows (k q) (h q) (a .result) (b .result) (c .before .read-off3 .result) (c .read-off4 .result)
-    (a .ensures ∙ given q 0 (q .least-keys .result .a) (keys-at q (λ k. k .a)))
-    (b .ensures ∙ given q 1 (q .least-keys .result .c) (keys-at q (λ k. k .c)))
-    (c .before .read-off3 .ensures ∙ given q 2 (q .least-keys .result .b) (keys-at q (λ k. k .b)))
-    (c .read-off4 .ensures ∙ given q 3 (q .least-keys .result .d) (keys-at q (λ k. k .d)))
+    let f = c .before .before .before .before .before .before in
+    let s = f .before in
+    laid (s .args .k) (s .args .h) (f .search-on .result) _ _ _ _ (f .search-on .ensures)
+    (c .before .before .before .counted-of .ensures)
+    (c .before .before .counted-of2 .ensures)
+    (c .before .counted-of3 .ensures)
+    (c .counted-of4 .ensures)
 
 pub search-heard-spec : {M : Type 1} → statement M
 search-heard-spec =
     tie.close
     (tie.spec
-    a-point-requires
-    distance-from-requires
-    cast-least-keys
-    shl-least-keys
-    least-keys-requires
-    read-off-requires
-    read-off-requires-2
-    read-off-requires-3
-    read-off-requires-4
+    search-on-requires
+    array-read-counted-of
+    counted-of-requires
+    array-read-counted-of-2
+    counted-of-requires-2
+    array-read-counted-of-3
+    counted-of-requires-3
+    array-read-counted-of-4
+    counted-of-requires-4
     returns)

@@ -2,7 +2,6 @@
 use mathlib.Core.Path.{subst}
 use native.Mathlib.Omega.{arith}
 use denote.Ref.{now}
-use Rattle.points.specs.Agreed.{ofWidth}
 use Rattle.openings.specs.declared.Start.{Start}
 use Rattle.openings.specs.Opening.{Opens}
 use Rattle.answers.proofs.Answers.{number-near}
@@ -14,7 +13,7 @@ use Rattle.noting.proofs.opening.Tie as tie
 returns : tie.Need-returns
 returns c =
     let a = c .before .before .before .args in
-    ends-before (a .rx) (a .begun) (ofWidth (a .u)) (a .window) (a .start) (now (a .bytes)) (now (a .page)) (c .if1 .taken)
+    ends-before (a .rx) (a .begun) (a .accord) (a .window) (a .start) (now (a .bytes)) (now (a .page)) (c .if1 .taken)
 
 record-open-requires : tie.Need-record-open-requires
 record-open-requires c κs = search needs
@@ -48,8 +47,8 @@ returns-2 c =
     let first = at-open .before .before .if1 .left in
     let start = at-open .before .before .before .before .before in
     let a = start .args in
-    opens-not (a .rx) (a .begun) (ofWidth (a .u)) (a .window) (a .start) (now (a .bytes)) (now (a .page)) first (recorded .result) _ (recorded .ensures) (recorded .kept .1 .1 .1 .0) (opened .result)
-    (subst (λ (b : Start). Opens (ofWidth (a .u)) (a .window) b (opened .result)) (start-at .ensures) (opened .ensures))
+    opens-not (a .rx) (a .begun) (a .accord) (a .window) (a .start) (now (a .bytes)) (now (a .page)) first (recorded .result) _ (recorded .ensures) (recorded .kept .1 .1 .1 .0) (opened .result)
+    (subst (λ (b : Start). Opens (a .accord) (a .window) b (opened .result)) (start-at .ensures) (opened .ensures))
     _ (number .result) (omega (arith, number-near _ (number .ensures), start .pre)) (number .ensures) (c .if2 .taken)
 
 same-length-3 : tie.Need-same-length-3
@@ -69,8 +68,8 @@ returns-3 c =
     let first = at-open .before .before .if1 .left in
     let start = at-open .before .before .before .before .before in
     let a = start .args in
-    opens-first (a .rx) (a .begun) (ofWidth (a .u)) (a .window) (a .start) (now (a .bytes)) (now (a .page)) first (recorded .result) _ (recorded .ensures) (recorded .kept .1 .1 .1 .0) (opened .result)
-    (subst (λ (b : Start). Opens (ofWidth (a .u)) (a .window) b (opened .result)) (start-at .ensures) (opened .ensures))
+    opens-first (a .rx) (a .begun) (a .accord) (a .window) (a .start) (now (a .bytes)) (now (a .page)) first (recorded .result) _ (recorded .ensures) (recorded .kept .1 .1 .1 .0) (opened .result)
+    (subst (λ (b : Start). Opens (a .accord) (a .window) b (opened .result)) (start-at .ensures) (opened .ensures))
     _ (number .result) (omega (arith, number-near _ (number .ensures), start .pre)) (number .ensures) (c .if2 .left)
 
 pub opening-spec : {M : Type 1} → statement M

@@ -7,7 +7,7 @@ use lib.IntN.{ℤ}
 use mir.Syntax.{w32}
 use mir.Val.{SFits, toZ, ofZ}
 use mir.Facts.{toZ-ofZ}
-use Rattle.nearest.specs.declared.Spot.{Spot}
+use Rattle.spots.specs.declared.Spot.{Spot}
 use Rattle.nearest.specs.declared.Received.{Received}
 use Rattle.nearest.specs.declared.Received.the-variants.{Heard}
 use Rattle.nearest.specs.Line.{isCoordinate}

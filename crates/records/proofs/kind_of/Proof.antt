@@ -30,7 +30,29 @@ returns-6 : tie.Need-returns-6
 unfolding kindOf
 returns-6 c =
     let p = c .before in
-    simp (ne-eqb _ _ (p .before .before .before .if1 .left), ne-eqb _ _ (p .before .before .if2 .left), ne-eqb _ _ (p .before .if3 .left), ne-eqb _ _ (p .if4 .left), ne-eqb _ _ (c .if5 .left))
+    let q = p .before in
+    simp (
+      ne-eqb _ _ (q .before .before .before .if1 .left),
+      ne-eqb _ _ (q .before .before .if2 .left),
+      ne-eqb _ _ (q .before .if3 .left),
+      ne-eqb _ _ (q .if4 .left),
+      ne-eqb _ _ (p .if5 .left),
+      eq-eqb _ _ (c .if6 .taken),
+    )
+
+returns-7 : tie.Need-returns-7
+unfolding kindOf
+returns-7 c =
+    let p = c .before in
+    let q = p .before in
+    simp (
+      ne-eqb _ _ (q .before .before .before .if1 .left),
+      ne-eqb _ _ (q .before .before .if2 .left),
+      ne-eqb _ _ (q .before .if3 .left),
+      ne-eqb _ _ (q .if4 .left),
+      ne-eqb _ _ (p .if5 .left),
+      ne-eqb _ _ (c .if6 .left),
+    )
 
 pub kind-of-spec : {M : Type 1} → statement M
-kind-of-spec = tie.close (tie.spec returns returns-2 returns-3 returns-4 returns-5 returns-6)
+kind-of-spec = tie.close (tie.spec returns returns-2 returns-3 returns-4 returns-5 returns-6 returns-7)

@@ -1,8 +1,11 @@
--- `take_open`: what the opening answered.
+-- `take_open`: what the opening answered, on the map of its kind.
 use Rattle.replay_take.proofs.Records.{open-is}
 use borrow.Author.Needs.{needs}
 use Rattle.replay_take.proofs.take_open.Statement.{statement}
 use Rattle.replay_take.proofs.take_open.Tie as tie
+
+map-in-requires : tie.Need-map-in-requires
+map-in-requires c κs = search needs
 
 array-read-start-at : tie.Need-array-read-start-at
 array-read-start-at c = search needs
@@ -38,12 +41,14 @@ returns : tie.Need-returns
 returns c =
     let p = c .before .before in
     let q = p .before .before .before .before .before in
-    λ due. open-is _ _ _ _ due _ _ _ (q .open-receiver .result) (rw (q .before .start-at .ensures) at (q .open-receiver .ensures)) _ _ _ (p .lay .ensures) _ (c .answer .ensures)
+    let m = q .before .before in
+    λ due. open-is _ _ _ _ due _ _ _ (q .open-receiver .result) (rw (m .map-in .ensures, q .before .start-at .ensures) at (q .open-receiver .ensures)) _ _ _ (p .lay .ensures) _ (c .answer .ensures)
 
 pub take-open-spec : {M : Type 1} → statement M
 take-open-spec =
     tie.close
     (tie.spec
+    map-in-requires
     array-read-start-at
     cast-start-at
     array-read-start-at-2

@@ -1,6 +1,6 @@
 -- `coordinates_after`: no token more, or the list of those that follow.
 use mathlib.Core.Path.{_∙_}
-use Rattle.requests.proofs.Readers.{no-more, some-more}
+use Rattle.text.proofs.Cut.{no-more, some-more}
 use borrow.Author.Needs.{needs}
 use Rattle.requests.proofs.coordinates_after.Statement.{statement}
 use Rattle.requests.proofs.coordinates_after.Tie as tie

@@ -37,7 +37,7 @@ part-send-words-end c = search needs
 
 send-words-requires : tie.Need-send-words-requires
 send-words-requires c κs =
-    let e = c .before .before .before in
+    let e = c .before .before .before .before in
     subst (λ (s : Sender). sound s ≡ true) (at-is (e .before .before .args .s) _ (open-is e) refl) (open-is e)
 
 sender-at-requires : tie.Need-sender-at-requires
@@ -49,7 +49,7 @@ same-length c = search needs
 returns-2 : tie.Need-returns-2
 returns-2 c =
     let w = c .before .before in
-    let e = w .before .before .before .before in
+    let e = w .before .before .before .before .before in
     let a = e .before .before .args in
     rw (c .sender-at .ensures) (one-sent (a .s) (a .word) (now (a .out)) _ _ (went-as (a .s) _ (now (a .out)) (open-is e) _ _ (w .send-words .ensures)))
 

@@ -24,7 +24,7 @@ returns c =
 
 send-words-requires : tie.Need-send-words-requires
 send-words-requires c κs =
-    let e = c .before in
+    let e = c .before .before in
     subst (λ (s : Sender). sound s ≡ true) (at-is (e .before .before .before .args .s) _ (open-is e) refl) (open-is e)
 
 sender-at-requires : tie.Need-sender-at-requires
@@ -36,7 +36,7 @@ same-length c = search needs
 returns-2 : tie.Need-returns-2
 returns-2 c =
     let w = c .before .before in
-    let e = w .before .before in
+    let e = w .before .before .before in
     let a = e .before .before .before .args in
     rw (c .sender-at .ensures) (went-as (a .s) (now (a .words)) (now (a .out)) (open-is e) _ _ (w .send-words .ensures))
 

@@ -39,7 +39,7 @@ returns-2 c =
     sends-short (s .args .s) (s .args .word) (now (s .args .out)) (c .refuse2 .result) (s .pre .1) (word-is (t .before)) (t .if2 .taken) (c .refuse2 .ensures)
 
 make-requires : tie.Need-make-requires
-make-requires c κs = let s = c .before .before .before in let r = range s in (s .pre .0, wide _ r, r .state, r .turn)
+make-requires c κs = let s = c .before .before .before .before in let r = range s in (s .pre .0, r .agreed, r .state, r .turn)
 
 put-requires : tie.Need-put-requires
 put-requires c κs = search needs
@@ -49,10 +49,11 @@ same-length c = search needs
 
 returns-3 : tie.Need-returns-3
 returns-3 c =
-    let m = c .before .before .before .before in
-    let t = m .before in
+    let m = c .before .before .before in
+    let t = m .before .before in
     let s = t .before .before .before in
-    sends-done (s .args .s) (s .args .word) (now (s .args .out)) (m .make .result) _ (s .pre .1) (word-is (t .before)) (t .if2 .left) (m .make .ensures) (c .before .before .put .ensures)
+    sends-done (s .args .s) (s .args .word) (now (s .args .out)) (m .make .result) _ (s .pre .1) (word-is (t .before)) (t .if2 .left) (m .make .ensures)
+    (c .before .put .ensures)
 
 pub send-word-spec : {M : Type 1} → statement M
 send-word-spec =

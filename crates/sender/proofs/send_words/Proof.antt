@@ -1,6 +1,6 @@
 -- `send_words`: the loop goes on, stops at a refused word, or comes to the end (proofs/Lists).
-use mathlib.Core.Path.{_≡_, sym, _∙_}
-use Prim.Native.Nat.{_-_, _+_}
+use mathlib.Core.Path.{sym, _∙_}
+use Prim.Native.Nat.{_-_}
 use native.Mathlib.Omega.{arith}
 use borrow.Author.Needs.{needs}
 use denote.Ref.{now}
@@ -10,10 +10,10 @@ use Rattle.sender.proofs.send_words.Statement.{statement}
 use Rattle.sender.proofs.send_words.Tie as tie
 
 abbrev Inv-loop : tie.InvT-loop
-Inv-loop u turn state words out₀ table sender₀ sent₀ why₀ out sender sent why = Going words out₀ sender₀ out sender sent why
+Inv-loop turn state words out₀ table sender₀ sent₀ why₀ out sender sent why = Going words out₀ sender₀ out sender sent why
 
 abbrev μ-loop : tie.MeasureT-loop
-μ-loop u turn state words out₀ table sender₀ sent₀ why₀ out sender sent why = length words - sent
+μ-loop turn state words out₀ table sender₀ sent₀ why₀ out sender sent why = length words - sent
 
 a-points-requires : tie.Need-a-points-requires Inv-loop μ-loop
 a-points-requires c κs = search needs
@@ -76,7 +76,7 @@ returns c =
     let l = c .before in
     let f = l .before in
     let a = f .before .before .before .args in
-    went-is (f .sender-at .result) (a .u) (a .turn) (a .state) (f .sender-at .ensures) (now (a .words)) (now (a .out)) _ _ _ _ (l .loop .inv .fit) (l .loop .inv .accord)
+    went-is (f .sender-at .result) (a .accord) (a .turn) (a .state) (f .sender-at .ensures) (now (a .words)) (now (a .out)) _ _ _ _ (l .loop .inv .fit) (l .loop .inv .accord)
     (end (now (a .words)) (now (a .out)) (f .sender-at .result) _ _ _ _ (l .loop .inv) (c .loop-test .left))
 
 same-length-2 : tie.Need-same-length-2 Inv-loop μ-loop
@@ -103,7 +103,7 @@ returns-2 c =
     let r = d .send-word .result in
     let sends = d .send-word .ensures in
     let kept = d .send-word .kept .1 .1 .1 .0 in
-    went-is s (a .u) (a .turn) (a .state) (f .sender-at .ensures) ws out (r .sender) _ _ _ (stop-open ws out s _ _ _ _ g more r _ sends kept) (stop-accord ws out s _ _ _ _ g more r _ sends kept)
+    went-is s (a .accord) (a .turn) (a .state) (f .sender-at .ensures) ws out (r .sender) _ _ _ (stop-open ws out s _ _ _ _ g more r _ sends kept) (stop-accord ws out s _ _ _ _ g more r _ sends kept)
     (stop ws out s _ _ _ _ g more r _ sends kept (λ z. c .if1 .taken (c .before .number .ensures ∙ z)))
 
 pub send-words-spec : {M : Type 1} → statement M

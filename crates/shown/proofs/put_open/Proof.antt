@@ -18,23 +18,14 @@ element-copy-out-wide c = search needs
 wide-requires : tie.Need-wide-requires
 wide-requires c κs = search needs
 
-element-copy-out-wide-2 : tie.Need-element-copy-out-wide-2
-element-copy-out-wide-2 c = search needs
-
-wide-requires-2 : tie.Need-wide-requires-2
-wide-requires-2 c κs = search needs
+put-width-requires : tie.Need-put-width-requires
+put-width-requires c κs = search needs
 
 slice-aggregate-put-named : tie.Need-slice-aggregate-put-named
 slice-aggregate-put-named c = search needs
 
 put-named-requires : tie.Need-put-named-requires
 put-named-requires c κs = search needs
-
-slice-aggregate-put-named-2 : tie.Need-slice-aggregate-put-named-2
-slice-aggregate-put-named-2 c = search needs
-
-put-named-requires-2 : tie.Need-put-named-requires-2
-put-named-requires-2 c κs = search needs
 
 element-copy-out-put-start : tie.Need-element-copy-out-put-start
 element-copy-out-put-start c = search needs
@@ -51,12 +42,12 @@ returns c =
     let start = c .before .before .put-start .ensures in
     let at-window = c .before .before .before .before .before .before .before in
     let at-width = at-window .before .before .before .before .before in
-    let read = at-width .before .before .before in
-    let width = puts-as (ap (λ (n : ℕ). bytes " open u " ++ decimal n) (read .before .before .wide .ensures)) (at-width .put-named .ensures .0) in
-    let window = puts-as (ap (λ (n : ℕ). bytes " window " ++ decimal n) (read .wide2 .ensures)) (at-window .put-named2 .ensures .0) in
-    let room = read .before .before .before .before .before .pre in (
-      joined (omega (arith, at-window .put-named2 .ensures .1, at-width .put-named .ensures .1, room)) (joined (omega (arith, at-width .put-named .ensures .1, room)) width window) (start .0),
-      omega (arith, start .1, at-window .put-named2 .ensures .1, at-width .put-named .ensures .1),
+    let read = at-width .before .before in
+    let width = at-width .put-width .ensures in
+    let window = puts-as (ap (λ (n : ℕ). bytes " window " ++ decimal n) (read .wide .ensures)) (at-window .put-named .ensures .0) in
+    let room = read .before .before .before .pre in (
+      joined (omega (arith, at-window .put-named .ensures .1, width .1, room)) (joined (omega (arith, width .1, room)) (width .0) window) (start .0),
+      omega (arith, start .1, at-window .put-named .ensures .1, width .1),
     )
 
 pub put-open-spec : {M : Type 1} → statement M
@@ -65,12 +56,9 @@ put-open-spec =
     (tie.spec
     element-copy-out-wide
     wide-requires
-    element-copy-out-wide-2
-    wide-requires-2
+    put-width-requires
     slice-aggregate-put-named
     put-named-requires
-    slice-aggregate-put-named-2
-    put-named-requires-2
     element-copy-out-put-start
     put-start-requires
     same-length

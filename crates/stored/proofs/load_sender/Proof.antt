@@ -28,27 +28,27 @@ returns : tie.Need-returns
 unfolding senderIn
 returns c = rw (sym (c .before .before .holds-record .ensures) ∙ not-true (c .before .before .holds-record .result) (c .before .if1 .taken)) (c .closed-sender .ensures)
 
-shared-slice-read-u : tie.Need-shared-slice-read-u
-shared-slice-read-u c = let h = known (c .before) in omega arith
+shared-slice-read-accord-in : tie.Need-shared-slice-read-accord-in
+shared-slice-read-accord-in c = let h = known (c .before) in omega arith
 
-cast-u : tie.Need-cast-u
-cast-u c = let h = known (c .before) in omega arith
+accord-in-requires : tie.Need-accord-in-requires
+accord-in-requires c κs = search needs
 
 shared-slice-read-turn : tie.Need-shared-slice-read-turn
-shared-slice-read-turn c = let h = known (c .before .before) in omega arith
+shared-slice-read-turn c = let h = known (c .before .before .before) in omega arith
 
 cast-turn : tie.Need-cast-turn
-cast-turn c = let h = known (c .before .before) in omega arith
+cast-turn c = let h = known (c .before .before .before) in omega arith
 
 shared-slice-read-state : tie.Need-shared-slice-read-state
-shared-slice-read-state c = let h = known (c .before .before .before) in omega arith
+shared-slice-read-state c = let h = known (c .before .before .before .before) in omega arith
 
 cast-state : tie.Need-cast-state
-cast-state c = let h = known (c .before .before .before) in omega arith
+cast-state c = let h = known (c .before .before .before .before) in omega arith
 
 returns-2 : tie.Need-returns-2
 unfolding senderIn
-returns-2 c = rw (yes (c .before .before .before))
+returns-2 c = rw (yes (c .before .before .before .before), c .before .before .accord-in .ensures)
 
 pub load-sender-spec : {M : Type 1} → statement M
 load-sender-spec =
@@ -57,8 +57,8 @@ load-sender-spec =
     holds-record-requires
     closed-sender-requires
     returns
-    shared-slice-read-u
-    cast-u
+    shared-slice-read-accord-in
+    accord-in-requires
     shared-slice-read-turn
     cast-turn
     shared-slice-read-state

@@ -1,4 +1,4 @@
--- `put_open`: four stores.
+-- `put_open`: four stores, the kind first.
 use mathlib.Core.List.{[], _∷_}
 use native.Mathlib.Omega.{arith}
 use denote.Ref.{now}
@@ -8,6 +8,9 @@ use Rattle.tape.proofs.Fronts.{fronted}
 use borrow.Author.Needs.{needs}
 use Rattle.tape.proofs.put_open.Statement.{statement}
 use Rattle.tape.proofs.put_open.Tie as tie
+
+open-kind-requires : tie.Need-open-kind-requires
+open-kind-requires c κs = search needs
 
 slice-write-bytes : tie.Need-slice-write-bytes
 slice-write-bytes c = search needs
@@ -35,12 +38,15 @@ same-length c = search needs
 
 returns : tie.Need-returns
 unfolding bytesOf
-returns c = fronted (openEntry (c .args .u) (c .args .window) (c .args .start) ∷ []) (now (c .args .bytes)) (c .pre .0)
+returns c =
+    let s = c .before .before .before in
+    rw (c .before .open-kind .ensures) (fronted (openEntry (s .args .k) (s .args .window) (s .args .start) ∷ []) (now (s .args .bytes)) (s .pre .0))
 
 pub put-open-spec : {M : Type 1} → statement M
 put-open-spec =
     tie.close
     (tie.spec
+    open-kind-requires
     slice-write-bytes
     cast-bytes
     slice-write-bytes-2

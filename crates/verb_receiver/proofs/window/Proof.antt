@@ -1,6 +1,6 @@
--- `opening::window`: a window, and then the start.
+-- `window`: a number, and the start after it.
 use mathlib.Core.Path.{sym, _∙_}
-use Rattle.requests.proofs.Readers.{window-alone, window-more}
+use Rattle.verb_receiver.proofs.Openings.{window-alone, window-more}
 use borrow.Author.Needs.{needs}
 use Rattle.verb_receiver.proofs.window.Statement.{statement}
 use Rattle.verb_receiver.proofs.window.Tie as tie
@@ -25,7 +25,8 @@ enum-told c = search needs
 
 returns-2 : tie.Need-returns-2
 returns-2 c =
-    window-more (c .before .before .before .before .before .before2 .ensures) _ _ (c .before .before .before .before .if1 .left) (sym (c .enum-told .given .1) ∙ c .before .before .number-of .ensures)
+    let e = c .before .before .before .before in
+    window-more (e .before .before2 .ensures) _ _ (e .if1 .left) (sym (c .enum-told .given .1) ∙ c .before .before .number-of .ensures)
 
 add-start : tie.Need-add-start
 add-start c = search needs
@@ -44,10 +45,9 @@ start-requires c κs = search needs
 
 returns-3 : tie.Need-returns-3
 returns-3 c =
-    c .start .ensures
-    ∙ window-more (c .before .before .before .before .before .before .before .before .before2 .ensures) _ _
-    (c .before .before .before .before .before .before .before .if1 .left)
-    (sym (c .before .before .before .window .given .1) ∙ c .before .before .before .before .before .number-of .ensures)
+    let w = c .before .before .before in
+    let e = w .before .before .before .before in
+    c .start .ensures ∙ window-more (e .before .before2 .ensures) _ _ (e .if1 .left) (sym (w .window .given .1) ∙ w .before .before .number-of .ensures)
 
 pub window-spec : {M : Type 1} → statement M
 window-spec =

@@ -7,7 +7,8 @@ use Rattle.text.specs.declared.number.Number.{Number}
 use Rattle.requests.specs.declared.Request.the-variants as request
 use Rattle.requests.specs.Verb.{both, sampleOf}
 use Rattle.text.specs.Number.{hexOf}
-use Rattle.requests.proofs.Readers.{after, hex-reader, two-read, sample-alone, sample-more}
+use Rattle.text.proofs.Cut.{after}
+use Rattle.requests.proofs.Readers.{hex-reader, two-read, sample-alone, sample-more}
 use borrow.Author.Needs.{needs}
 use Rattle.requests.proofs.sample.read.Statement.{statement}
 use Rattle.requests.proofs.sample.read.Tie as tie

@@ -5,7 +5,8 @@ use Rattle.text.specs.Token.{tokens}
 use Rattle.text.specs.declared.number.Number.{Number}
 use Rattle.requests.specs.declared.Request.the-variants as request
 use Rattle.requests.specs.Verb.{anyNumber, capNumber, both, sendOf}
-use Rattle.requests.proofs.Readers.{after, cap-reader, two-alone, two-read}
+use Rattle.text.proofs.Cut.{after}
+use Rattle.requests.proofs.Readers.{cap-reader, two-alone, two-read}
 use borrow.Author.Needs.{needs}
 use Rattle.requests.proofs.send.read.Statement.{statement}
 use Rattle.requests.proofs.send.read.Tie as tie

@@ -1,25 +1,31 @@
--- `sender::read`: one number.
-use mathlib.Core.Path.{sym, _∙_}
+-- `sender::read`: a number and a map, or none.
+use Prim.Native.Nat.{ℕ}
+use mathlib.Core.Path.{sym, ap, _∙_}
+use Rattle.points.specs.declared.Map.{Map}
+use Rattle.requests.specs.declared.Request.{Request}
 use Rattle.requests.specs.declared.Request.the-variants as request
-use Rattle.requests.proofs.Readers.{any-reader, one-read}
+use Rattle.requests.specs.Verb.{line, onNumber}
 use borrow.Author.Needs.{needs}
 use Rattle.requests.proofs.sender.read.Statement.{statement}
 use Rattle.requests.proofs.sender.read.Tie as tie
 
-number-of-requires : tie.Need-number-of-requires
-number-of-requires c κs = search needs
+abbrev sent : Map → ℕ → Request
+sent m u = request.Sender (line m u)
 
-enum-known-u : tie.Need-enum-known-u
-enum-known-u c = search needs
+number-and-map-requires : tie.Need-number-and-map-requires
+number-and-map-requires c κs = search needs
+
+enum-known-map : tie.Need-enum-known-map
+enum-known-map c = search needs
 
 enum-told : tie.Need-enum-told
 enum-told c = search needs
 
 returns : tie.Need-returns
-returns c = one-read any-reader request.Sender _ (sym (c .enum-told .given .1) ∙ c .before .before .number-of .ensures)
+returns c = ap (onNumber sent) (sym (c .enum-told .given .1) ∙ c .before .before .number-and-map .ensures)
 
 returns-2 : tie.Need-returns-2
-returns-2 c = one-read any-reader request.Sender _ (sym (c .before .u .given .1) ∙ c .before .before .before .number-of .ensures)
+returns-2 c = ap (onNumber sent) (sym (c .before .map .given .1) ∙ c .before .before .before .number-and-map .ensures)
 
 pub read-spec : {M : Type 1} → statement M
-read-spec = tie.close (tie.spec number-of-requires enum-known-u enum-told returns returns-2)
+read-spec = tie.close (tie.spec number-and-map-requires enum-known-map enum-told returns returns-2)

@@ -1,6 +1,5 @@
 -- `verbs::open_receiver::open_free`: what the receiver's opening gave.
 use Rattle.openings.specs.declared.Start.the-variants.{Free}
-use Rattle.points.specs.Agreed.{ofWidth}
 use Rattle.openings.specs.Opening.{opening}
 use Rattle.desk.specs.Desk.{acting}
 use borrow.Author.Needs.{needs}
@@ -21,7 +20,7 @@ unfolding acting
 returns c =
     let o = c .before .before .before .before in
     let a = o .before .before .args in
-    c .before .before .opened .ensures (opening (ofWidth (a .u)) (a .window) Free) (o .open-receiver .ensures .always-given) (o .open-receiver .ensures .always-receiver)
+    c .before .before .opened .ensures (opening (a .accord) (a .window) Free) (o .open-receiver .ensures .always-given) (o .open-receiver .ensures .always-receiver)
 
 pub open-free-spec : {M : Type 1} → statement M
 open-free-spec = tie.close (tie.spec open-receiver-requires opened-requires same-length returns)

@@ -1,5 +1,4 @@
 -- `verbs::open_receiver::open_plain`: what the receiver's opening gave.
-use Rattle.points.specs.Agreed.{ofWidth}
 use Rattle.openings.specs.Opening.{plainOpening}
 use Rattle.desk.specs.Desk.{acting}
 use borrow.Author.Needs.{needs}
@@ -20,7 +19,7 @@ unfolding acting
 returns c =
     let o = c .before .before .before .before in
     let a = o .before .before .args in
-    c .before .before .opened .ensures (plainOpening (ofWidth (a .u))) (o .open-plain .ensures .always-given) (o .open-plain .ensures .always-receiver)
+    c .before .before .opened .ensures (plainOpening (a .accord)) (o .open-plain .ensures .always-given) (o .open-plain .ensures .always-receiver)
 
 pub open-plain-spec : {M : Type 1} → statement M
 open-plain-spec = tie.close (tie.spec open-plain-requires opened-requires same-length returns)

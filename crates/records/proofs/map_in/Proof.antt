@@ -1,0 +1,13 @@
+-- `map_in`: kind 6 is the square map's.
+use borrow.Author.Tests.{eq-eqb, ne-eqb}
+use Rattle.records.proofs.map_in.Statement.{statement}
+use Rattle.records.proofs.map_in.Tie as tie
+
+returns : tie.Need-returns
+returns c = simp (eq-eqb _ _ (c .if1 .taken))
+
+returns-2 : tie.Need-returns-2
+returns-2 c = simp (ne-eqb _ _ (c .if1 .left))
+
+pub map-in-spec : {M : Type 1} → statement M
+map-in-spec = tie.close (tie.spec returns returns-2)

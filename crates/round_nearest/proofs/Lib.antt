@@ -1,0 +1,5 @@
+-- for callers
+pub mod Distances
+-- for the functions of this crate
+pub mod Ints
+pub mod Keys

@@ -1,0 +1,2 @@
+-- how it is found
+pub mod Key

@@ -1,0 +1,3 @@
+-- what must be believed
+pub mod Distance
+pub mod Found

@@ -1,0 +1,4 @@
+pub mod Signed
+pub mod Places
+pub mod Axis
+pub mod Laws

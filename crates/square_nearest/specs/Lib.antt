@@ -1,0 +1,3 @@
+-- how it is found
+pub mod Found
+pub mod Axis

@@ -26,7 +26,7 @@ const AFTER: usize = 16;
 /// Random words, and the line that they make with noise.
 fn sent(deviation: f64) -> (Vec<u32>, Vec<i32>) {
     let map = reference::Map::new();
-    let (_, mut sender) = reference::Sender::open(U);
+    let (_, mut sender) = reference::Sender::open(reference::Line::round(U));
     let mut rng = rng::Rng::new(deviation as u64);
     let (mut words, mut line) = (Vec::new(), Vec::new());
     for _ in 0..SYMBOLS {

@@ -12,6 +12,13 @@ ghost use Rattle.page.specs.Page.{Puts};
 ghost use Rattle.replay_line.specs.Says.{lineOf};
 ghost use Rattle.collected.specs.Calls.{isShort, startCall, feedCall, endCall};
 ghost use Rattle.collected.specs.Promise.{Starts, Feeds, Ends};
+ghost use Rattle.collected.specs.Saying.{Room, Tells, Says, Heard};
+
+// What a call is to say: nothing, and which number it gives; or the line of a verdict.
+enum Said {
+    Nothing(u32),
+    Line(Verdict),
+}
 
 fn is_short(line: usize, told: usize) -> bool
     ensures { λ r. ⌜ r ≡ isShort line told ⌝ }
@@ -52,6 +59,17 @@ fn say(v: Verdict, line: &mut [u8], told: &mut [u64]) -> u32
     0
 }
 
+// What was to be said goes into the line and `told`.
+fn tell(said: Said, line: &mut [u8], told: &mut [u64]) -> u32
+    requires { ⌜ Room said (length (now line)) (length (now told)) ⌝ }
+    ensures { λ r. ⌜ Tells said (now (line .entry)) (now (told .entry)) r (now (line .exit)) (now (told .exit)) ⌝ }
+{
+    match said {
+        Said::Nothing(number) => quiet(told, number),
+        Said::Line(v) => say(v, line, told),
+    }
+}
+
 // A replay before any byte.
 pub fn start(state: &mut [u64]) -> u32
     ensures { λ r. ⌜ Starts (startCall (now (state .entry))) r (now (state .exit)) ⌝ }
@@ -63,49 +81,65 @@ pub fn start(state: &mut [u64]) -> u32
     0
 }
 
-// A lump of bytes, which may be empty.
-pub fn feed(state: &mut [u64], lump: &[u8], line: &mut [u8], told: &mut [u64]) -> u32
-    ensures { λ r. ⌜ Feeds (now (state .entry)) (now (lump .entry)) (feedCall (now (state .entry)) (now (lump .entry)) (now (line .entry)) (now (told .entry))) r
-        (now (state .exit)) (now (line .exit)) (now (told .exit)) ⌝ }
+// The state after a lump, and what is to be said of it. `short`: the caller lent too little to say it in.
+fn heard(state: &mut [u64], lump: &[u8], short: bool) -> Said
+    ensures { λ r. ⌜ Heard (now (state .entry)) (now (lump .entry)) short r (now (state .exit)) ⌝ }
 {
-    if is_short(line.len(), told.len()) {
-        return quiet(told, 8);
+    if short {
+        return Said::Nothing(8);
     }
     if !course_words::holds_replay(state) {
-        return quiet(told, 9);
+        return Said::Nothing(9);
     }
     let r = course_words::load(state);
     let frame = r.frame;
     let judge = r.judge;
     if replay::found(frame, judge) {
-        return quiet(told, 0);
+        return Said::Nothing(0);
     }
     let fed = replay::feed(r, lump);
     course_words::store(fed, state);
     let after = fed.frame;
     let judged = fed.judge;
     if !replay::found(after, judged) {
-        return quiet(told, 0);
+        return Said::Nothing(0);
     }
-    say(replay::end(fed), line, told)
+    Said::Line(replay::end(fed))
 }
 
-// The end of input. The state then holds no replay.
-pub fn end(state: &mut [u64], line: &mut [u8], told: &mut [u64]) -> u32
-    ensures { λ r. ⌜ Ends (endCall (now (state .entry)) (now (line .entry)) (now (told .entry))) r (now (state .exit)) (now (line .exit)) (now (told .exit)) ⌝ }
+// A lump of bytes, which may be empty.
+pub fn feed(state: &mut [u64], lump: &[u8], line: &mut [u8], told: &mut [u64]) -> u32
+    ensures { λ r. ⌜ Feeds (now (state .entry)) (now (lump .entry)) (feedCall (now (state .entry)) (now (lump .entry)) (now (line .entry)) (now (told .entry))) r
+        (now (state .exit)) (now (line .exit)) (now (told .exit)) ⌝ }
 {
-    if is_short(line.len(), told.len()) {
-        return quiet(told, 8);
+    let short = is_short(line.len(), told.len());
+    tell(heard(state, lump, short), line, told)
+}
+
+// The state after the end of input, which holds no replay, and what is to be said of it.
+fn closed(state: &mut [u64], short: bool) -> Said
+    ensures { λ r. ⌜ Says (endCall (now (state .entry))) short r (now (state .exit)) ⌝ }
+{
+    if short {
+        return Said::Nothing(8);
     }
     if !course_words::holds_replay(state) {
-        return quiet(told, 9);
+        return Said::Nothing(9);
     }
     let r = course_words::load(state);
     state[course_layout::TAG] = 0;
     let frame = r.frame;
     let judge = r.judge;
     if replay::found(frame, judge) {
-        return quiet(told, 0);
+        return Said::Nothing(0);
     }
-    say(replay::end(r), line, told)
+    Said::Line(replay::end(r))
+}
+
+// The end of input.
+pub fn end(state: &mut [u64], line: &mut [u8], told: &mut [u64]) -> u32
+    ensures { λ r. ⌜ Ends (endCall (now (state .entry)) (now (line .entry)) (now (told .entry))) r (now (state .exit)) (now (line .exit)) (now (told .exit)) ⌝ }
+{
+    let short = is_short(line.len(), told.len());
+    tell(closed(state, short), line, told)
 }

@@ -2,12 +2,16 @@
 -- "`first malformed P` or `second malformed P`". Numbers are decimal, and each line ends with a newline.
 --   lineText l     one line
 --   textOf ls      all of them
-use Prim.Native.Nat.{ℕ}
+--   Spells t p     for the functions that put it: these parts are this text, and take so much room
+use Prim.Native.Nat.{ℕ, _+_, _≤_}
+use mathlib.Core.Path.{_≡_}
 use mathlib.Core.List.{List, [], _∷_, _++_}
+use lib.ListN.{take}
 use Rattle.text.specs.Bytes.{bytes}
 use Rattle.phrases.specs.Phrase.{decimal}
-use Rattle.compared.specs.declared.Line.{Line}
-use Rattle.compared.specs.declared.Line.the-variants.{Differs, OnlyFirst, OnlySecond, Differences, FirstMalformed, SecondMalformed}
+use Rattle.compare_line.specs.declared.Parts.{Parts}
+use Rattle.telling.specs.declared.Line.{Line}
+use Rattle.telling.specs.declared.Line.the-variants.{Differs, OnlyFirst, OnlySecond, Differences, FirstMalformed, SecondMalformed}
 
 unfoldable pub lineText : Line → List ℕ
 lineText (Differs n) = bytes "record " ++ decimal n ++ bytes " differs\n"
@@ -20,3 +24,9 @@ lineText (SecondMalformed p) = bytes "second malformed " ++ decimal p ++ bytes "
 abbrev pub textOf : List Line → List ℕ
 textOf [] = []
 textOf (l ∷ ls) = lineText l ++ textOf ls
+
+pub record Spells (text : List ℕ) (p : Parts) : Type 0 where
+  pub said : take (p .front) (p .head) ++ decimal (p .n) ++ take (p .back) (p .tail) ≡ text
+  pub head : p .front ≤ 17
+  pub tail : p .back ≤ 13
+  pub both : p .front + p .back ≤ 20

@@ -14,9 +14,10 @@ use Rattle.records.specs.Frames.{capped}
 use Rattle.ahead.specs.Fronts.{frontOf}
 use Rattle.ahead.proofs.Fronts.{front-within}
 use Rattle.compared.specs.declared.Formed.{Formed}
-use Rattle.compared.specs.declared.Event.{Event}
+use Rattle.telling.specs.declared.Event.{Event}
 use Rattle.compared.specs.declared.Pass.{Pass}
-use Rattle.compared.specs.Passing.{formStep, judge, takes, lineMore, moved, halted, eventOf, movedBy, pairStep}
+use Rattle.telling.specs.Events.{judge}
+use Rattle.compared.specs.Passing.{formStep, takes, lineMore, moved, halted, eventOf, movedBy, pairStep}
 
 pub within : (w : Front) (p : Phase) (i : ℕ) (bs : List ℕ) (ends : Bool) → w ≡ frontOf p (drop i bs) ends → i ≤ length bs → i + w .length ≤ length bs
 within w p i bs ends e h = rw e (omega (arith, front-within p (drop i bs) ends, length-drop i bs))

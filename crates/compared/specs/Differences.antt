@@ -14,8 +14,8 @@ use Rattle.text.specs.Token.{sameBytes}
 use Rattle.records.specs.Values.{Entry}
 use Rattle.records.specs.Reading.{Ending, clean, malformed, Reading, readingOf}
 use Rattle.records.specs.Frames.{capped}
-use Rattle.compared.specs.declared.Line.{Line}
-use Rattle.compared.specs.declared.Line.the-variants.{Differs, OnlyFirst, OnlySecond, Differences, FirstMalformed, SecondMalformed}
+use Rattle.telling.specs.declared.Line.{Line}
+use Rattle.telling.specs.declared.Line.the-variants.{Differs, OnlyFirst, OnlySecond, Differences, FirstMalformed, SecondMalformed}
 
 -- "where kind or body differs"
 abbrev pub same : Entry → Entry → Bool

@@ -1,6 +1,5 @@
 -- What the code does with bytes that lie in buffers, as functions. What it means is specs/Differences.
 --   formStep f bs ends, formFrom n f bs ends   one look further, and n more as long as records come; formOf: of a lump of bytes
---   judge a b same n k    what two fronts tell, n being the number of the records there and k the lines so far
 --   pairStep p xs ys e d  one pair of records further; passFrom n: n more as long as they are the same; passOf: of two lumps
 --   freshPass             before any record
 use Prim.Native.Nat.{ℕ, zero, suc, _+_}
@@ -15,9 +14,9 @@ use Rattle.ahead.specs.declared.Sign.the-variants as sign
 use Rattle.ahead.specs.declared.Front.{Front}
 use Rattle.records.specs.Frames.{capped}
 use Rattle.ahead.specs.Fronts.{frontOf}
-use Rattle.compared.specs.declared.Line.the-variants.{Differs, OnlyFirst, OnlySecond, Differences}
-use Rattle.compared.specs.declared.Event.{Event}
-use Rattle.compared.specs.declared.Event.the-variants.{Same, Said, Last, Wait, Broken}
+use Rattle.telling.specs.declared.Event.{Event}
+use Rattle.telling.specs.declared.Event.the-variants.{Same, Said, Last, Wait, Broken}
+use Rattle.telling.specs.Events.{judge}
 use Rattle.compared.specs.declared.Formed.{Formed}
 use Rattle.compared.specs.declared.Pass.{Pass}
 
@@ -42,21 +41,6 @@ abbrev pub formOf : Phase → ℕ → List ℕ → Bool → Formed
 formOf p at bs ends = formFrom (length bs) (record { sign = sign.Record; phase = p; at = at; used = 0 }) bs ends
 
 -- ---- two captures side by side
-
-abbrev pub judge : Sign → Sign → Bool → ℕ → ℕ → Event
-judge sign.Record sign.Record b n k = cond b Same (Said (Differs n))
-judge sign.Record sign.Gone b n k = Said (OnlyFirst n)
-judge sign.Record sign.More b n k = Wait
-judge sign.Record sign.Bad b n k = Broken
-judge sign.Gone sign.Record b n k = Said (OnlySecond n)
-judge sign.Gone sign.Gone b n k = Last (Differences k)
-judge sign.Gone sign.More b n k = Wait
-judge sign.Gone sign.Bad b n k = Broken
-judge sign.More sign.Record b n k = Wait
-judge sign.More sign.Gone b n k = Wait
-judge sign.More sign.More b n k = Wait
-judge sign.More sign.Bad b n k = Broken
-judge sign.Bad s b n k = Broken
 
 -- both records are passed
 abbrev pub takes : Event → Bool

@@ -4,31 +4,13 @@
 // how many bytes they have used; the caller keeps the rest, puts more behind it and calls again. Nothing is kept of a record that is passed.
 use ahead::Sign;
 use records::Phase;
+use telling::Event;
 use text::token;
 ghost use mathlib.Core.Path.{_≡_};
 ghost use Prim.Native.Nat.{_+_, _≤_};
 ghost use lib.ListN.{length};
 ghost use Rattle.records.specs.Frames.{capped};
-ghost use Rattle.compared.specs.Passing.{isRecord, formStep, formOf, judge as Passing·judge, takes as Passing·takes, isSame, lineMore, pairStep, passOf, freshPass};
-
-// A line of the comparison, with its number.
-pub enum Line {
-    Differs(u64),
-    OnlyFirst(u64),
-    OnlySecond(u64),
-    Differences(u64),
-    FirstMalformed(u64),
-    SecondMalformed(u64),
-}
-
-// What two lumps told: two records that are the same; a line; the last line; nothing before more bytes come; that one is malformed.
-pub enum Event {
-    Same,
-    Said(Line),
-    Last(Line),
-    Wait,
-    Broken,
-}
+ghost use Rattle.compared.specs.Passing.{isRecord, formStep, formOf, takes as Passing·takes, isSame, lineMore, pairStep, passOf, freshPass};
 
 // How far one capture is read for its form: what stands next, what may stand there, its offset, and how many bytes of the lump are used.
 pub struct Formed {
@@ -114,37 +96,6 @@ pub fn form(phase: Phase, at: u64, bytes: &[u8], ends: bool) -> Formed
     form_step(f, bytes, ends)
 }
 
-// What two fronts tell of the records of this number.
-fn judge(a: Sign, b: Sign, same: bool, number: u64, lines: u64) -> Event
-    ensures { λ r. ⌜ r ≡ Passing·judge a b same number lines ⌝ }
-{
-    match a {
-        Sign::Record => match b {
-            Sign::Record => if same {
-                Event::Same
-            } else {
-                Event::Said(Line::Differs(number))
-            },
-            Sign::Gone => Event::Said(Line::OnlyFirst(number)),
-            Sign::More => Event::Wait,
-            Sign::Bad => Event::Broken,
-        },
-        Sign::Gone => match b {
-            Sign::Record => Event::Said(Line::OnlySecond(number)),
-            Sign::Gone => Event::Last(Line::Differences(lines)),
-            Sign::More => Event::Wait,
-            Sign::Bad => Event::Broken,
-        },
-        Sign::More => match b {
-            Sign::Record => Event::Wait,
-            Sign::Gone => Event::Wait,
-            Sign::More => Event::Wait,
-            Sign::Bad => Event::Broken,
-        },
-        Sign::Bad => Event::Broken,
-    }
-}
-
 fn takes(e: Event) -> bool
     ensures { λ r. ⌜ r ≡ Passing·takes e ⌝ }
 {
@@ -198,7 +149,7 @@ fn pair(p: Pass, xs: &[u8], ys: &[u8], ends: bool, closes: bool) -> Pass
     let a_end = i + a.length;
     let b_end = j + b.length;
     let same = token::same(&xs[i..a_end], &ys[j..b_end]);
-    let event = judge(a_sign, b_sign, same, p.number, p.lines);
+    let event = telling::judge(a_sign, b_sign, same, p.number, p.lines);
     if !takes(event) {
         return Pass {
             event: event,

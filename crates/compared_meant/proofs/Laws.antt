@@ -12,8 +12,8 @@ use lib.ListN.{length}
 use Rattle.text.specs.Token.{sameBytes}
 use Rattle.records.specs.Values.{Entry}
 use Rattle.records.specs.Reading.{Ending, clean, malformed, readingOf}
-use Rattle.compared.specs.declared.Line.{Line}
-use Rattle.compared.specs.declared.Line.the-variants.{Differs, OnlyFirst, OnlySecond, Differences}
+use Rattle.telling.specs.declared.Line.{Line}
+use Rattle.telling.specs.declared.Line.the-variants.{Differs, OnlyFirst, OnlySecond, Differences}
 use Rattle.compared.specs.Differences.{same, differencesFrom, counted, judged, comparisonOf, comparedOf, exchanged}
 
 -- ---- a capture against itself

@@ -24,13 +24,14 @@ use Rattle.records.specs.Reading.{clean, Reading, readingOf}
 use Rattle.records.specs.Frames.{capped}
 use Rattle.records.proofs.Counts.{capped-more}
 use Rattle.ahead.proofs.Fronts.{restOf, rest-whole, Taken, Ended, Says, look-passes, front-within}
-use Rattle.compared.specs.declared.Line.{Line}
-use Rattle.compared.specs.declared.Line.the-variants.{Differs, OnlyFirst, OnlySecond, Differences}
-use Rattle.compared.specs.declared.Event.{Event}
-use Rattle.compared.specs.declared.Event.the-variants.{Same, Said, Last, Wait, Broken}
+use Rattle.telling.specs.declared.Line.{Line}
+use Rattle.telling.specs.declared.Line.the-variants.{Differs, OnlyFirst, OnlySecond, Differences}
+use Rattle.telling.specs.declared.Event.{Event}
+use Rattle.telling.specs.declared.Event.the-variants.{Same, Said, Last, Wait, Broken}
 use Rattle.compared.specs.declared.Pass.{Pass}
 use Rattle.compared.specs.Differences.{same, differencesFrom, comparisonOf, comparedOf, cappedLine}
-use Rattle.compared.specs.Passing.{judge, isSame, moved, halted, firstFront, secondFront, movedBy, pairStep, passFrom, anew, passOf, freshPass}
+use Rattle.telling.specs.Events.{judge}
+use Rattle.compared.specs.Passing.{isSame, moved, halted, firstFront, secondFront, movedBy, pairStep, passFrom, anew, passOf, freshPass}
 
 abbrev pub todo : ℕ → Pass → ℕ → ℕ → List ℕ → List ℕ → List Line
 todo n p a b us vs = differencesFrom n (restOf (p .first) a us .records) (restOf (p .second) b vs .records)

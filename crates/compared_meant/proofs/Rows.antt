@@ -5,7 +5,7 @@ use Prim.Native.Nat.{ℕ}
 use Rattle.records.specs.Kinds.{kindOf}
 use Rattle.records.specs.Values.{byteFits, fitsFrom}
 use Rattle.records.specs.Reading.{readingFrom, readingOf}
-use Rattle.compared.specs.declared.Line.the-variants.{Differs, OnlySecond, Differences, SecondMalformed}
+use Rattle.telling.specs.declared.Line.the-variants.{Differs, OnlySecond, Differences, SecondMalformed}
 use Rattle.compared.specs.Differences.{differencesFrom, comparisonOf, comparedOf}
 
 -- `01 00 40 10 02 80 00 80 00 80 00 80 00 04 03 00 00 00` and a last byte

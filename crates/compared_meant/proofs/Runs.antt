@@ -20,12 +20,13 @@ use Rattle.records.specs.Reading.{clean, malformed, Reading, readingOf}
 use Rattle.records.specs.Values.{bodyFits}
 use Rattle.ahead.specs.Fronts.{frontOf}
 use Rattle.ahead.proofs.Fronts.{standing, restOf, rest-whole, Taken, Ended, Says, look-passes, front-within}
-use Rattle.compared.specs.declared.Line.{Line}
-use Rattle.compared.specs.declared.Line.the-variants.{Differs, OnlyFirst, OnlySecond}
-use Rattle.compared.specs.declared.Event.{Event}
-use Rattle.compared.specs.declared.Event.the-variants.{Same, Said, Last, Wait, Broken}
+use Rattle.telling.specs.declared.Line.{Line}
+use Rattle.telling.specs.declared.Line.the-variants.{Differs, OnlyFirst, OnlySecond}
+use Rattle.telling.specs.declared.Event.{Event}
+use Rattle.telling.specs.declared.Event.the-variants.{Same, Said, Last, Wait, Broken}
 use Rattle.compared.specs.declared.Pass.{Pass}
-use Rattle.compared.specs.Passing.{judge, isSame, moved, movedBy, firstFront, secondFront, pairStep, passFrom, anew, passOf, freshPass}
+use Rattle.telling.specs.Events.{judge}
+use Rattle.compared.specs.Passing.{isSame, moved, movedBy, firstFront, secondFront, pairStep, passFrom, anew, passOf, freshPass}
 use Rattle.compared_meant.proofs.Meaning.{nothing-passed, untrue, Call, called, Honest, unlessLast, Run}
 
 not-clean : (at : ℕ) → malformed at ≡ clean → ⊥

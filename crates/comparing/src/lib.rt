@@ -4,13 +4,13 @@
 //
 // A file that cannot be read or rewound, as a pipe, is told on the error stream before any line is printed.
 use ahead::Sign;
-use compared::Event;
-use compared::Line;
 use compared::Pass;
 use libc::SEEK_SET;
 use libc::STDERR_FILENO;
 use libc::STDOUT_FILENO;
 use records::Phase;
+use telling::Event;
+use telling::Line;
 ghost use mathlib.Core.Path.{_≡_};
 ghost use Prim.Native.Nat.{_+_, _-_, _≤_};
 ghost use lib.ListN.{length, take, drop};
@@ -32,19 +32,19 @@ enum Shape {
     Unread,
 }
 
-// What is held of the page, and whether all of it before was written.
+// How far the page is filled, whether more bytes are wanted, and whether to go on.
 struct Out {
     at: usize,
-    fine: bool,
+    waits: bool,
+    on: bool,
 }
 
-// Both files, how far they are compared, the page, and whether to go on.
+// Both files, how far they are compared, and the page.
 struct Both {
     pass: Pass,
     first: Side,
     second: Side,
     out: Out,
-    on: bool,
 }
 
 // Moves the bytes that wait to the front of the chunk, and says how many there are.
@@ -126,12 +126,11 @@ fn told(sign: Sign, at: u64) -> Shape {
     }
 }
 
-fn goes_on(sign: Sign) -> bool {
-    match sign {
-        Sign::Record => true,
-        Sign::Gone => false,
-        Sign::More => true,
-        Sign::Bad => false,
+fn is_unread(shape: Shape) -> bool {
+    match shape {
+        Shape::Clean => false,
+        Shape::Malformed(_) => false,
+        Shape::Unread => true,
     }
 }
 
@@ -148,12 +147,13 @@ fn read_form(r: Reading, chunk: &mut [u8]) -> Reading
     let f = compared::form(phase, r.at, &chunk[from..to], s.ends);
     let sign = f.sign;
     let after = f.phase;
+    let shape = told(sign, f.at);
     Reading {
         side: passed(s, f.used),
         phase: after,
         at: f.at,
-        shape: told(sign, f.at),
-        on: s.fine && goes_on(sign),
+        shape: shape,
+        on: s.fine & is_unread(shape),
     }
 }
 
@@ -190,89 +190,73 @@ fn flush(page: &[u8], at: usize) -> bool
     is_written
 }
 
-// A line more on the page, which is handed on where no other would find room.
-fn say(out: Out, line: Line, page: &mut [u8]) -> Out
-    requires { ⌜ out .at + 40 ≤ length (now page) ⌝ }
+// A line more on the page, which is handed on with the last line and where no other would find room.
+fn say(at: usize, line: Line, ends: bool, page: &mut [u8]) -> Out
+    requires { ⌜ at + 40 ≤ length (now page) ⌝ }
     ensures { λ r. ⌜ r .at + 40 ≤ length (now (page .entry)) ⌝ }
 {
-    let at = compare_line::put_line(page, out.at, line);
-    if at + 40 <= page.len() {
+    let end = compare_line::put_line(page, at, line);
+    if !ends & (end + 40 <= page.len()) {
         return Out {
-            at: at,
-            fine: out.fine,
+            at: end,
+            waits: false,
+            on: true,
         };
     }
+    let is_written = flush(page, end);
     Out {
         at: 0,
-        fine: flush(page, at),
+        waits: false,
+        on: is_written & !ends,
     }
 }
 
-// A side of which less than half a chunk waits is read on.
-fn fed(s: Side, chunk: &mut [u8]) -> Side
+// A side of which less than half a chunk waits is read on, where more bytes are wanted.
+fn fed(s: Side, is_wanted: bool, chunk: &mut [u8]) -> Side
     requires { ⌜ (s .from ≤ s .to) × (s .to ≤ length (now chunk)) ⌝ }
     ensures { λ r. ⌜ (r .from ≤ r .to) × (r .to ≤ length (now (chunk .entry))) ⌝ }
 {
     let waits = s.to - s.from;
-    if s.ends || chunk.len() - waits < waits {
+    if !is_wanted | s.ends | (chunk.len() - waits < waits) {
         return s;
     }
     refill(s, chunk)
 }
 
 // A file that was well formed a moment ago.
-fn changed(out: Out) -> Out
-    ensures { λ r. ⌜ r .at ≡ out .at ⌝ }
+fn changed(at: usize) -> Out
+    ensures { λ r. ⌜ r .at ≡ at ⌝ }
 {
     io::write_all(
         STDERR_FILENO,
         b"capture: a file was changed while it was read\n",
     );
-    out
-}
-
-// What two lumps told: a line goes to the page, and with the last line the page is handed on.
-fn heed(event: Event, out: Out, page: &mut [u8]) -> Out
-    requires { ⌜ out .at + 40 ≤ length (now page) ⌝ }
-    ensures { λ r. ⌜ r .at + 40 ≤ length (now (page .entry)) ⌝ }
-{
-    match event {
-        Event::Same => out,
-        Event::Said(line) => say(out, line, page),
-        Event::Last(line) => last(out, line, page),
-        Event::Wait => out,
-        Event::Broken => changed(out),
-    }
-}
-
-fn last(out: Out, line: Line, page: &mut [u8]) -> Out
-    requires { ⌜ out .at + 40 ≤ length (now page) ⌝ }
-    ensures { λ r. ⌜ r .at + 40 ≤ length (now (page .entry)) ⌝ }
-{
-    let at = compare_line::put_line(page, out.at, line);
     Out {
-        at: 0,
-        fine: flush(page, at) && out.fine,
+        at: at,
+        waits: false,
+        on: false,
     }
 }
 
-fn is_wait(event: Event) -> bool {
+// What two lumps told: a line goes to the page.
+fn heed(event: Event, at: usize, page: &mut [u8]) -> Out
+    requires { ⌜ at + 40 ≤ length (now page) ⌝ }
+    ensures { λ r. ⌜ r .at + 40 ≤ length (now (page .entry)) ⌝ }
+{
     match event {
-        Event::Same => false,
-        Event::Said(_) => false,
-        Event::Last(_) => false,
-        Event::Wait => true,
-        Event::Broken => false,
-    }
-}
-
-fn goes(event: Event) -> bool {
-    match event {
-        Event::Same => true,
-        Event::Said(_) => true,
-        Event::Last(_) => false,
-        Event::Wait => true,
-        Event::Broken => false,
+        Event::Same => Out {
+            at: at,
+            waits: false,
+            on: true,
+        },
+        Event::Said(line) => say(at, line, false, page),
+        Event::Last(line) => say(at, line, true, page),
+        Event::Wait => Out {
+            at: at,
+            waits: true,
+            on: true,
+        },
+        Event::Broken => changed(at),
     }
 }
 
@@ -306,13 +290,12 @@ fn look_on(b: Both, one: &[u8], two: &[u8], page: &mut [u8]) -> Both
     let second = b.second;
     let out = b.out;
     let event = pass.event;
-    let next = heed(event, out, page);
+    let next = heed(event, out.at, page);
     Both {
         pass: pass,
         first: passed(first, pass.here),
         second: passed(second, pass.there),
         out: next,
-        on: goes(event) && next.fine,
     }
 }
 
@@ -325,21 +308,21 @@ fn read_on(b: Both, one: &mut [u8], two: &mut [u8]) -> Both
     ensures { λ r. ⌜ r .out .at ≡ b .out .at ⌝ }
 {
     let pass = b.pass;
-    let event = pass.event;
-    if !is_wait(event) {
-        return b;
-    }
     let old_first = b.first;
     let old_second = b.second;
     let out = b.out;
-    let first = fed(old_first, one);
-    let second = fed(old_second, two);
+    let first = fed(old_first, out.waits, one);
+    let second = fed(old_second, out.waits, two);
+    let next = Out {
+        at: out.at,
+        waits: false,
+        on: first.fine & second.fine,
+    };
     Both {
         pass: pass,
         first: first,
         second: second,
-        out: out,
-        on: first.fine && second.fine,
+        out: next,
     }
 }
 
@@ -353,7 +336,7 @@ fn turn(b: Both, one: &mut [u8], two: &mut [u8], page: &mut [u8]) -> Both
     ensures { λ r. ⌜ r .out .at + 40 ≤ length (now (page .entry)) ⌝ }
 {
     let next = read_on(b, one, two);
-    if !next.on {
+    if !next.out.on {
         os::fail(b"capture: read");
         return next;
     }
@@ -368,11 +351,14 @@ fn side_by_side(first: i32, second: i32, one: &mut [u8], two: &mut [u8], page: &
         pass: compared::start(),
         first: fresh(first),
         second: fresh(second),
-        out: Out { at: 0, fine: true },
-        on: true,
+        out: Out {
+            at: 0,
+            waits: true,
+            on: true,
+        },
     };
     let mut turns = u64::MAX;
-    while turns > 0 && now.on {
+    while turns > 0 && now.out.on {
         now = turn(now, one, two, page);
         turns -= 1;
     }
@@ -385,13 +371,6 @@ fn rewind(fd: i32) -> bool {
         os::fail(b"capture: a file that cannot be read twice");
     }
     is_back
-}
-
-fn one_line(line: Line, page: &mut [u8])
-    requires { ⌜ 40 ≤ length (now page) ⌝ }
-{
-    let at = compare_line::put_line(page, 0, line);
-    flush(page, at);
 }
 
 // What a file is, with the file rewound; a failure is told.
@@ -407,14 +386,6 @@ fn shape_of(fd: i32, chunk: &mut [u8]) -> Shape {
     shape
 }
 
-fn is_unread(shape: Shape) -> bool {
-    match shape {
-        Shape::Clean => false,
-        Shape::Malformed(_) => false,
-        Shape::Unread => true,
-    }
-}
-
 // `first malformed P`, `second malformed P`, or the second reading.
 fn judged(
     a: Shape,
@@ -428,11 +399,11 @@ fn judged(
     requires { ⌜ 40 ≤ length (now page) ⌝ }
 {
     if let Shape::Malformed(p) = a {
-        one_line(Line::FirstMalformed(p), page);
+        say(0, Line::FirstMalformed(p), true, page);
         return;
     }
     if let Shape::Malformed(p) = b {
-        one_line(Line::SecondMalformed(p), page);
+        say(0, Line::SecondMalformed(p), true, page);
         return;
     }
     side_by_side(first, second, one, two, page);

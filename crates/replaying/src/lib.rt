@@ -56,7 +56,7 @@ fn read_once(t: Turn, fd: i32, chunk: &mut [u8]) -> Turn {
         return Turn {
             replay: r,
             on: false,
-            said: t.said || got < 0,
+            said: t.said | (got < 0),
         };
     }
     if t.said {

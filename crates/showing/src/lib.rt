@@ -80,11 +80,23 @@ fn read_once(t: Turn, fd: i32, chunk: &mut [u8]) -> Turn {
             frame,
             records: t.records,
             on: false,
-            said: t.said || got < 0,
+            said: t.said | (got < 0),
         };
     }
     let n = io::count(got, chunk);
     bytes(t, &chunk[..n])
+}
+
+// The malformed place, if there is one and it can still be told.
+fn over(t: Turn) {
+    let frame = t.frame;
+    let stage = frame.stage;
+    if t.said | shown::is_whole(stage) {
+        return;
+    }
+    if !print_malformed(frame.at) {
+        os::fail(b"capture: standard output");
+    }
 }
 
 pub fn run(fd: i32) {
@@ -103,12 +115,5 @@ pub fn run(fd: i32) {
         now = read_once(now, fd, &mut chunk);
         turns -= 1;
     }
-    let frame = now.frame;
-    let stage = frame.stage;
-    if now.said || shown::is_whole(stage) {
-        return;
-    }
-    if !print_malformed(frame.at) {
-        os::fail(b"capture: standard output");
-    }
+    over(now);
 }

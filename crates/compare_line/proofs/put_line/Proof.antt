@@ -1,161 +1,64 @@
--- `put_line`: by what the line is.
+-- `put_line`: its parts, whose texts are long enough.
+use mathlib.Core.Path.{_≡_, sym}
 use native.Mathlib.Omega.{arith}
-use Rattle.compare_line.specs.Says.{lineText}
+use lib.ListN.{length, take}
+use lib.Seq.{length-take-le}
 use borrow.Author.Needs.{needs}
 use Rattle.compare_line.proofs.put_line.Statement.{statement}
 use Rattle.compare_line.proofs.put_line.Tie as tie
 
-enum-known-line : tie.Need-enum-known-line
-enum-known-line c = search needs
+-- the places of the texts, and how many bytes of each count
+module _ (p : tie.After-parts-of) where
+  head-long : length (p .parts-of .result .head) ≡ 17
+  head-long = search needs
+
+  tail-long : length (p .parts-of .result .tail) ≡ 13
+  tail-long = search needs
+
+  head-sized : length (take (p .parts-of .result .front) (p .parts-of .result .head)) ≡ p .parts-of .result .front
+  head-sized = length-take-le (p .parts-of .result .front) (p .parts-of .result .head) (omega (arith, head-long, p .parts-of .ensures .head))
+
+  tail-sized : length (take (p .parts-of .result .back) (p .parts-of .result .tail)) ≡ p .parts-of .result .back
+  tail-sized = length-take-le (p .parts-of .result .back) (p .parts-of .result .tail) (omega (arith, tail-long, p .parts-of .ensures .tail))
+
+parts-of-requires : tie.Need-parts-of-requires
+parts-of-requires c κs = search needs
+
+array-share-prefix-head : tie.Need-array-share-prefix-head
+array-share-prefix-head c = let p = c .before .before .before in omega (arith, head-long p, p .parts-of .ensures .head)
 
 slice-aggregate-around : tie.Need-slice-aggregate-around
-slice-aggregate-around c = search needs
+slice-aggregate-around c = sym (head-sized (c .before .before .before .before))
+
+array-share-prefix-tail : tie.Need-array-share-prefix-tail
+array-share-prefix-tail c = let p = c .before .before .before .before in omega (arith, tail-long p, p .parts-of .ensures .tail)
 
 slice-aggregate-around-2 : tie.Need-slice-aggregate-around-2
-slice-aggregate-around-2 c = search needs
+slice-aggregate-around-2 c = sym (tail-sized (c .before .before .before .before .before))
 
 around-requires : tie.Need-around-requires
-around-requires c κs = search needs
-
-enum-known-line-2 : tie.Need-enum-known-line-2
-enum-known-line-2 c = search needs
-
-slice-aggregate-around-3 : tie.Need-slice-aggregate-around-3
-slice-aggregate-around-3 c = search needs
-
-slice-aggregate-around-4 : tie.Need-slice-aggregate-around-4
-slice-aggregate-around-4 c = search needs
-
-around-requires-2 : tie.Need-around-requires-2
-around-requires-2 c κs = search needs
-
-enum-known-line-3 : tie.Need-enum-known-line-3
-enum-known-line-3 c = search needs
-
-slice-aggregate-around-5 : tie.Need-slice-aggregate-around-5
-slice-aggregate-around-5 c = search needs
-
-slice-aggregate-around-6 : tie.Need-slice-aggregate-around-6
-slice-aggregate-around-6 c = search needs
-
-around-requires-3 : tie.Need-around-requires-3
-around-requires-3 c κs = search needs
-
-enum-known-line-4 : tie.Need-enum-known-line-4
-enum-known-line-4 c = search needs
-
-slice-aggregate-around-7 : tie.Need-slice-aggregate-around-7
-slice-aggregate-around-7 c = search needs
-
-slice-aggregate-around-8 : tie.Need-slice-aggregate-around-8
-slice-aggregate-around-8 c = search needs
-
-around-requires-4 : tie.Need-around-requires-4
-around-requires-4 c κs = search needs
-
-enum-known-line-5 : tie.Need-enum-known-line-5
-enum-known-line-5 c = search needs
-
-slice-aggregate-around-9 : tie.Need-slice-aggregate-around-9
-slice-aggregate-around-9 c = search needs
-
-slice-aggregate-around-10 : tie.Need-slice-aggregate-around-10
-slice-aggregate-around-10 c = search needs
-
-around-requires-5 : tie.Need-around-requires-5
-around-requires-5 c κs = search needs
-
-enum-known-line-6 : tie.Need-enum-known-line-6
-enum-known-line-6 c = search needs
-
-slice-aggregate-around-11 : tie.Need-slice-aggregate-around-11
-slice-aggregate-around-11 c = search needs
-
-slice-aggregate-around-12 : tie.Need-slice-aggregate-around-12
-slice-aggregate-around-12 c = search needs
-
-around-requires-6 : tie.Need-around-requires-6
-around-requires-6 c κs = search needs
+around-requires c κs =
+    let p = c .before .before .before .before .before in
+    omega (arith, head-sized p, tail-sized p, p .parts-of .ensures .both, p .before .before .pre)
 
 same-length : tie.Need-same-length
 same-length c = search needs
 
 returns : tie.Need-returns
-unfolding lineText
-returns c = (rw (c .before .before .before .before .before .before .before .line .given .1) (c .before .before .around .ensures .0), omega (arith, c .before .before .around .ensures .1))
-
-same-length-2 : tie.Need-same-length-2
-same-length-2 c = search needs
-
-returns-2 : tie.Need-returns-2
-unfolding lineText
-returns-2 c = (rw (c .before .before .before .before .before .before .before .line2 .given .1) (c .before .before .around2 .ensures .0), omega (arith, c .before .before .around2 .ensures .1))
-
-same-length-3 : tie.Need-same-length-3
-same-length-3 c = search needs
-
-returns-3 : tie.Need-returns-3
-unfolding lineText
-returns-3 c = (rw (c .before .before .before .before .before .before .before .line3 .given .1) (c .before .before .around3 .ensures .0), omega (arith, c .before .before .around3 .ensures .1))
-
-same-length-4 : tie.Need-same-length-4
-same-length-4 c = search needs
-
-returns-4 : tie.Need-returns-4
-unfolding lineText
-returns-4 c = (rw (c .before .before .before .before .before .before .before .line4 .given .1) (c .before .before .around4 .ensures .0), omega (arith, c .before .before .around4 .ensures .1))
-
-same-length-5 : tie.Need-same-length-5
-same-length-5 c = search needs
-
-returns-5 : tie.Need-returns-5
-unfolding lineText
-returns-5 c = (rw (c .before .before .before .before .before .before .before .line5 .given .1) (c .before .before .around5 .ensures .0), omega (arith, c .before .before .around5 .ensures .1))
-
-same-length-6 : tie.Need-same-length-6
-same-length-6 c = search needs
-
-returns-6 : tie.Need-returns-6
-unfolding lineText
-returns-6 c = (rw (c .before .before .before .before .before .before .before .line6 .given .1) (c .before .before .around6 .ensures .0), omega (arith, c .before .before .around6 .ensures .1))
+returns c =
+    let p = c .before .before .before .before .before .before .before .before in
+    let q = c .before .before .around .ensures in
+    (rw (p .parts-of .ensures .said) at (q .0), omega (arith, q .1, head-sized p, tail-sized p, p .parts-of .ensures .both))
 
 pub put-line-spec : {M : Type 1} → statement M
 put-line-spec =
     tie.close
     (tie.spec
-    enum-known-line
+    parts-of-requires
+    array-share-prefix-head
     slice-aggregate-around
+    array-share-prefix-tail
     slice-aggregate-around-2
     around-requires
-    enum-known-line-2
-    slice-aggregate-around-3
-    slice-aggregate-around-4
-    around-requires-2
-    enum-known-line-3
-    slice-aggregate-around-5
-    slice-aggregate-around-6
-    around-requires-3
-    enum-known-line-4
-    slice-aggregate-around-7
-    slice-aggregate-around-8
-    around-requires-4
-    enum-known-line-5
-    slice-aggregate-around-9
-    slice-aggregate-around-10
-    around-requires-5
-    enum-known-line-6
-    slice-aggregate-around-11
-    slice-aggregate-around-12
-    around-requires-6
     same-length
-    returns
-    same-length-2
-    returns-2
-    same-length-3
-    returns-3
-    same-length-4
-    returns-4
-    same-length-5
-    returns-5
-    same-length-6
-    returns-6)
+    returns)

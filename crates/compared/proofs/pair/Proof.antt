@@ -7,6 +7,16 @@ use borrow.Author.Needs.{needs}
 use Rattle.compared.proofs.pair.Statement.{statement}
 use Rattle.compared.proofs.pair.Tie as tie
 
+-- the ways back, each named after the place that it leads to
+abbrev to-second : tie.After-judge → tie.After-look2
+to-second c = c .before .before .before .before .before .before
+
+abbrev to-first : tie.After-look2 → tie.After-look
+to-first c = c .before .before
+
+abbrev to-start : tie.After-look → tie.Start
+to-start c = c .before .before .before .before
+
 sub-look : tie.Need-sub-look
 sub-look c = search needs
 
@@ -74,11 +84,13 @@ takes-requires c κs = search needs
 
 returns : tie.Need-returns
 returns c =
-    let start = c .before .before .before .before .before .before .before .before .before .before .before .before .before .before in
-    let a = start .args in
     let told = c .before .before in
+    let second = to-second told in
+    let first = to-first second in
+    let start = to-start first in
+    let a = start .args in
     pair-halts (a .p) (a .xs .now) (a .ys .now) (a .ends) (a .closes) _ _ _ _
-    (told .before .before .before .before .before .before .before .before .look .ensures) (told .before .before .before .before .before .before .look2 .ensures)
+    (first .look .ensures) (second .look2 .ensures)
     (told .before .same .ensures) (told .judge .ensures)
     (sym (c .before .takes .ensures) ∙ not-true _ (c .if1 .taken)) (start .pre .0) (start .pre .1)
 
@@ -90,11 +102,13 @@ line-more-requires c κs = search needs
 
 returns-2 : tie.Need-returns-2
 returns-2 c =
-    let start = c .before .before .before .before .before .before .before .before .before .before .before .before .before .before .before .before in
-    let a = start .args in
     let told = c .before .before .before .before in
+    let second = to-second told in
+    let first = to-first second in
+    let start = to-start first in
+    let a = start .args in
     pair-moves (a .p) (a .xs .now) (a .ys .now) (a .ends) (a .closes) _ _ _ _
-    (told .before .before .before .before .before .before .before .before .look .ensures) (told .before .before .before .before .before .before .look2 .ensures)
+    (first .look .ensures) (second .look2 .ensures)
     (told .before .same .ensures) (told .judge .ensures)
     (sym (c .before .before .before .takes .ensures) ∙ not-false _ (c .before .before .if1 .left)) (start .pre .0) (start .pre .1) _ _ (c .before .counted .ensures) (c .line-more .ensures)
 

@@ -7,6 +7,13 @@ use borrow.Author.Needs.{needs}
 use Rattle.comparing.proofs.refill.Statement.{statement}
 use Rattle.comparing.proofs.refill.Tie as tie
 
+-- the ways back, each named after the place that it leads to
+abbrev to-moved : tie.After-read → tie.After-to-front
+to-moved c = c .before .before .before .before .before .before
+
+abbrev to-start : tie.After-to-front → tie.Start
+to-start c = c .before .before .before
+
 to-front-requires : tie.Need-to-front-requires
 to-front-requires c κs = search needs
 
@@ -33,13 +40,15 @@ same-length c = search needs
 
 returns : tie.Need-returns
 returns c =
-    let a = c .before .before .before .before .before .before .before .before .before .before .before .before .before .before .before .before .args in
-    let front = c .before .before .before .before .before .before .before .before .before .before .before .before .before .to-front in (
+    let read = c .before .before .before .before .before .before .before in
+    let moved = to-moved read in
+    let a = to-start moved .args in
+    let front = moved .to-front in (
       (omega arith, omega arith),
       (
         omega (arith, front .ensures .0),
         still-there (a .s .from) (front .result) (length (front .last .0) - front .result) (a .s .to - a .s .from) (a .chunk .now) (front .last .0)
-            (c .before .before .before .before .before .before .before .read .last .1 .0) (front .ensures .0) (omega arith) (front .ensures .1),
+            (read .read .last .1 .0) (front .ensures .0) (omega arith) (front .ensures .1),
       ),
     )
 

@@ -111,7 +111,8 @@ returns : tie.Need-returns
 unfolding numbersOf
 returns c =
     let d = c .before .before .before .before .before .before .before in
-    let s = d .before .before .before .before .before .before .before .before .before .before .before .before .before .before .before .before in
+    let stage = d .before .before .before .before .before .before .before .before .before .before .before .before in
+    let s = stage .before .before .before .before in
     let f = s .args .f in
     let j = s .args .j in
     let bytes : Bytes (f .body) = (
@@ -131,7 +132,7 @@ returns c =
     (omega (arith, c .before .before .got-of .ensures, c .before .before .got-of .ok)) (omega (arith, c .before .wanted-of .ensures, c .before .wanted-of .ok)) in
     let k = j .core in
     let same : _ ≡ numbersOf f j = λ i.
-    d .before .before .before .before .before .before .before .before .before .before .before .before .stage-number .ensures i ∷
+    stage .stage-number .ensures i ∷
     d .before .before .before .before .before .before .before .before .before .before .before .phase-number .ensures i ∷
     f .kind ∷
     d .before .before .before .before .before .before .before .before .before .byte .ensures i ∷

@@ -16,6 +16,13 @@ use borrow.Author.Needs.{needs}
 use Rattle.course_words.proofs.load.Statement.{statement}
 use Rattle.course_words.proofs.load.Tie as tie
 
+-- the ways back, each named after the place that it leads to
+abbrev to-numbers : tie.After-get4 → tie.After-get
+to-numbers c = c .before .before .before .before .before .before .before .before .before
+
+abbrev to-start : tie.After-get → tie.Start
+to-start c = c .before .before .before
+
 known : (s : tie.Start) → Holding (now (s .args .words))
 known s = holding (now (s .args .words)) (s .pre)
 
@@ -53,26 +60,26 @@ part-narrow-start : tie.Need-part-narrow-start
 part-narrow-start c = search needs
 
 part-narrow-end : tie.Need-part-narrow-end
-part-narrow-end c = omega (arith, known (c .before .before .before .before .before .before .before .before .before .before .before .before .before))
+part-narrow-end c = omega (arith, known (to-start (to-numbers (c .before))))
 
 slice-aggregate-narrow : tie.Need-slice-aggregate-narrow
 slice-aggregate-narrow c = search needs
 
 narrow-requires : tie.Need-narrow-requires
 narrow-requires c κs =
-    let s = c .before .before .before .before .before .before .before .before .before .before .before .before .before .before .before in
+    let s = to-start (to-numbers (c .before .before .before)) in
     let n = all-due s in
     (all-small 65 (dueIn (now (s .args .words))) (omega arith) (known s .due), omega arith)
 
 frame-of-requires : tie.Need-frame-of-requires
 frame-of-requires c κs =
-    let g = c .before .before .before .before .before .before .before .before .before .before .before .before .before .before in
-    ap (λ (l : List ℕ). within limits l) (g .get .ensures) ∙ known (g .before .before .before) .numbers
+    let g = to-numbers (c .before .before .before .before .before) in
+    ap (λ (l : List ℕ). within limits l) (g .get .ensures) ∙ known (to-start g) .numbers
 
 judge-of-requires : tie.Need-judge-of-requires
 judge-of-requires c κs =
-    let g = c .before .before .before .before .before .before .before .before .before .before .before .before .before .before .before in
-    ap (λ (l : List ℕ). within limits l) (g .get .ensures) ∙ known (g .before .before .before) .numbers
+    let g = to-numbers (c .before .before .before .before .before .before) in
+    ap (λ (l : List ℕ). within limits l) (g .get .ensures) ∙ known (to-start g) .numbers
 
 returns : tie.Need-returns
 unfolding courseIn
@@ -81,7 +88,7 @@ returns c =
     let planes = picks .before .before .before in
     let sums = planes .before .before .before in
     let numbers = sums .before .before .before in
-    let s = numbers .before .before .before in
+    let s = to-start numbers in
     let ns = numbers .get .ensures in
     let frame = c .before .frame-of .ensures ∙ ap frameIn ns in
     let judge = c .judge-of .ensures ∙ ap judgeIn ns in

@@ -34,14 +34,13 @@ same-length c = search needs
 
 returns : tie.Need-returns
 returns c =
-    let s = c .before .before .before .before .before .before .before .before .before .before .before .before .before .before .before .before in
+    let second = c .before .before .before .before .before .before .before in
+    let first = second .before .before .before .before .before in
+    let s = first .before .before .before .before in
     let l = now (s .args .words) in
     let (a, b, d) = sized s in
-    let first = c .before .before .before .before .before .before .before .before .before .before .before .before .put .ensures in
-    let second = c .before .before .before .before .before .before .before .put2 .ensures in
-    let third = c .before .before .put3 .ensures in
     record {
-      is = lists-put l (s .args .t1) (s .args .t2) (s .args .t3) (omega (arith, s .pre)) a b d (first .is) (second .is) (third .is);
+      is = lists-put l (s .args .t1) (s .args .t2) (s .args .t3) (omega (arith, s .pre)) a b d (first .put .ensures .is) (second .put2 .ensures .is) (c .before .before .put3 .ensures .is);
       same = same-length c;
       sums-fit = a;
       planes-fit = b;

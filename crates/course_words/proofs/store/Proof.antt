@@ -22,6 +22,16 @@ sized s = (search needs, search needs, search needs, search needs, search needs)
 wide : (s : tie.Start) → s .args .r .judge .core .accord .u ≤ 4294967295
 wide s = search needs
 
+-- the ways back, each named after the place that it leads to
+abbrev to-numbers : tie.After-put-lists → tie.After-put2
+to-numbers c = c .before .before .before .before
+
+abbrev to-tag : tie.After-put2 → tie.After-put
+to-tag c = c .before .before .before .before .before
+
+abbrev to-start : tie.After-put → tie.Start
+to-start c = c .before .before .before .before .before .before .before .before .before .before .before
+
 numbers-of-requires : tie.Need-numbers-of-requires
 numbers-of-requires c κs = search needs
 
@@ -41,15 +51,14 @@ put-lists-requires : tie.Need-put-lists-requires
 put-lists-requires c κs = search needs
 
 slice-aggregate-put-due : tie.Need-slice-aggregate-put-due
-slice-aggregate-put-due c = sym (sized
-    (c .before .before .before .before .before .before .before .before .before .before .before .before .before .before .before .before .before .before .before .before .before .before .before) .4)
+slice-aggregate-put-due c = sym (sized (to-start (to-tag (to-numbers (c .before .before .before)))) .4)
 
 put-due-requires : tie.Need-put-due-requires
 put-due-requires c κs =
     let lists = c .before .before .before .before in
-    let numbers = lists .before .before .before .before in
-    let tag = numbers .before .before .before .before .before in
-    let s = tag .before .before .before .before .before .before .before .before .before .before .before in
+    let numbers = to-numbers lists in
+    let tag = to-tag numbers in
+    let s = to-start tag in
     omega (arith, s .pre, sized s .4, tag .put .ensures .same, numbers .put2 .ensures .same, lists .put-lists .ensures .same)
 
 same-length : tie.Need-same-length
@@ -58,9 +67,9 @@ same-length c = search needs
 returns : tie.Need-returns
 returns c =
     let lists = c .before .before .before .before .before .before .before in
-    let numbers = lists .before .before .before .before in
-    let tag = numbers .before .before .before .before .before in
-    let s = tag .before .before .before .before .before .before .before .before .before .before .before in
+    let numbers = to-numbers lists in
+    let tag = to-tag numbers in
+    let s = to-start tag in
     let r = s .args .r in
     let n = sized s in
     let ns = tag .before .before .before .numbers-of .ensures in

@@ -20,8 +20,9 @@ words-before-requires c κs = search needs
 
 agreed-requires : tie.Need-agreed-requires
 agreed-requires c κs =
-    let f = c .before .before .before .before .before .before .before .before .before .before .before .before .before .pre .1 .0 .core-fits in
-    (omega (arith, f .held, f .small-window), c .before .before .words-before .ensures)
+    let m = c .before .before in
+    let f = m .before .before .before .before .before .before .before .before .before .before .before .pre .1 .0 .core-fits in
+    (omega (arith, f .held, f .small-window), m .words-before .ensures)
 
 numbers-of-requires : tie.Need-numbers-of-requires
 numbers-of-requires c κs = search needs

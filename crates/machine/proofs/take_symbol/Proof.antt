@@ -32,8 +32,11 @@ add-kept c = search needs
 abbrev to-start : tie.After-look-ahead → tie.Start
 to-start c = c .before .before .before .before .before .before .before
 
-abbrev to-look-ahead : tie.After-struct-known4 → tie.After-look-ahead
-to-look-ahead c = c .before .before .before .before .before .before .before .before .before .before .before .before .before .before .before .before .before .before
+abbrev to-write-words : tie.After-struct-known4 → tie.After-write-words
+to-write-words c = c .before .before .before .before .before .before .before .before .before .before
+
+abbrev to-look-ahead : tie.After-write-words → tie.After-look-ahead
+to-look-ahead c = c .before .before .before .before .before .before .before .before
 
 few-agreed : (l : tie.After-look-ahead) → l .look-ahead .result .agreed ≤ l .before .before .before .before .before .before .before .args .core .pending
 few-agreed l = let a = to-start l .args in few (a .core) (a .sums .now) (a .planes .now) (a .picks .now) (heardAs (a .first) (a .second)) (a .out .now) (l .look-ahead .result) (l .look-ahead .ensures)
@@ -75,16 +78,16 @@ write-words-requires c κs =
     (p .1 .0 .core-fits, low l, few-agreed l, c .before .before .before .if3 .left, p .1 .1)
 
 add-shift : tie.Need-add-shift
-add-shift c = let f = to-start (to-look-ahead c) .pre .1 .0 .core-fits in record { fits = omega (arith, f .held, f .small-window) }
+add-shift c = let f = to-start (to-look-ahead (to-write-words c)) .pre .1 .0 .core-fits in record { fits = omega (arith, f .held, f .small-window) }
 
 shift-requires : tie.Need-shift-requires
-shift-requires c κs = ways (to-look-ahead c)
+shift-requires c κs = ways (to-look-ahead (to-write-words c))
 
 keep-requires : tie.Need-keep-requires
-keep-requires c κs = let p = to-start (to-look-ahead (c .before .before)) .pre in (p .1 .0 .core-fits .slot-below, p .1 .1)
+keep-requires c κs = let p = to-start (to-look-ahead (to-write-words (c .before .before))) .pre in (p .1 .0 .core-fits .slot-below, p .1 .1)
 
 moved-on-requires : tie.Need-moved-on-requires
-moved-on-requires c κs = let e = to-look-ahead (c .before .before .before .before .before) .before .before .before in (fresh e, e .before .before .before .before .pre .1 .0 .core-fits .slot-below)
+moved-on-requires c κs = let e = to-look-ahead (to-write-words (c .before .before .before .before .before)) .before .before .before in (fresh e, e .before .before .before .before .pre .1 .0 .core-fits .slot-below)
 
 same-length : tie.Need-same-length
 same-length c = search needs

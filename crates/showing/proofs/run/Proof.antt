@@ -6,10 +6,10 @@ use Rattle.showing.proofs.run.Statement.{statement}
 use Rattle.showing.proofs.run.Tie as tie
 
 abbrev Inv-loop : tie.InvT-loop
-Inv-loop fd chunk₀ now₀ turns₀ t7 chunk now turns = length chunk ≡ 65536
+Inv-loop fd chunk₀ now₀ turns₀ chunk now turns = length chunk ≡ 65536
 
 abbrev μ-loop : tie.MeasureT-loop
-μ-loop fd chunk₀ now₀ turns₀ t7 chunk now turns = turns
+μ-loop fd chunk₀ now₀ turns₀ chunk now turns = turns
 
 returns : tie.Need-returns Inv-loop μ-loop
 returns c = search needs
@@ -35,26 +35,11 @@ loop-less c = search needs
 loop-again : tie.Need-loop-again Inv-loop μ-loop
 loop-again c = search needs
 
-is-whole-requires : tie.Need-is-whole-requires Inv-loop μ-loop
-is-whole-requires c κs = search needs
+over-requires : tie.Need-over-requires Inv-loop μ-loop
+over-requires c κs = search needs
 
 returns-2 : tie.Need-returns-2 Inv-loop μ-loop
 returns-2 c = search needs
-
-print-malformed-requires : tie.Need-print-malformed-requires Inv-loop μ-loop
-print-malformed-requires c κs = search needs
-
-slice-aggregate-fail : tie.Need-slice-aggregate-fail Inv-loop μ-loop
-slice-aggregate-fail c = search needs
-
-fail-requires : tie.Need-fail-requires Inv-loop μ-loop
-fail-requires c κs = search needs
-
-returns-3 : tie.Need-returns-3 Inv-loop μ-loop
-returns-3 c = search needs
-
-returns-4 : tie.Need-returns-4 Inv-loop μ-loop
-returns-4 c = search needs
 
 pub run-spec : {M : Type 1} → statement M
 run-spec =
@@ -70,10 +55,5 @@ run-spec =
     sub-turns
     loop-less
     loop-again
-    is-whole-requires
-    returns-2
-    print-malformed-requires
-    slice-aggregate-fail
-    fail-requires
-    returns-3
-    returns-4)
+    over-requires
+    returns-2)

@@ -1,7 +1,7 @@
 -- `judge`: by the sign on each side, and whether the two records are the same.
 use borrow.Author.Needs.{needs}
-use Rattle.compared.proofs.judge.Statement.{statement}
-use Rattle.compared.proofs.judge.Tie as tie
+use Rattle.telling.proofs.judge.Statement.{statement}
+use Rattle.telling.proofs.judge.Tie as tie
 
 enum-told : tie.Need-enum-told
 enum-told c = search needs

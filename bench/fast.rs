@@ -154,7 +154,7 @@ impl Search for Grid {
 /// For each subset its least sum of counted distances and I3' of its best symbol; for each label the number of the nearest
 /// first point, then for each label that of the second.
 pub struct Choices {
-    costs: [u64; 8],
+    costs: [u32; 8],
     i3: [bool; 8],
     numbers: [u8; 8],
 }
@@ -192,7 +192,7 @@ fn choices<S: Search>(u: u32, mark: u8, c: &[i32]) -> Choices {
     for subset in 0..8 {
         let cost = |i3: bool| {
             let (first, second) = labels(subset, i3);
-            (near[0][first].0 + near[1][second].0) as u64
+            near[0][first].0 + near[1][second].0
         };
         let (zero, one) = (cost(false), cost(true));
         (best.costs[subset], best.i3[subset]) = if one < zero { (one, true) } else { (zero, false) };
@@ -208,12 +208,12 @@ const fn subset_of(s: usize, k: usize) -> usize {
 }
 
 /// Sums of states that cannot be reached: more than any sum of two symbols, after which every state is reached.
-const UNREACHED: u64 = 1 << 62;
+const UNREACHED: u32 = 1 << 26;
 
 /// Into each state of group G: the least sum, and which k it came from (ties to the smaller k). Sums are held times four,
 /// so that k stands in the two low bits while they are compared.
 #[inline(always)]
-fn select_group<const G: usize>(sums: &[u64; 16], costs: &[u64; 8], new: &mut [u64; 16], from: &mut [u8; 16]) {
+fn select_group<const G: usize>(sums: &[u32; 16], costs: &[u32; 8], new: &mut [u32; 16], from: &mut [u8; 16]) {
     let before = [sums[G], sums[4 + G] + 1, sums[8 + G] + 2, sums[12 + G] + 3];
     for s in 4 * G..4 * G + 4 {
         let way = |k: usize| before[k] + 4 * costs[subset_of(s, k)];
@@ -223,14 +223,16 @@ fn select_group<const G: usize>(sums: &[u64; 16], costs: &[u64; 8], new: &mut [u
     }
 }
 
+/// The new sums less the least of them, so that they fit 32 bits for good.
 #[inline(always)]
-fn select(sums: &[u64; 16], costs: &[u64; 8]) -> ([u64; 16], [u8; 16]) {
+fn select(sums: &[u32; 16], costs: &[u32; 8]) -> ([u32; 16], [u8; 16]) {
     let (mut new, mut from) = ([0; 16], [0; 16]);
     select_group::<0>(sums, costs, &mut new, &mut from);
     select_group::<1>(sums, costs, &mut new, &mut from);
     select_group::<2>(sums, costs, &mut new, &mut from);
     select_group::<3>(sums, costs, &mut new, &mut from);
-    (new, from)
+    let low = new.iter().fold(new[0], |low, &sum| low.min(sum));
+    (new.map(|sum| sum - low), from)
 }
 
 /// What is remembered of the undecided symbols: their subsets on the best way to each state, and the best of each subset.
@@ -444,11 +446,10 @@ pub struct Receiver<S, M> {
     pub u: u32,
     pub window: u32,
     pub turn: u32,
-    pub taken: u32,
     /// The ring slot of the next symbol, and how many symbols are undecided.
     pub slot: usize,
     pub pending: usize,
-    pub sums: [u64; 16],
+    pub sums: [u32; 16],
     pub memory: M,
     search: std::marker::PhantomData<S>,
 }
@@ -464,7 +465,6 @@ impl<S: Search, M: Memory> Receiver<S, M> {
             u: 0,
             window: 0,
             turn: 0,
-            taken: 0,
             slot: 0,
             pending: 0,
             sums: [0; 16],
@@ -517,9 +517,6 @@ impl<S: Search, M: Memory> Receiver<S, M> {
         if at_fault(0) | at_fault(1) | at_fault(2) | at_fault(3) {
             return Err((5, (0..4).position(at_fault).unwrap_or(0) as u64));
         }
-        if self.taken == u32::MAX {
-            return Err((7, 0));
-        }
         let choices = choices::<S>(self.u, mark, c);
         // before the select, while what was compared is still at hand
         let pick = M::pick(self.u, &choices);
@@ -541,7 +538,6 @@ impl<S: Search, M: Memory> Receiver<S, M> {
         self.sums = sums;
         self.slot = (self.slot + 1) & 63;
         self.pending = self.pending + 1 - agreed;
-        self.taken += 1;
         Ok(agreed)
     }
 

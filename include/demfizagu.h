@@ -9,6 +9,10 @@
  * back, and together with what a finish adds it is the nearest allowed sequence for all that was heard. Symbols taken
  * whose words are not said yet are pending. The window is how many may be pending.
  *
+ * A receiver may run for years: nothing in it counts symbols or grows with them. Of each state it keeps in 32 bits how much more
+ * its best reading costs than the best of all, in squared line units (a point's coordinate is 128 of them): at most 1,048,576,
+ * and with the next symbol, when readings are compared, at most 1,572,864.
+ *
  * The width u, 0 to 8, fixes the word: 3 + 2u bits, all higher bits zero. The map says which points the symbols have: the
  * round map, or the square map, which has the even widths alone. Both ends must use the same map and the same width.
  *
@@ -106,8 +110,7 @@ extern "C" {
 /* With this symbol more than the window's number would be pending; it was not taken. Another symbol will seldom help: finish,
  * open again, and go on with the symbol that was refused. */
 #define DEMFIZAGU_FULL 6u
-/* The receiver has taken 4,294,967,295 symbols; it takes no more: finish and open again. */
-#define DEMFIZAGU_END 7u
+/* 7 is given no more, and nothing else has its number: a receiver takes symbols for as long as the line lasts. */
 /* A slice is too short: an output for what had to be written there, a `told`, or the state of an opening; the word, symbol,
  * finish or call was not done and may be tried again with more room. */
 #define DEMFIZAGU_ROOM 8u
@@ -186,7 +189,7 @@ uint32_t demfizagu_receiver_open_map(uint64_t *state, size_t state_len, uint32_t
  * Hears a piece: symbols one after the other, four coordinates each (x1, y1, x2, y2). The words that become final with a
  * symbol are written to out straight after those that this call wrote before. Other places of out stay.
  *
- * Order: 8 if told is too short (nothing is written), then 9, 10, then symbol by symbol 5, 7, 6, 8, stopping at the first
+ * Order: 8 if told is too short (nothing is written), then 9, 10, then symbol by symbol 5, 6, 8, stopping at the first
  * refusal. Symbols before it stay taken and their words written: told[0] and told[1] count them, and the piece is to be
  * gone on with at piece + 4 * told[0]. For a 5, told[2] is 0 to 3, the coordinate of that symbol. For an 8, out has no
  * room for all words of that symbol, and none of them was written.

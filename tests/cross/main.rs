@@ -15,6 +15,7 @@ mod reference;
 mod rng;
 mod shrink;
 mod vectors;
+mod years;
 
 use generate::{Failure, Session};
 use reference::Map;
@@ -29,19 +30,21 @@ struct Options {
     seed: u64,
     sessions: u64,
     threads: u64,
+    years: u64,
     vectors: PathBuf,
     lab_in: PathBuf,
     lab_out: PathBuf,
 }
 
 const USAGE: &str =
-    "cross lab | cross [--seed N] [--sessions N] [--threads N] --vectors DIR --lab-in FILE --lab-out FILE";
+    "cross lab | cross [--seed N] [--sessions N] [--threads N] [--years SYMBOLS] --vectors DIR --lab-in FILE --lab-out FILE";
 
 fn options() -> Option<Options> {
     let mut o = Options {
         seed: 1,
         sessions: generate::ALL,
         threads: 2,
+        years: 50_000_000,
         vectors: PathBuf::new(),
         lab_in: PathBuf::new(),
         lab_out: PathBuf::new(),
@@ -53,6 +56,7 @@ fn options() -> Option<Options> {
             "--seed" => o.seed = value.parse().ok()?,
             "--sessions" => o.sessions = value.parse().ok()?,
             "--threads" => o.threads = value.parse().ok()?,
+            "--years" => o.years = value.parse().ok()?,
             "--vectors" => o.vectors = value.into(),
             "--lab-in" => o.lab_in = value.into(),
             "--lab-out" => o.lab_out = value.into(),
@@ -104,10 +108,13 @@ fn report(map: &Map, o: &Options, index: u64, failure: Failure) {
     println!("# DIFFERS: {what}");
 }
 
-/// Numbers that must have been seen often for the run to count: all but 7, which no run of this length can reach.
+/// Numbers that must have been seen often for the run to count: all but 7, which is given no more.
 fn enough(o: &Options, seen: &Seen) -> Result<(), String> {
     if o.sessions < generate::ALL {
         return Ok(());
+    }
+    if seen.numbers[7] > 0 {
+        return Err("number 7 was given".into());
     }
     let rare = (0..11).find(|&n| n != 7 && seen.numbers[n] < 100);
     rare.map_or(Ok(()), |n| Err(format!("number {n} was seen only {} times", seen.numbers[n])))?;
@@ -130,6 +137,9 @@ fn compare(o: &Options) -> Result<(), String> {
     println!("library: a sender has {} words, a receiver {}", ffi::sender_words(), ffi::receiver_words());
     let bytes = recorded::check(&map, o.seed)?;
     println!("recorded calls: no difference ({bytes} bytes)");
+    let line = Instant::now();
+    let back = years::check(o.seed, o.years)?;
+    println!("one line of {back} symbols: no call refused, every word back, {:.0} s", line.elapsed().as_secs_f64());
     let seen = run_sessions(&map, o);
     if let Some((index, failure)) = seen.failed {
         report(&map, o, index, failure);

@@ -68,8 +68,8 @@ mod registers {
 const SENDER_TAG: u64 = 0x5345_4e44_5f30_3031;
 const RECEIVER_TAG: u64 = 0x5245_4356_5f30_3031;
 const SENDER_WORDS: usize = 6;
-/// Tag; open, map, width, window, turn, taken, slot, pending; sums; memory.
-const RECEIVER_WORDS: usize = 25 + MEMORY_WORDS;
+/// Tag; open, map, width, window, turn, slot, pending; sums; memory.
+const RECEIVER_WORDS: usize = 24 + MEMORY_WORDS;
 
 /// Whether there is such a line.
 fn is_line(map: u64, u: u64) -> bool {
@@ -193,16 +193,16 @@ fn load(state: &[u64]) -> Option<Held> {
     if state.len() < RECEIVER_WORDS || state[0] != RECEIVER_TAG {
         return None;
     }
-    let [open, map, u, window, turn, taken, slot, pending] = state[1..9].try_into().unwrap();
-    let sound = open == 1 && is_line(map, u) && (1..=64).contains(&window) && turn <= 4 && taken < 1 << 32;
-    if !sound || slot > 63 || pending > window || state[9..25].iter().any(|&sum| sum >= 1 << 63) {
+    let [open, map, u, window, turn, slot, pending] = state[1..8].try_into().unwrap();
+    let sound = open == 1 && is_line(map, u) && (1..=64).contains(&window) && turn <= 4;
+    if !sound || slot > 63 || pending > window || state[8..24].iter().any(|&sum| sum >= 1 << 27) {
         return None;
     }
     let (_, mut held) = Held::open(map as u32, u as u32, window as u32, 16);
     of!(&mut held, r => {
-        (r.turn, r.taken, r.slot, r.pending) = (turn as u32, taken as u32, slot as usize, pending as usize);
-        r.sums.copy_from_slice(&state[9..25]);
-        r.memory = get(&state[25..RECEIVER_WORDS]);
+        (r.turn, r.slot, r.pending) = (turn as u32, slot as usize, pending as usize);
+        r.sums = std::array::from_fn(|s| state[8 + s] as u32);
+        r.memory = get(&state[24..RECEIVER_WORDS]);
     });
     Some(held)
 }
@@ -210,11 +210,11 @@ fn load(state: &[u64]) -> Option<Held> {
 fn store(held: &Held, state: &mut [u64]) {
     let map = matches!(held, Held::Square(_)) as u32;
     of!(held, r => {
-        let head = [r.open as u32, map, r.u, r.window, r.turn, r.taken, r.slot as u32, r.pending as u32];
+        let head = [r.open as u32, map, r.u, r.window, r.turn, r.slot as u32, r.pending as u32];
         state[0] = RECEIVER_TAG;
-        state[1..9].copy_from_slice(&head.map(|n| n as u64));
-        state[9..25].copy_from_slice(&r.sums);
-        put(&r.memory, &mut state[25..RECEIVER_WORDS]);
+        state[1..8].copy_from_slice(&head.map(|n| n as u64));
+        state[8..24].copy_from_slice(&r.sums.map(u64::from));
+        put(&r.memory, &mut state[24..RECEIVER_WORDS]);
     });
 }
 

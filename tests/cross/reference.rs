@@ -2,7 +2,7 @@
 //!
 //! It leans on nothing but the standard library and shares no line with the proved code: the point table is made by its
 //! rule, the receiver keeps whole sequences and compares their points. A number is the scope's number (0 done, 1 width,
-//! 2 window, 3 start, 4 word, 5 coordinate, 6 window full, 7 too many symbols, 8 output, 9 closed, 10 piece length).
+//! 2 window, 3 start, 4 word, 5 coordinate, 6 window full, 8 output, 9 closed, 10 piece length).
 
 /// The start that names no state.
 pub const FREE: u32 = 16;
@@ -263,7 +263,6 @@ pub struct Receiver {
     window: u32,
     /// What a point's distance counts for at most.
     cap: u64,
-    taken: u64,
     /// The turn that the next released word is measured against: none before the first word of a free start.
     turn: Option<u32>,
     /// For each state the best sequence into it; none where it cannot be reached.
@@ -332,7 +331,7 @@ fn agreed(best: &[Option<Reading>]) -> usize {
 
 impl Receiver {
     pub fn closed() -> Receiver {
-        Receiver { open: false, line: Line::round(0), window: 0, cap: CAP, taken: 0, turn: None, best: vec![] }
+        Receiver { open: false, line: Line::round(0), window: 0, cap: CAP, turn: None, best: vec![] }
     }
 
     pub fn open(line: Line, window: u32, start: u32) -> (u32, Receiver) {
@@ -350,7 +349,7 @@ impl Receiver {
         }
         let nothing = || Reading { sum: 0, pending: vec![] };
         let best = (0..16).map(|s| (start == FREE || start == s).then(nothing)).collect();
-        (0, Receiver { open: true, line, window, cap: CAP, taken: 0, turn: (start != FREE).then_some(0), best })
+        (0, Receiver { open: true, line, window, cap: CAP, turn: (start != FREE).then_some(0), best })
     }
 
     /// The receiver of 01 alone, in which every distance counts whole.
@@ -411,9 +410,6 @@ impl Receiver {
         if let Some(place) = (0..4).find(|&k| got(k / 2) && far(c[k])) {
             return Err((5, place as u64));
         }
-        if self.taken == 4_294_967_295 {
-            return Err((7, 0));
-        }
         let received = |point: usize| got(point).then_some((c[2 * point], c[2 * point + 1]));
         let mut best = self.after(map, (received(0), received(1)));
         let released = agreed(&best);
@@ -428,7 +424,6 @@ impl Receiver {
         self.speak(&common, out);
         best.iter_mut().flatten().for_each(|r| drop(r.pending.drain(..released)));
         self.best = best;
-        self.taken += 1;
         Ok(released)
     }
 

@@ -1,13 +1,11 @@
 -- The machine at work, computed: small pieces to fresh receivers, and what they give. Rows have the number, the place, the symbols taken
 -- and the words written.
 --   closed-row, uneven-row, sample-row   9 of a piece and of a finish; 10; 5 with its place
---   many-row                             7, of a record that is set up with 4,294,967,295 symbols taken
 --   window-row, room-row, finish-row     6, 8 at a symbol, 8 at a finish
 --   five-one, five-taken                 of five symbols (A,A) one word is released
 --   unfit-row                            marks that do not fit are a 10
 --   at-start, in-middle                  the words of a line that misses a first point, a second, or both: never a 5, whatever stands there
 use mathlib.Core.Path.{_≡_, refl}
-use mathlib.Core.Bool.{true}
 use mathlib.Core.List.{List, [], _∷_, _++_}
 use Prim.Native.Nat.{ℕ}
 use lib.IntN.{ℤ, pos, negℤ}
@@ -28,8 +26,8 @@ use Rattle.nearest.specs.Line.{lineDistance}
 use Rattle.nearest.specs.Found.{costOf, weighedOf}
 use Rattle.lists.specs.Tabled.{tabled}
 use Rattle.planes.specs.Planes.{carried, movedWords, movedOf, sameFrom, oldest}
-use Rattle.select.specs.Select.{arrive, winner, sumAt, firstStep, reachedOf, liveOf, followed, stepAt}
-use Rattle.sums.specs.Sums.{endOf, allUpTo}
+use Rattle.select.specs.Select.{arrive, winner, sumAt, firstStep, lowered, reachedOf, liveOf, followed, stepAt}
+use Rattle.sums.specs.Sums.{endOf, lowest, allUpTo}
 use Rattle.picks.specs.Picks.{numbersOf, symbolBy, keptIn}
 use Rattle.reasons.specs.Reason.{givenOf}
 use Rattle.told.specs.Told.{faultAt, faultOf}
@@ -71,16 +69,6 @@ pub sample-row : row (hearing (freshly 64 Free) (pieceOf (pos 8192 ∷ negℤ (p
 unfolding opening hearing sound soundCore allUpTo opened freshSums running symbolAt faultOf faultAt
 sample-row = refl
 
--- a record that holds 4,294,967,295 symbols taken
-abbrev many : Receiver
-many =
-    let rx = freshly 64 Free in
-    record { live = true; core = record { accord = ofWidth 0; window = 64; taken = 4294967295; turn = 0; slot = 0; pending = 0 }; sums = rx .sums; planes = rx .planes; picks = rx .picks }
-
-pub many-row : row (hearing many (pieceOf zeros) 0) ≡ 7 ∷ 0 ∷ 0 ∷ 0 ∷ []
-unfolding opening hearing sound soundCore allUpTo opened freshSums running symbolAt faultOf faultAt taking
-many-row = refl
-
 -- "Window 1, u 0, free start, (128,128,128,128) twice: the first is taken, nothing released; the second gets 6"; with no room, the second
 -- symbol's word; with no room, the one pending word; (A,A) five times
 at-work : (row (hearing (freshly 1 Free) (pieceOf (a-a ++ a-a)) 0) ≡ 6 ∷ 0 ∷ 1 ∷ 0 ∷ [])
@@ -89,7 +77,7 @@ at-work : (row (hearing (freshly 1 Free) (pieceOf (a-a ++ a-a)) 0) ≡ 6 ∷ 0 �
     × (hearing (freshly 64 (At 0)) (pieceOf a-a-five) 5 .words ≡ 0 ∷ [])
     × (hearing (freshly 64 (At 0)) (pieceOf a-a-five) 5 .taken ≡ 5)
 unfolding opening hearing finishing sound soundCore allUpTo opened freshSums running symbolAt faultOf faultAt taking agreedOf grown releasedOf oldest sameFrom
-    carried movedWords movedOf tabled followed liveOf reachedOf sumAt stepAt firstStep winner arrive weighedOf costOf bestI3 typeSum counted gapOf
+    carried movedWords movedOf tabled followed liveOf reachedOf sumAt lowered lowest stepAt firstStep winner arrive weighedOf costOf bestI3 typeSum counted gapOf
     near least lineDistance distance pointOf aPoint coordinates secondLabel before between carryI1 carryI2 wayFrom range speak after endOf lastSymbols
     symbolBy numbersOf keptIn word wordParts packed
 at-work = (refl, refl, refl, refl, refl)
@@ -139,7 +127,7 @@ said ms xs = let r = hearing (freshly 64 (At 0)) (markedPiece ms xs) 8 in r .wor
 missing : (said (1 ∷ []) (far ++ at-d) ≡ 6 ∷ []) × (said (2 ∷ []) (at-d ++ far) ≡ 6 ∷ []) × (said (3 ∷ []) (far ++ far) ≡ 0 ∷ [])
     × (said (0 ∷ 1 ∷ 0 ∷ []) (line (far ++ at-c)) ≡ 2 ∷ 0 ∷ 0 ∷ []) × (said (0 ∷ 2 ∷ 0 ∷ []) (line (at-c ++ far)) ≡ 2 ∷ 0 ∷ 0 ∷ []) × (said (0 ∷ 3 ∷ 0 ∷ []) (line (far ++ far)) ≡ 2 ∷ 6 ∷ 2 ∷ [])
 unfolding opening hearing finishing sound soundCore allUpTo opened freshSums running symbolAt faultOf faultAt taking agreedOf grown releasedOf oldest
-    sameFrom carried movedWords movedOf tabled followed liveOf reachedOf sumAt stepAt firstStep winner arrive weighedOf costOf bestI3 typeSum counted
+    sameFrom carried movedWords movedOf tabled followed liveOf reachedOf sumAt lowered lowest stepAt firstStep winner arrive weighedOf costOf bestI3 typeSum counted
     gapOf near least lineDistance distance pointOf aPoint coordinates secondLabel before between carryI1 carryI2 wayFrom range speak after endOf
     lastSymbols symbolBy numbersOf keptIn word wordParts packed
 missing = (refl, refl, refl, refl, refl, refl)

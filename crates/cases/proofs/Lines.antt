@@ -47,7 +47,9 @@ written r = r .spoken ∷ r .answer ∷ []
 
 module _ (n : ℕ → ℕ) (rises : Rises n) where
   laws : (r : Row) → Laws (S n r)
-  laws r = wei-laws (r .line .u) (pairs Received (lineDistance (r .line)) n) (bestOf (r .line .u) (lineDistance (r .line)) n) (pairs-chooses (r .line .u) (lineDistance (r .line)) n rises) sameSymbol (r .start)
+  laws r =
+      let u = r .line .u in
+      let far = lineDistance (r .line) in wei-laws u (pairs Received far n) (bestOf u far n) (pairs-chooses u far n rises) sameSymbol (r .start)
 
   computes : (r : Row) → computed n r ≡ written r → Holds n r
   unfolding computed written spokenWords answerWords spoken answered

@@ -1,19 +1,19 @@
--- A receiver can have been told 4,294,967,295 symbols: at width 0 with a free start, all zeros are good symbols, and never are more than
+-- A receiver can have been told any number of symbols: at width 0 with a free start, all zeros are good symbols, and never are more than
 -- two of them pending.
 --   zeros, zeros-good   the symbol, and that it is good
 --   told n              n of them
---   steady              that is a history which calls can tell
--- All zeros are equally far from all points of width 0, so all sums stay equal, the first way into each state wins, and each symbol
+--   steady, goes-on     that is a history which calls can tell, and the window holds what is pending after one more
+-- All zeros are equally far from all points of width 0, so every state keeps 0, the first way into each state wins, and each symbol
 -- has the same steps (`Steady`).
 use mathlib.Core.Path.{_≡_, refl, sym, ap, ap₂, subst, _∙_}
 use mathlib.Core.Bool.{Bool, true}
-use mathlib.Core.List.{List}
+use mathlib.Core.List.{List, _∷_}
 use Prim.Native.Nat.{ℕ, zero, suc, _+_, _*_, _%_, _≤_, _<_}
 use native.Mathlib.Omega.{arith}
 use native.Mathlib.Decide.{decLt}
 use borrow.Author.Tests.{le-ltb}
 use lib.IntN.{pos}
-use lib.ListN.{getD, length, replicate, length-replicate}
+use lib.ListN.{getD, replicate}
 use Rattle.wei.specs.State.{before, carryI1, carryI2, between}
 use Rattle.wei.specs.Label.{secondLabel}
 use Rattle.wei.proofs.Finite.{equal1}
@@ -32,9 +32,10 @@ use Rattle.spots.specs.Distance.{distance}
 use Rattle.nearest.specs.Line.{BothInRange, lineDistance}
 use Rattle.nearest.specs.Found.{costOf, weighedOf}
 use Rattle.machine.specs.declared.Receiver.{Receiver}
-use Rattle.select.specs.Select.{limit, sixteen, arrive, winner, sumAt, firstStep, stepAt, prevIn}
+use Rattle.select.specs.Select.{sixteen, arrive, winner, sumAt, firstStep, lowered, stepAt, prevIn}
+use Rattle.sums.specs.Sums.{endOf, lowest}
 use Rattle.machine.specs.Machine.{freshSums, opened, nextSums, nextSteps, agreedOf, keptOf, grown, machineAfter, machineOf}
-use Rattle.told.specs.Told.{Told, Fine}
+use Rattle.told.specs.Told.{Told, pendingAfter, Fine}
 use Rattle.told.specs.Piece.{symbolFrom}
 use Rattle.select.proofs.Lists.{sixteen-at, sixteen-same}
 use Rattle.select.proofs.Followed.{followed-live}
@@ -70,34 +71,35 @@ least-flat f c (suc n) h =
 abbrev steps : List ℕ
 steps = sixteen (λ t. 8 * before t 0 + between (before t 0) t)
 
-module _ (v : ℕ) (small : v + 65536 < limit) where
-  abbrev flat : List ℕ
-  flat = sixteen (λ s. v)
+abbrev flat : List ℕ
+flat = sixteen (λ s. 0)
 
-  module _ (t : ℕ) (h : t < 16) where
-    arrives : (k : ℕ) → k ≤ 3 → arrive flat costs t k ≡ v + 65536
-    unfolding arrive
-    arrives k l = ap₂ (λ (a b : ℕ). a + b) (sixteen-at (λ s. v) (before t k) (before-below t k h (omega arith))) (costs-at (between (before t k) t) (between-below (before t k) t))
+module _ (t : ℕ) (h : t < 16) where
+  arrives : (k : ℕ) → k ≤ 3 → arrive flat costs t k ≡ 65536
+  unfolding arrive
+  arrives k l = ap₂ (λ (a b : ℕ). a + b) (sixteen-at (λ s. 0) (before t k) (before-below t k h (omega arith))) (costs-at (between (before t k) t) (between-below (before t k) t))
 
-    wins : winner flat costs t ≡ 0
-    unfolding winner
-    wins = least-flat (arrive flat costs t) (v + 65536) 3 arrives
+  wins : winner flat costs t ≡ 0
+  unfolding winner
+  wins = least-flat (arrive flat costs t) 65536 3 arrives
 
-    sum-is : sumAt flat costs t ≡ v + 65536
-    unfolding sumAt
-    sum-is = ap (arrive flat costs t) wins ∙ arrives 0 (omega arith)
+  sum-is : sumAt flat costs t ≡ 65536
+  unfolding sumAt
+  sum-is = ap (arrive flat costs t) wins ∙ arrives 0 (omega arith)
 
-    step-is : stepAt flat costs t ≡ 8 * before t 0 + between (before t 0) t
-    unfolding stepAt firstStep
-    step-is =
-        ap (firstStep flat costs) (followed-live (sixteen (sumAt flat costs)) t (omega (arith, sixteen-at (sumAt flat costs) t h, sum-is)))
-        ∙ ap (λ (k : ℕ). 8 * before t k + between (before t k) t) wins
+  step-is : stepAt flat costs t ≡ 8 * before t 0 + between (before t 0) t
+  unfolding stepAt firstStep
+  step-is =
+      ap (firstStep flat costs) (followed-live (sixteen (sumAt flat costs)) t (omega (arith, sixteen-at (sumAt flat costs) t h, sum-is)))
+      ∙ ap (λ (k : ℕ). 8 * before t k + between (before t k) t) wins
 
-  sums-next : sixteen (sumAt flat costs) ≡ sixteen (λ s. v + 65536)
-  sums-next = sixteen-same (sumAt flat costs) (λ s. v + 65536) sum-is
+-- all states have the same sum, so each keeps 0 again
+sums-next : sixteen (lowered (sixteen (sumAt flat costs))) ≡ flat
+unfolding lowered lowest endOf least
+sums-next = ap (λ (l : List ℕ). sixteen (lowered l)) (sixteen-same (sumAt flat costs) (λ s. 65536) sum-is)
 
-  steps-next : sixteen (stepAt flat costs) ≡ steps
-  steps-next = sixteen-same (stepAt flat costs) (λ t. 8 * before t 0 + between (before t 0) t) step-is
+steps-next : sixteen (stepAt flat costs) ≡ steps
+steps-next = sixteen-same (stepAt flat costs) (λ t. 8 * before t 0 + between (before t 0) t) step-is
 
 -- ---- two stay pending
 
@@ -108,29 +110,23 @@ one-past = equal1 16 (λ i. getD steps (prevIn steps (prevIn steps i)) 0 % 8) (�
 
 record Steady (n : ℕ) : Type 0 where
   fine : Fine (told n)
-  sums : machineOf (told n) .sums ≡ sixteen (λ s. 65536 * n)
+  sums : machineOf (told n) .sums ≡ flat
   few : machineOf (told n) .core .pending ≤ 2
   newest : (s : ℕ) → s < 16 → 1 ≤ machineOf (told n) .core .pending → subsetIn (machineOf (told n) .planes) s 0 ≡ getD steps s 0 % 8
   older : (s : ℕ) → s < 16 → 2 ≤ machineOf (told n) .core .pending → subsetIn (machineOf (told n) .planes) s 1 ≡ getD steps (prevIn steps s) 0 % 8
 
-module _ (n : ℕ) (S : Steady n) (more : n < 4294967295) where
+module _ (n : ℕ) (S : Steady n) where
   abbrev rx : Receiver
   rx = machineOf (told n)
-
-  not-many : length (replicate n zeros) < 4294967295
-  not-many = omega (arith, length-replicate n zeros)
-
-  small : 65536 * n + 65536 < limit
-  small = omega arith
 
   costs-are : weighedOf (rx .core .accord) zeros .costs ≡ costs
   costs-are = ap (λ (k : Accord). weighedOf k zeros .costs) (accord-told (told n) (S .fine))
 
-  next-sums : nextSums rx zeros ≡ sixteen (λ s. 65536 * n + 65536)
-  next-sums = ap₂ (λ (l c : List ℕ). sixteen (sumAt l c)) (S .sums) costs-are ∙ sums-next (65536 * n) small
+  next-sums : nextSums rx zeros ≡ flat
+  next-sums = ap₂ (λ (l c : List ℕ). sixteen (lowered (sixteen (sumAt l c)))) (S .sums) costs-are ∙ sums-next
 
   next-steps : nextSteps rx zeros ≡ steps
-  next-steps = ap₂ (λ (l c : List ℕ). sixteen (stepAt l c)) (S .sums) costs-are ∙ steps-next (65536 * n) small
+  next-steps = ap₂ (λ (l c : List ℕ). sixteen (stepAt l c)) (S .sums) costs-are ∙ steps-next
 
   -- the states before agree on the older of two
   one-older : 2 ≤ rx .core .pending → sameAt (rx .planes) steps 1 ≡ true
@@ -163,20 +159,21 @@ module _ (n : ℕ) (S : Steady n) (more : n < 4294967295) where
   unfolding grown
   grown-steady e =
       record {
-        fine = telling-fine (told n) (S .fine) zeros zeros-good not-many (omega (arith, kept-two, kept-told (told n) (S .fine) zeros zeros-good not-many));
-        sums = ap (λ (x : Receiver). x .sums) e ∙ next-sums ∙ ap (λ (v : ℕ). sixteen (λ s. v)) (let z : 65536 * n + 65536 ≡ 65536 * suc n = omega arith in z);
+        fine = telling-fine (told n) (S .fine) zeros zeros-good (omega (arith, kept-two, kept-told (told n) (S .fine) zeros));
+        sums = ap (λ (x : Receiver). x .sums) e ∙ next-sums;
         few = subst (λ (x : Receiver). x .core .pending ≤ 2) (sym e) kept-two;
         newest = λ s h k. ap (λ (x : Receiver). subsetIn (x .planes) s 0) e ∙ next-newest s h;
         older = λ s h k. ap (λ (x : Receiver). subsetIn (x .planes) s 1) e ∙ next-older s h (subst (λ (x : Receiver). 2 ≤ x .core .pending) e k);
       }
 
-steady-after : (n : ℕ) → n ≤ 4294967295 → Steady n
+steady-after : (n : ℕ) → Steady n
 unfolding machineAfter opened freshSums
-steady-after zero h =
+steady-after zero =
     record { fine = fine-opened (ofWidth 0) 64 free refl (omega arith) (omega arith) tt; sums = refl; few = omega arith; newest = λ s l k. absurd (omega arith); older = λ s l k. absurd (omega arith) }
-steady-after (suc n) h =
-    let s = steady-after n (omega arith) in
-    grown-steady n s (omega arith) (grown-told (told n) (s .fine) zeros)
+steady-after (suc n) = let s = steady-after n in grown-steady n s (grown-told (told n) (s .fine) zeros)
 
-pub steady : (n : ℕ) → n ≤ 4294967295 → Fine (told n)
-steady n h = steady-after n h .fine
+pub steady : (n : ℕ) → Fine (told n)
+steady n = steady-after n .fine
+
+pub goes-on : (n : ℕ) → pendingAfter (told n) (zeros ∷ told n .heard) ≤ 64
+goes-on n = let s = steady-after n in omega (arith, kept-two n s, kept-told (told n) (s .fine) zeros)

@@ -123,6 +123,7 @@ module _ (fs : List Float) (ms : List ℕ) (out₀ out : List ℤ) (i : ℕ) (is
         let n = is .long in
         let front : o ≡ (take i out ++ (r .x ∷ r .y ∷ [])) ++ drop (i + 2) out = e ∙ rw (add-one i) (sets-eq (r .x ∷ r .y ∷ []) out i k) in
         let size : length (take i out ++ (r .x ∷ r .y ∷ [])) ≡ i + 2 = length-append (take i out) (r .x ∷ r .y ∷ []) ∙ rw written in
+        let now-written = ap (λ l. take (i + 2) l) front ∙ take-at (take i out ++ (r .x ∷ r .y ∷ [])) (drop (i + 2) out) (i + 2) size in
         let after : drop (i + 2) out ≡ drop (i + 2) out₀ = sym (drop-drop 2 i out) ∙ ap (λ l. drop 2 l) (is .rest) ∙ drop-drop 2 i out₀ in
         record {
           aligned = let a = is .aligned in omega arith;
@@ -133,7 +134,7 @@ module _ (fs : List Float) (ms : List ℕ) (out₀ out : List ℤ) (i : ℕ) (is
           same =
               same-at
               ∙ rw (done h, written, le-leb (i + 2) (length out₀) (omega arith), sym (hears .x-is), sym (hears .y-is))
-              (ap (λ l. converting (samplesWith (drop ((i + 2) / 2) ms) (drop (i + 2) fs)) l (length out₀)) (sym (ap (λ l. take (i + 2) l) front ∙ take-at (take i out ++ (r .x ∷ r .y ∷ [])) (drop (i + 2) out) (i + 2) size)));
+              (ap (λ l. converting (samplesWith (drop ((i + 2) / 2) ms) (drop (i + 2) fs)) l (length out₀)) (sym now-written));
         }
 
 -- ---- the whole call

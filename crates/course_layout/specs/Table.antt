@@ -1,7 +1,7 @@
 -- Where the parts of a replay stand in its words: the table of src/lib.rt.
 --   replayTag                  word 0: what the state is
 --   replayLength               how many words a replay has
---   sumsAt, planesAt, picksAt, dueAt   where its lists begin, after the tag and the 29 numbers
+--   sumsAt, planesAt, picksAt, dueAt   where its lists begin, after the tag and the 28 numbers
 --   accordLimit, limits, dueLimits   the most that a number and a word that is due may be
 --   within ls ws               each word is at most its limit
 --   Small ws                   each word fits 32 bits
@@ -13,22 +13,22 @@ use lib.ListN.{getD, replicate}
 
 -- the letters "demf", "rp", and the number of the layout
 abbrev pub replayTag : ℕ
-replayTag = 0x64656d6672700003
+replayTag = 0x64656d6672700004
 
 abbrev pub sumsAt : ℕ
-sumsAt = 30
+sumsAt = 29
 
 abbrev pub planesAt : ℕ
-planesAt = 46
+planesAt = 37
 
 abbrev pub picksAt : ℕ
-picksAt = 94
+picksAt = 85
 
 abbrev pub dueAt : ℕ
-dueAt = 166
+dueAt = 157
 
 abbrev pub replayLength : ℕ
-replayLength = 231
+replayLength = 222
 
 abbrev pub half : ℕ
 half = 4294967295
@@ -37,9 +37,9 @@ half = 4294967295
 abbrev pub accordLimit : ℕ
 accordLimit = 8589934591
 
--- stage, phase, kind, nine bytes of a body, live, map and width, taken, turn, which verdict, and two words of it
+-- stage, phase, kind, nine bytes of a body, live, map and width, turn, which verdict, and two words of it
 abbrev pub limits : List ℕ
-limits = 3 ∷ 3 ∷ 255 ∷ 255 ∷ 255 ∷ 255 ∷ 255 ∷ 255 ∷ 255 ∷ 255 ∷ 255 ∷ 255 ∷ 1 ∷ accordLimit ∷ half ∷ half ∷ 5 ∷ half ∷ half ∷ []
+limits = 3 ∷ 3 ∷ 255 ∷ 255 ∷ 255 ∷ 255 ∷ 255 ∷ 255 ∷ 255 ∷ 255 ∷ 255 ∷ 255 ∷ 1 ∷ accordLimit ∷ half ∷ 5 ∷ half ∷ half ∷ []
 
 abbrev pub dueLimits : List ℕ
 dueLimits = replicate 65 half

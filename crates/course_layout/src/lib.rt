@@ -8,22 +8,22 @@ ghost use lib.ListN.{length, drop};
 ghost use Rattle.course_layout.specs.Table.{within, Small};
 
 // Word 0 says what the state is: the letters "demf", "rp", and the number of the layout. A replay that has ended has 0 there.
-pub const REPLAY: u64 = 0x6465_6d66_7270_0003;
+pub const REPLAY: u64 = 0x6465_6d66_7270_0004;
 
-// The words: the tag, the numbers, the receiver's sums, registers and picks, and the words that are due.
+// The words: the tag, the numbers, the receiver's sums, two to a word, registers and picks, and the words that are due.
 pub const TAG: usize = 0;
 
 pub const NUMBERS: usize = 1;
 
-pub const SUMS: usize = 30;
+pub const SUMS: usize = 29;
 
-pub const PLANES: usize = 46;
+pub const PLANES: usize = 37;
 
-pub const PICKS: usize = 94;
+pub const PICKS: usize = 85;
 
-pub const DUE: usize = 166;
+pub const DUE: usize = 157;
 
-pub const WORDS: usize = 231;
+pub const WORDS: usize = 222;
 
 // The numbers, those first that must not pass a limit: of the frame, of the receiver, of the verdict.
 pub const STAGE: usize = 0;
@@ -39,38 +39,36 @@ pub const LIVE: usize = 12;
 // Map and width, as one number.
 pub const ACCORD: usize = 13;
 
-pub const TAKEN: usize = 14;
+pub const TURN: usize = 14;
 
-pub const TURN: usize = 15;
+pub const VERDICT: usize = 15;
 
-pub const VERDICT: usize = 16;
+pub const GOT: usize = 16;
 
-pub const GOT: usize = 17;
+pub const WANTED: usize = 17;
 
-pub const WANTED: usize = 18;
+pub const HAVE: usize = 18;
 
-pub const HAVE: usize = 19;
+pub const AT: usize = 19;
 
-pub const AT: usize = 20;
+pub const FED: usize = 20;
 
-pub const FED: usize = 21;
+pub const WINDOW: usize = 21;
 
-pub const WINDOW: usize = 22;
+pub const SLOT: usize = 22;
 
-pub const SLOT: usize = 23;
+pub const PENDING: usize = 23;
 
-pub const PENDING: usize = 24;
+pub const GIVEN: usize = 24;
 
-pub const GIVEN: usize = 25;
+pub const SHOWN: usize = 25;
 
-pub const SHOWN: usize = 26;
+pub const RECORDS: usize = 26;
 
-pub const RECORDS: usize = 27;
-
-pub const COUNT: usize = 28;
+pub const COUNT: usize = 27;
 
 // The most that each of the first numbers may be.
-pub const LIMITS: [u64; 19] = [
+pub const LIMITS: [u64; 18] = [
     3,
     3,
     255,
@@ -85,7 +83,6 @@ pub const LIMITS: [u64; 19] = [
     255,
     1,
     8589934591,
-    4294967295,
     4294967295,
     5,
     4294967295,

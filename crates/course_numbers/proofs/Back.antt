@@ -1,6 +1,6 @@
 -- The numbers of a frame and a judge read as them.
 --   frame-back, judge-back    the laws; a frame's body has nine bytes, and a width 32 bits
---   fit                       the first nineteen numbers within their limits
+--   fit                       the first eighteen numbers within their limits
 use mathlib.Core.Path.{_≡_, refl}
 use mathlib.Core.Bool.{Bool, true, false}
 use mathlib.Core.List.{List, [], _∷_}
@@ -74,7 +74,7 @@ judge-back f j h =
     λ i.
     record {
       live = live-back (j .live) i;
-      core = record { accord = a i; window = c .window; taken = c .taken; turn = c .turn; slot = c .slot; pending = c .pending };
+      core = record { accord = a i; window = c .window; turn = c .turn; slot = c .slot; pending = c .pending };
       given = j .given;
       shown = j .shown;
       records = j .records;
@@ -120,10 +120,10 @@ Bytes b =
     × (getD b 8 0 ≤ 255)
 
 -- bytes are bytes, and numbers of 32 bits fit them
-pub fit : (f : Frame) (j : Judge) → f .kind ≤ 255 → Bytes (f .body) → j .core .accord .u ≤ half → j .core .taken ≤ half → j .core .turn ≤ half
+pub fit : (f : Frame) (j : Judge) → f .kind ≤ 255 → Bytes (f .body) → j .core .accord .u ≤ half → j .core .turn ≤ half
     → gotOf (j .verdict) ≤ half → wantedOf (j .verdict) ≤ half → within limits (numbersOf f j) ≡ true
 unfolding within numbersOf
-fit f j k b u t r g w =
+fit f j k b u r g w =
     rw (
       le-leb (stageNumber (f .stage)) 3 (stage-small (f .stage)),
       le-leb (phaseNumber (f .phase)) 3 (phase-small (f .phase)),
@@ -139,7 +139,6 @@ fit f j k b u t r g w =
       le-leb (getD (f .body) 8 0) 255 (b .8),
       le-leb (liveNumber (j .live)) 1 (live-small (j .live)),
       le-leb (accordWord (j .core .accord)) accordLimit (accord-small (j .core .accord) u),
-      le-leb (j .core .taken) half t,
       le-leb (j .core .turn) half r,
       le-leb (verdictNumber (j .verdict)) 5 (verdict-small (j .verdict)),
       le-leb (gotOf (j .verdict)) half g,

@@ -1,4 +1,4 @@
--- A frame and a judge as 29 numbers, and back. That the numbers of a frame and a judge read as them is proofs/Back.
+-- A frame and a judge as 28 numbers, and back. That the numbers of a frame and a judge read as them is proofs/Back.
 --   stageOf, phaseOf, verdictIn            what a number stands for; stageNumber, phaseNumber, verdictNumber which number stands for it
 --   countOf, gotOf, wantedOf               what a verdict says: a count or an offset, the word recorded, the word expected or the refusal
 --   frameIn, coreIn, judgeIn               what some numbers hold
@@ -87,25 +87,25 @@ frameIn ns =
       stage = stageOf (getD ns 0 0);
       phase = phaseOf (getD ns 1 0);
       kind = getD ns 2 0;
-      have = getD ns 19 0;
+      have = getD ns 18 0;
       body = getD ns 3 0 ∷ getD ns 4 0 ∷ getD ns 5 0 ∷ getD ns 6 0 ∷ getD ns 7 0 ∷ getD ns 8 0 ∷ getD ns 9 0 ∷ getD ns 10 0 ∷ getD ns 11 0 ∷ [];
-      at = getD ns 20 0;
-      fed = getD ns 21 0;
+      at = getD ns 19 0;
+      fed = getD ns 20 0;
     }
 
 unfoldable pub coreIn : List ℕ → Core
 coreIn ns =
-    record { accord = accordIn (getD ns 13 0); window = getD ns 22 0; taken = getD ns 14 0; turn = getD ns 15 0; slot = getD ns 23 0; pending = getD ns 24 0 }
+    record { accord = accordIn (getD ns 13 0); window = getD ns 21 0; turn = getD ns 14 0; slot = getD ns 22 0; pending = getD ns 23 0 }
 
 unfoldable pub judgeIn : List ℕ → Judge
 judgeIn ns =
     record {
       live = eqb (getD ns 12 0) 1;
       core = coreIn ns;
-      given = getD ns 25 0;
-      shown = getD ns 26 0;
-      records = getD ns 27 0;
-      verdict = verdictIn (getD ns 16 0) (getD ns 28 0) (getD ns 17 0) (getD ns 18 0);
+      given = getD ns 24 0;
+      shown = getD ns 25 0;
+      records = getD ns 26 0;
+      verdict = verdictIn (getD ns 15 0) (getD ns 27 0) (getD ns 16 0) (getD ns 17 0);
     }
 
 unfoldable pub numbersOf : Frame → Judge → List ℕ
@@ -114,5 +114,5 @@ numbersOf f j =
     let c = j .core in
     let v = j .verdict in
     stageNumber (f .stage) ∷ phaseNumber (f .phase) ∷ f .kind ∷ getD b 0 0 ∷ getD b 1 0 ∷ getD b 2 0 ∷ getD b 3 0 ∷ getD b 4 0 ∷ getD b 5 0 ∷ getD b 6 0 ∷ getD b 7 0
-    ∷ getD b 8 0 ∷ liveNumber (j .live) ∷ accordWord (c .accord) ∷ c .taken ∷ c .turn ∷ verdictNumber v ∷ gotOf v ∷ wantedOf v
+    ∷ getD b 8 0 ∷ liveNumber (j .live) ∷ accordWord (c .accord) ∷ c .turn ∷ verdictNumber v ∷ gotOf v ∷ wantedOf v
     ∷ f .have ∷ f .at ∷ f .fed ∷ c .window ∷ c .slot ∷ c .pending ∷ j .given ∷ j .shown ∷ j .records ∷ countOf v ∷ []

@@ -1,4 +1,4 @@
-// The numbers of a replay: its frame and its judge as 29 numbers of 64 bits, and back. Where each stands is the table of `course_layout`;
+// The numbers of a replay: its frame and its judge as 28 numbers of 64 bits, and back. Where each stands is the table of `course_layout`;
 // which number stands for which stage, phase and verdict is said here.
 use machine::Core;
 use records::Frame;
@@ -64,7 +64,7 @@ fn verdict_of(k: u64, n: u64, g: u32, h: u32) -> Verdict
     Verdict::Malformed(n)
 }
 
-pub fn frame_of(numbers: [u64; 29]) -> Frame
+pub fn frame_of(numbers: [u64; 28]) -> Frame
     requires { ⌜ within limits numbers ≡ true ⌝ }
     ensures { λ r. ⌜ r ≡ frameIn numbers ⌝ }
 {
@@ -89,21 +89,20 @@ pub fn frame_of(numbers: [u64; 29]) -> Frame
     }
 }
 
-fn core_of(numbers: [u64; 29]) -> Core
+fn core_of(numbers: [u64; 28]) -> Core
     requires { ⌜ within limits numbers ≡ true ⌝ }
     ensures { λ r. ⌜ r ≡ coreIn numbers ⌝ }
 {
     Core {
         accord: accords::accord_in(numbers[course_layout::ACCORD]),
         window: numbers[course_layout::WINDOW] as usize,
-        taken: numbers[course_layout::TAKEN] as u32,
         turn: numbers[course_layout::TURN] as u32,
         slot: numbers[course_layout::SLOT] as usize,
         pending: numbers[course_layout::PENDING] as usize,
     }
 }
 
-pub fn judge_of(numbers: [u64; 29]) -> Judge
+pub fn judge_of(numbers: [u64; 28]) -> Judge
     requires { ⌜ within limits numbers ≡ true ⌝ }
     ensures { λ r. ⌜ r ≡ judgeIn numbers ⌝ }
 {
@@ -215,7 +214,7 @@ fn byte(body: [u8; 9], i: usize) -> u8
     body[i]
 }
 
-pub fn numbers_of(f: Frame, j: Judge) -> [u64; 29]
+pub fn numbers_of(f: Frame, j: Judge) -> [u64; 28]
     ensures { λ r. ⌜ (r ≡ numbersOf f j) × (within limits r ≡ true) ⌝ }
 {
     let stage = f.stage;
@@ -239,7 +238,6 @@ pub fn numbers_of(f: Frame, j: Judge) -> [u64; 29]
         byte(b, 8) as u64,
         live_number(j.live),
         accords::accord_word(accord),
-        c.taken as u64,
         c.turn as u64,
         verdict_number(v),
         got_of(v) as u64,

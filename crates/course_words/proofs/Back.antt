@@ -17,6 +17,9 @@ use Rattle.replay_step.specs.declared.Judge.{Judge}
 use Rattle.replay_step.specs.Judging.{State}
 use Rattle.replay.specs.Course.{Course, courseOf}
 use Rattle.course_layout.specs.Table.{replayTag, replayLength, sumsAt, planesAt, picksAt, dueAt, limits, dueLimits, within, Small}
+use Rattle.layout.specs.Halves.{unpacked, packed, AllHalves}
+use Rattle.layout.proofs.Halves.{packed-length}
+use Rattle.layout.proofs.Halves as halves
 use Rattle.layout.proofs.Lent.{lent, back}
 use Rattle.course_layout.proofs.Limits.{few}
 use Rattle.course_numbers.specs.Numbers.{frameIn, judgeIn, numbersOf}
@@ -68,6 +71,7 @@ pub record CourseFits (c : Course) : Type 0 where
   pub numbers : within limits (numbersOf (c .frame) (judgeOf (c .state))) ≡ true
   pub nine : length (c .frame .body) ≡ 9
   pub sums : length (c .state .receiver .sums) ≡ 16
+  pub halves : AllHalves (c .state .receiver .sums)
   pub planes : length (c .state .receiver .planes) ≡ 48
   pub picks : length (c .state .receiver .picks) ≡ 72
   pub due : length (c .state .due) ≡ 65
@@ -87,29 +91,29 @@ module _ (c : Course) (rest : List ℕ) (f : CourseFits c) where
   abbrev words : List ℕ
   words = wordsOf c ++ rest
 
-  sized : length numbers ≡ 29
+  sized : length numbers ≡ 28
   unfolding numbersOf
   sized = refl
 
   -- the five parts behind the tag, and what stands behind them
-  parts : drop 1 words ≡ numbers ++ (s .receiver .sums ++ (s .receiver .planes ++ (s .receiver .picks ++ (s .due ++ rest))))
+  parts : drop 1 words ≡ numbers ++ (packed (s .receiver .sums) ++ (s .receiver .planes ++ (s .receiver .picks ++ (s .due ++ rest))))
   unfolding wordsOf
   parts = simp append-assoc
 
-  sums-at : drop 30 words ≡ s .receiver .sums ++ (s .receiver .planes ++ (s .receiver .picks ++ (s .due ++ rest)))
-  sums-at = sym (drop-drop 29 1 words) ∙ ap (λ (l : List ℕ). drop 29 l) parts ∙ drop-at numbers _ 29 sized
+  sums-at : drop 29 words ≡ packed (s .receiver .sums) ++ (s .receiver .planes ++ (s .receiver .picks ++ (s .due ++ rest)))
+  sums-at = sym (drop-drop 28 1 words) ∙ ap (λ (l : List ℕ). drop 28 l) parts ∙ drop-at numbers _ 28 sized
 
-  planes-at : drop 46 words ≡ s .receiver .planes ++ (s .receiver .picks ++ (s .due ++ rest))
-  planes-at = sym (drop-drop 16 30 words) ∙ ap (λ (l : List ℕ). drop 16 l) sums-at ∙ drop-at (s .receiver .sums) _ 16 (f .sums)
+  planes-at : drop 37 words ≡ s .receiver .planes ++ (s .receiver .picks ++ (s .due ++ rest))
+  planes-at = sym (drop-drop 8 29 words) ∙ ap (λ (l : List ℕ). drop 8 l) sums-at ∙ drop-at (packed (s .receiver .sums)) _ 8 (packed-length (s .receiver .sums))
 
-  picks-at : drop 94 words ≡ s .receiver .picks ++ (s .due ++ rest)
-  picks-at = sym (drop-drop 48 46 words) ∙ ap (λ (l : List ℕ). drop 48 l) planes-at ∙ drop-at (s .receiver .planes) _ 48 (f .planes)
+  picks-at : drop 85 words ≡ s .receiver .picks ++ (s .due ++ rest)
+  picks-at = sym (drop-drop 48 37 words) ∙ ap (λ (l : List ℕ). drop 48 l) planes-at ∙ drop-at (s .receiver .planes) _ 48 (f .planes)
 
-  due-at : drop 166 words ≡ s .due ++ rest
-  due-at = sym (drop-drop 72 94 words) ∙ ap (λ (l : List ℕ). drop 72 l) picks-at ∙ drop-at (s .receiver .picks) _ 72 (f .picks)
+  due-at : drop 157 words ≡ s .due ++ rest
+  due-at = sym (drop-drop 72 85 words) ∙ ap (λ (l : List ℕ). drop 72 l) picks-at ∙ drop-at (s .receiver .picks) _ 72 (f .picks)
 
   numbers-in : numbersIn words ≡ numbers
-  numbers-in = ap (λ (l : List ℕ). take 29 l) parts ∙ take-at numbers _ 29 sized
+  numbers-in = ap (λ (l : List ℕ). take 28 l) parts ∙ take-at numbers _ 28 sized
 
   due-in : dueIn words ≡ s .due
   due-in = ap (λ (l : List ℕ). take 65 l) due-at ∙ take-at (s .due) rest 65 (f .due)
@@ -119,11 +123,11 @@ module _ (c : Course) (rest : List ℕ) (f : CourseFits c) where
   long =
       rw (
         length-append (wordsOf c) rest,
-        length-append numbers (s .receiver .sums ++ (s .receiver .planes ++ (s .receiver .picks ++ s .due))),
-        length-append (s .receiver .sums) (s .receiver .planes ++ (s .receiver .picks ++ s .due)),
+        length-append numbers (packed (s .receiver .sums) ++ (s .receiver .planes ++ (s .receiver .picks ++ s .due))),
+        length-append (packed (s .receiver .sums)) (s .receiver .planes ++ (s .receiver .picks ++ s .due)),
         length-append (s .receiver .planes) (s .receiver .picks ++ s .due),
         length-append (s .receiver .picks) (s .due),
-        f .sums,
+        packed-length (s .receiver .sums),
         f .planes,
         f .picks,
         f .due,
@@ -148,7 +152,8 @@ module _ (c : Course) (rest : List ℕ) (f : CourseFits c) where
   course-back =
       let a : frameIn (numbersIn words) ≡ c .frame = ap frameIn numbers-in ∙ frame-back (c .frame) j (f .nine) in
       let b : judgeIn (numbersIn words) ≡ j = ap judgeIn numbers-in ∙ judge-back (c .frame) j (f .width) in
-      let p : take 16 (drop sumsAt words) ≡ s .receiver .sums = ap (λ (l : List ℕ). take 16 l) sums-at ∙ take-at (s .receiver .sums) _ 16 (f .sums) in
+      let h : take 8 (drop sumsAt words) ≡ packed (s .receiver .sums) = ap (λ (l : List ℕ). take 8 l) sums-at ∙ take-at (packed (s .receiver .sums)) _ 8 (packed-length (s .receiver .sums)) in
+      let p : unpacked (take 8 (drop sumsAt words)) ≡ s .receiver .sums = ap unpacked h ∙ halves.back (s .receiver .sums) (f .halves) (f .sums) in
       let q : take 48 (drop planesAt words) ≡ s .receiver .planes = ap (λ (l : List ℕ). take 48 l) planes-at ∙ take-at (s .receiver .planes) _ 48 (f .planes) in
       let r : take 72 (drop picksAt words) ≡ s .receiver .picks = ap (λ (l : List ℕ). take 72 l) picks-at ∙ take-at (s .receiver .picks) _ 72 (f .picks) in
       λ i. courseOf (a i) (b i) (p i) (q i) (r i) (due-in i)
@@ -186,38 +191,39 @@ got ws z a e k h is =
     filled (take (e - a) (drop a ws)) z m is ∙ ap (λ (x : ℕ). take x (drop a ws)) n
 
 -- the parts of a replay, put one after the other
-pub lists-put : (l sums planes picks : List ℕ) {o₁ o₂ o₃ : List ℕ} → sumsAt ≤ length l → length sums ≡ 16 → length planes ≡ 48 → length picks ≡ 72
-    → o₁ ≡ take 30 l ++ (sums ++ drop (30 + length sums) l) → o₂ ≡ take 46 o₁ ++ (planes ++ drop (46 + length planes) o₁) → o₃ ≡ take 94 o₂ ++ (picks ++ drop (94 + length picks) o₂)
+pub lists-put : (l sums planes picks : List ℕ) {o₁ o₂ o₃ : List ℕ} → sumsAt ≤ length l → length sums ≡ 8 → length planes ≡ 48 → length picks ≡ 72
+    → o₁ ≡ take 29 l ++ (sums ++ drop (29 + length sums) l) → o₂ ≡ take 37 o₁ ++ (planes ++ drop (37 + length planes) o₁) → o₃ ≡ take 85 o₂ ++ (picks ++ drop (85 + length picks) o₂)
     → o₃ ≡ take sumsAt l ++ (sums ++ (planes ++ (picks ++ drop dueAt l)))
 lists-put l sums planes picks {o₁} {o₂} {o₃} h a b c e₁ e₂ e₃ =
-    let p : length (take 30 l) ≡ 30 = length-take-le 30 l h in
-    let q : length (take 30 l ++ sums) ≡ 46 = length-append (take 30 l) sums ∙ omega arith in
-    let r : length ((take 30 l ++ sums) ++ planes) ≡ 94 = length-append (take 30 l ++ sums) planes ∙ omega arith in
-    let f₁ : o₁ ≡ (take 30 l ++ sums) ++ drop 46 l = grown l (take 30 l) sums 30 16 p a (sym (take-append-drop 30 l)) e₁ in
-    let f₂ : o₂ ≡ ((take 30 l ++ sums) ++ planes) ++ drop 94 l = grown l (take 30 l ++ sums) planes 46 48 q b f₁ e₂ in
-    let f₃ : o₃ ≡ (((take 30 l ++ sums) ++ planes) ++ picks) ++ drop 166 l = grown l ((take 30 l ++ sums) ++ planes) picks 94 72 r c f₂ e₃ in
+    let p : length (take 29 l) ≡ 29 = length-take-le 29 l h in
+    let q : length (take 29 l ++ sums) ≡ 37 = length-append (take 29 l) sums ∙ omega arith in
+    let r : length ((take 29 l ++ sums) ++ planes) ≡ 85 = length-append (take 29 l ++ sums) planes ∙ omega arith in
+    let f₁ : o₁ ≡ (take 29 l ++ sums) ++ drop 37 l = grown l (take 29 l) sums 29 8 p a (sym (take-append-drop 29 l)) e₁ in
+    let f₂ : o₂ ≡ ((take 29 l ++ sums) ++ planes) ++ drop 85 l = grown l (take 29 l ++ sums) planes 37 48 q b f₁ e₂ in
+    let f₃ : o₃ ≡ (((take 29 l ++ sums) ++ planes) ++ picks) ++ drop 157 l = grown l ((take 29 l ++ sums) ++ planes) picks 85 72 r c f₂ e₃ in
     f₃ ∙ simp append-assoc
 
 pub all-put : (c : Course) (l : List ℕ) {ns o₁ o₂ o₃ o₄ : List ℕ} → replayLength ≤ length l → CourseFits c
     → o₁ ≡ take 0 l ++ ((replayTag ∷ []) ++ drop 1 l)
     → ns ≡ numbersOf (c .frame) (judgeOf (c .state)) → o₂ ≡ take 1 o₁ ++ (ns ++ drop (1 + length ns) o₁)
-    → o₃ ≡ take 30 o₂ ++ (c .state .receiver .sums ++ (c .state .receiver .planes ++ (c .state .receiver .picks ++ drop 166 o₂)))
-    → o₄ ≡ take 166 o₃ ++ (c .state .due ++ drop (166 + length (c .state .due)) o₃)
+    → o₃ ≡ take 29 o₂ ++ (packed (c .state .receiver .sums) ++ (c .state .receiver .planes ++ (c .state .receiver .picks ++ drop 157 o₂)))
+    → o₄ ≡ take 157 o₃ ++ (c .state .due ++ drop (157 + length (c .state .due)) o₃)
     → CourseStored c l o₄
 unfolding wordsOf
 all-put c l {ns} {o₁} {o₂} {o₃} {o₄} h f e₁ e e₂ e₃ e₄ =
     let s = c .state in
     let rx = s .receiver in
-    let n : length ns ≡ 29 = ap length e ∙ sized c [] f in
-    let g₁ : o₂ ≡ (replayTag ∷ ns) ++ drop 30 l = grown l (replayTag ∷ []) ns 1 29 refl n e₁ e₂ in
-    let m : length (replayTag ∷ ns) ≡ 30 = omega arith in
-    let lists = rx .sums ++ (rx .planes ++ rx .picks) in
-    let k : length lists ≡ 136 = length-append (rx .sums) (rx .planes ++ rx .picks) ∙ rw (length-append (rx .planes) (rx .picks), f .sums, f .planes, f .picks) (omega arith) in
-    let front : take 30 o₂ ≡ replayTag ∷ ns = ap (λ (x : List ℕ). take 30 x) g₁ ∙ take-at (replayTag ∷ ns) (drop 30 l) 30 m in
-    let behind : drop 166 o₂ ≡ drop 166 l =
-    sym (drop-drop 136 30 o₂) ∙ ap (λ (x : List ℕ). drop 136 (drop 30 x)) g₁ ∙ ap (λ (x : List ℕ). drop 136 x) (drop-at (replayTag ∷ ns) (drop 30 l) 30 m) ∙ drop-drop 136 30 l in
-    let g₂ : o₃ ≡ ((replayTag ∷ ns) ++ lists) ++ drop 166 l = e₃ ∙ (λ i. front i ++ (rx .sums ++ (rx .planes ++ (rx .picks ++ behind i)))) ∙ simp append-assoc in
-    let q : length ((replayTag ∷ ns) ++ lists) ≡ 166 = length-append (replayTag ∷ ns) lists ∙ omega arith in
-    let g₃ : o₄ ≡ (((replayTag ∷ ns) ++ lists) ++ s .due) ++ drop 231 l = grown l ((replayTag ∷ ns) ++ lists) (s .due) 166 65 q (f .due) g₂ e₄ in
-    let whole : o₄ ≡ (replayTag ∷ (ns ++ (rx .sums ++ (rx .planes ++ (rx .picks ++ s .due))))) ++ drop 231 l = g₃ ∙ simp append-assoc in
-    course-stored c l f (whole ∙ ap (λ (m : List ℕ). (replayTag ∷ (m ++ (rx .sums ++ (rx .planes ++ (rx .picks ++ s .due))))) ++ drop 231 l) e)
+    let n : length ns ≡ 28 = ap length e ∙ sized c [] f in
+    let g₁ : o₂ ≡ (replayTag ∷ ns) ++ drop 29 l = grown l (replayTag ∷ []) ns 1 28 refl n e₁ e₂ in
+    let m : length (replayTag ∷ ns) ≡ 29 = omega arith in
+    let sums = packed (rx .sums) in
+    let lists = sums ++ (rx .planes ++ rx .picks) in
+    let k : length lists ≡ 128 = length-append sums (rx .planes ++ rx .picks) ∙ rw (length-append (rx .planes) (rx .picks), packed-length (rx .sums), f .planes, f .picks) (omega arith) in
+    let front : take 29 o₂ ≡ replayTag ∷ ns = ap (λ (x : List ℕ). take 29 x) g₁ ∙ take-at (replayTag ∷ ns) (drop 29 l) 29 m in
+    let behind : drop 157 o₂ ≡ drop 157 l =
+    sym (drop-drop 128 29 o₂) ∙ ap (λ (x : List ℕ). drop 128 (drop 29 x)) g₁ ∙ ap (λ (x : List ℕ). drop 128 x) (drop-at (replayTag ∷ ns) (drop 29 l) 29 m) ∙ drop-drop 128 29 l in
+    let g₂ : o₃ ≡ ((replayTag ∷ ns) ++ lists) ++ drop 157 l = e₃ ∙ (λ i. front i ++ (sums ++ (rx .planes ++ (rx .picks ++ behind i)))) ∙ simp append-assoc in
+    let q : length ((replayTag ∷ ns) ++ lists) ≡ 157 = length-append (replayTag ∷ ns) lists ∙ omega arith in
+    let g₃ : o₄ ≡ (((replayTag ∷ ns) ++ lists) ++ s .due) ++ drop 222 l = grown l ((replayTag ∷ ns) ++ lists) (s .due) 157 65 q (f .due) g₂ e₄ in
+    let whole : o₄ ≡ (replayTag ∷ (ns ++ (sums ++ (rx .planes ++ (rx .picks ++ s .due))))) ++ drop 222 l = g₃ ∙ simp append-assoc in
+    course-stored c l f (whole ∙ ap (λ (m : List ℕ). (replayTag ∷ (m ++ (sums ++ (rx .planes ++ (rx .picks ++ s .due))))) ++ drop 222 l) e)

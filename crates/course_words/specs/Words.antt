@@ -14,11 +14,12 @@ use lib.ListN.{getD, length, take, drop}
 use Rattle.replay_step.specs.declared.Judge.{Judge}
 use Rattle.replay_step.specs.Judging.{State}
 use Rattle.replay.specs.Course.{Course, courseOf}
+use Rattle.layout.specs.Halves.{unpacked, packed, AllHalves}
 use Rattle.course_layout.specs.Table.{replayTag, replayLength, sumsAt, planesAt, picksAt, dueAt, limits, dueLimits, within}
 use Rattle.course_numbers.specs.Numbers.{frameIn, judgeIn, numbersOf}
 
 abbrev pub numbersIn : List ℕ → List ℕ
-numbersIn ws = take 29 (drop 1 ws)
+numbersIn ws = take 28 (drop 1 ws)
 
 abbrev pub dueIn : List ℕ → List ℕ
 dueIn ws = take 65 (drop dueAt ws)
@@ -29,17 +30,17 @@ holdsReplay ws =
 
 unfoldable pub courseIn : List ℕ → Course
 courseIn ws =
-    courseOf (frameIn (numbersIn ws)) (judgeIn (numbersIn ws)) (take 16 (drop sumsAt ws)) (take 48 (drop planesAt ws)) (take 72 (drop picksAt ws)) (dueIn ws)
+    courseOf (frameIn (numbersIn ws)) (judgeIn (numbersIn ws)) (unpacked (take 8 (drop sumsAt ws))) (take 48 (drop planesAt ws)) (take 72 (drop picksAt ws)) (dueIn ws)
 
 -- the judge of a state
 abbrev pub judgeOf : State → Judge
 judgeOf s = record { live = s .receiver .live; core = s .receiver .core; given = s .given; shown = s .shown; records = s .records; verdict = s .verdict }
 
--- the tag, 29 numbers, sixteen sums, 48 registers, 72 words of picks and 65 words that are due
+-- the tag, 28 numbers, sixteen sums, two to a word, 48 registers, 72 words of picks and 65 words that are due
 unfoldable pub wordsOf : Course → List ℕ
 wordsOf c =
     let s = c .state in
-    replayTag ∷ (numbersOf (c .frame) (judgeOf s) ++ (s .receiver .sums ++ (s .receiver .planes ++ (s .receiver .picks ++ s .due))))
+    replayTag ∷ (numbersOf (c .frame) (judgeOf s) ++ (packed (s .receiver .sums) ++ (s .receiver .planes ++ (s .receiver .picks ++ s .due))))
 
 -- inside: words f at the place a of l
 pub record PutAt (f : List ℕ) (a : ℕ) (l o : List ℕ) : Type 0 where
@@ -48,9 +49,10 @@ pub record PutAt (f : List ℕ) (a : ℕ) (l o : List ℕ) : Type 0 where
 
 -- inside: the receiver's lists, each of its length, in their places
 pub record ListsPut (sums planes picks l o : List ℕ) : Type 0 where
-  pub is : o ≡ take sumsAt l ++ (sums ++ (planes ++ (picks ++ drop dueAt l)))
+  pub is : o ≡ take sumsAt l ++ (packed sums ++ (planes ++ (picks ++ drop dueAt l)))
   pub same : length o ≡ length l
   pub sums-fit : length sums ≡ 16
+  pub sums-small : AllHalves sums
   pub planes-fit : length planes ≡ 48
   pub picks-fit : length picks ≡ 72
 

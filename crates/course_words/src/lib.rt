@@ -44,20 +44,20 @@ pub fn load(words: &[u64]) -> Replay
     requires { ⌜ holdsReplay (now words) ≡ true ⌝ }
     ensures { λ r. ⌜ replayOf r ≡ courseIn (now (words .entry)) ⌝ }
 {
-    let mut numbers = [0u64; 29];
-    let mut sums = [0u64; 16];
+    let mut numbers = [0u64; 28];
+    let mut halves = [0u64; 8];
     let mut planes = [0u64; 48];
     let mut picks = [0u64; 72];
     let mut due = [0u32; 65];
     get(words, course_layout::NUMBERS, &mut numbers);
-    get(words, course_layout::SUMS, &mut sums);
+    get(words, course_layout::SUMS, &mut halves);
     get(words, course_layout::PLANES, &mut planes);
     get(words, course_layout::PICKS, &mut picks);
     course_layout::narrow(&words[course_layout::DUE..course_layout::WORDS], &mut due);
     Replay {
         frame: course_numbers::frame_of(numbers),
         judge: course_numbers::judge_of(numbers),
-        sums: sums,
+        sums: layout::unpack(halves),
         planes: planes,
         picks: picks,
         due: due,
@@ -81,11 +81,12 @@ fn put_due(from: &[u32], words: &mut [u64], at: usize)
 }
 
 // The receiver's lists, one behind the other.
-fn put_lists(sums: [u64; 16], planes: [u64; 48], picks: [u64; 72], words: &mut [u64])
+fn put_lists(sums: [u32; 16], planes: [u64; 48], picks: [u64; 72], words: &mut [u64])
     requires { ⌜ dueAt ≤ length (now words) ⌝ }
     ensures { λ _. ⌜ ListsPut sums planes picks (now (words .entry)) (now (words .exit)) ⌝ }
 {
-    put(&sums, words, course_layout::SUMS);
+    let halves = layout::pack(sums);
+    put(&halves, words, course_layout::SUMS);
     put(&planes, words, course_layout::PLANES);
     put(&picks, words, course_layout::PICKS);
 }

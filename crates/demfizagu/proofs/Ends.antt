@@ -78,14 +78,12 @@ receiver-opening-reads ac w b = go (isAccord ac) (leb 1 w && leb w 64) (startFit
 
 symbol-live : (rx : Receiver) (y : Two Received) (room : ℕ) → symbolAt rx y room .receiver .live ≡ rx .live
 unfolding symbolAt taking grown
-symbol-live rx y room = go (ltb (faultOf y) 4) (eqb (rx .core .taken) 4294967295) (ltb (rx .core .window) (keptOf rx y)) (ltb room (agreedOf rx y)) refl refl refl refl where
-  go : (a b c d : Bool) → ltb (faultOf y) 4 ≡ a → eqb (rx .core .taken) 4294967295 ≡ b → ltb (rx .core .window) (keptOf rx y) ≡ c → ltb room (agreedOf rx y) ≡ d →
-      symbolAt rx y room .receiver .live ≡ rx .live
-  go true b c d e f g h = rw e
-  go false true c d e f g h = rw (e, f)
-  go false false true d e f g h = rw (e, f, g)
-  go false false false true e f g h = rw (e, f, g, h)
-  go false false false false e f g h = rw (e, f, g, h)
+symbol-live rx y room = go (ltb (faultOf y) 4) (ltb (rx .core .window) (keptOf rx y)) (ltb room (agreedOf rx y)) refl refl refl where
+  go : (a c d : Bool) → ltb (faultOf y) 4 ≡ a → ltb (rx .core .window) (keptOf rx y) ≡ c → ltb room (agreedOf rx y) ≡ d → symbolAt rx y room .receiver .live ≡ rx .live
+  go true c d e g h = rw e
+  go false true d e g h = rw (e, g)
+  go false false true e g h = rw (e, g, h)
+  go false false false e g h = rw (e, g, h)
 
 -- one symbol of a run: done or not, the run goes on or ends
 module _ (p q : Ran) where

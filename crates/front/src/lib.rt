@@ -19,25 +19,23 @@ pub fn holds_receiver(words: &[u64]) -> bool
 // What is copied of a receiver.
 pub struct Copied {
     pub core: Core,
-    pub sums: [u64; 16],
+    pub sums: [u32; 16],
     pub planes: [u64; 48],
 }
 
-// The six numbers of a receiver.
+// The five numbers of a receiver.
 fn core_in(words: &[u64]) -> Core
     requires { ⌜ holds receiverLength receiverTag (now words) ≡ true ⌝ }
     ensures { λ r. ⌜ r ≡ coreIn (now (words .entry)) ⌝ }
 {
     let accord = accords::accord_in(words[layout::ACCORD]);
     let window = words[layout::WINDOW] as usize;
-    let taken = words[layout::TAKEN] as u32;
     let turn = words[layout::TURN] as u32;
     let slot = words[layout::SLOT] as usize;
     let pending = words[layout::PENDING] as usize;
     Core {
         accord: accord,
         window: window,
-        taken: taken,
         turn: turn,
         slot: slot,
         pending: pending,
@@ -49,25 +47,24 @@ pub fn load_front(words: &[u64]) -> Copied
     requires { ⌜ holds receiverLength receiverTag (now words) ≡ true ⌝ }
     ensures { λ r. ⌜ r ≡ copiedIn (now (words .entry)) ⌝ }
 {
-    let mut sums = [0u64; 16];
+    let mut halves = [0u64; 8];
     let mut planes = [0u64; 48];
-    layout::copy(&words[layout::SUMS..layout::PLANES], &mut sums[0..]);
+    layout::copy(&words[layout::SUMS..layout::PLANES], &mut halves[0..]);
     layout::copy(&words[layout::PLANES..layout::PICKS], &mut planes[0..]);
     Copied {
         core: core_in(words),
-        sums: sums,
+        sums: layout::unpack(halves),
         planes: planes,
     }
 }
 
 fn store_core(live: bool, c: Core, words: &mut [u64])
-    requires { ⌜ 7 ≤ length (now words) ⌝ }
+    requires { ⌜ 6 ≤ length (now words) ⌝ }
     ensures { λ _. ⌜ CoreStored live c (now (words .entry)) (now (words .exit)) ⌝ }
 {
     words[layout::TAG] = layout::tag_of(live, layout::RECEIVER);
     let accord = c.accord;
     words[layout::ACCORD] = accords::accord_word(accord);
-    words[layout::TAKEN] = c.taken as u64;
     words[layout::TURN] = c.turn as u64;
     words[layout::WINDOW] = c.window as u64;
     words[layout::SLOT] = c.slot as u64;
@@ -75,11 +72,12 @@ fn store_core(live: bool, c: Core, words: &mut [u64])
 }
 
 // Puts all but its picks of a receiver into its words.
-pub fn store_front(live: bool, c: Core, sums: [u64; 16], planes: [u64; 48], words: &mut [u64])
+pub fn store_front(live: bool, c: Core, sums: [u32; 16], planes: [u64; 48], words: &mut [u64])
     requires { ⌜ picksAt ≤ length (now words) ⌝ }
     ensures { λ _. ⌜ FrontStored live c sums planes (now (words .entry)) (now (words .exit)) ⌝ }
 {
     store_core(live, c, words);
-    layout::copy(&sums[0..], &mut words[layout::SUMS..]);
+    let halves = layout::pack(sums);
+    layout::copy(&halves[0..], &mut words[layout::SUMS..]);
     layout::copy(&planes[0..], &mut words[layout::PLANES..]);
 }

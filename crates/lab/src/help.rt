@@ -54,7 +54,7 @@ fn numbers(to: i32) -> bool {
         b"N, the number given back:
 
   0 done                        6 the window is full: finish, and open again
-  1 width above 8, or no map's  7 4294967295 symbols were taken
+  1 width above 8, or no map's  7 is given no more
   2 window not 1 to 64          8 the output is shorter than needed
   3 start above 15              9 closed: open it first
   4 no word of this width      10 coordinates not in fours, or other marks

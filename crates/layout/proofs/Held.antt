@@ -20,25 +20,21 @@ module _ (size tag : ℕ) (ws : List ℕ) where
   unfolding holds
   held-other h e = rw (le-leb size (length ws) h, ne-eqb (getD ws 0 0) tag e)
 
-  pub held-by : size ≤ length ws → getD ws 0 0 ≡ tag → holds size tag ws ≡ (isHalf (getD ws 2 0) && isHalf (getD ws 3 0))
+  pub held-by : size ≤ length ws → getD ws 0 0 ≡ tag → holds size tag ws ≡ isHalf (getD ws 2 0)
   unfolding holds
   held-by h e = rw (le-leb size (length ws) h, eq-eqb (getD ws 0 0) tag e)
 
   pub record Held : Type 0 where
     pub long : size ≤ length ws
     pub two : getD ws 2 0 < 2 ^ 32
-    pub three : getD ws 3 0 < 2 ^ 32
 
   pub held : holds size tag ws ≡ true → Held
   unfolding holds
   held e =
       let t : T (holds size tag ws) = subst T (sym e) tt in
-      let c = isHalf (getD ws 3 0) in
       let b = isHalf (getD ws 2 0) in
-      let t₁ = and-right (leb size (length ws)) (eqb (getD ws 0 0) tag && (b && c)) t in
-      let t₂ = and-right (eqb (getD ws 0 0) tag) (b && c) t₁ in
+      let t₁ = and-right (leb size (length ws)) (eqb (getD ws 0 0) tag && b) t in
       record {
-        long = leb→le size (length ws) (and-left (leb size (length ws)) (eqb (getD ws 0 0) tag && (b && c)) t);
-        two = ltb→lt (getD ws 2 0) (2 ^ 32) (and-left b c t₂);
-        three = ltb→lt (getD ws 3 0) (2 ^ 32) (and-right b c t₂);
+        long = leb→le size (length ws) (and-left (leb size (length ws)) (eqb (getD ws 0 0) tag && b) t);
+        two = ltb→lt (getD ws 2 0) (2 ^ 32) (and-right (eqb (getD ws 0 0) tag) b t₁);
       }

@@ -1,7 +1,7 @@
 -- Where the parts of an end stand in its words: the table of src/layout.rt.
 --   senderTag, receiverTag, closedTag    word 0: what the state is
 --   senderLength, receiverLength         how many words an end has
---   sumsAt, planesAt, picksAt            where a receiver's lists begin, after the tag and its six numbers
+--   sumsAt, planesAt, picksAt            where a receiver's lists begin, after the tag and its five numbers
 use Prim.Native.Nat.{ℕ}
 
 -- the letters "demf", "tx" or "rx", and the number of the layout
@@ -9,7 +9,7 @@ abbrev pub senderTag : ℕ
 senderTag = 0x64656d6674780002
 
 abbrev pub receiverTag : ℕ
-receiverTag = 0x64656d6672780004
+receiverTag = 0x64656d6672780005
 
 abbrev pub closedTag : ℕ
 closedTag = 0
@@ -18,13 +18,13 @@ abbrev pub senderLength : ℕ
 senderLength = 4
 
 abbrev pub sumsAt : ℕ
-sumsAt = 7
+sumsAt = 6
 
 abbrev pub planesAt : ℕ
-planesAt = 23
+planesAt = 14
 
 abbrev pub picksAt : ℕ
-picksAt = 71
+picksAt = 62
 
 abbrev pub receiverLength : ℕ
-receiverLength = 143
+receiverLength = 134

@@ -1,2 +1,3 @@
 pub mod Layout
 pub mod Tagged
+pub mod Halves

@@ -7,12 +7,13 @@
 --   Room            a sum and the cost of any step are a sum
 --   acs-is          add, compare and select from the sums
 --   row-next        the new sums; off-new, they are off by as much as the old ones were
+--   off-lowered     less the least they are off by so much more
 --   from-is         the states before
 --   end-is          the end
 use mathlib.Core.Path.{_≡_, refl, sym, ap, _∙_}
 use mathlib.Core.Bool.{Bool, true, false, cond}
 use mathlib.Core.List.{List, [], _∷_, _++_}
-use Prim.Native.Nat.{ℕ, zero, suc, _+_, _<_}
+use Prim.Native.Nat.{ℕ, zero, suc, _+_, _-_, _<_}
 use native.Mathlib.Omega.{arith}
 use lib.Dec.{ltb}
 use lib.ListN.{getD}
@@ -24,15 +25,16 @@ use Rattle.trellis.specs.Cells.{acs, end-state, Off}
 use Rattle.trellis.specs.Measure.{Start, Two}
 use Rattle.trellis.specs.Pick.{keepN, least, befores}
 use Rattle.trellis.proofs.Select.{choose-ext}
-use Rattle.trellis.proofs.Off.{off-next}
+use Rattle.trellis.proofs.Off.{off-next, off-less}
 use Rattle.trellis.proofs.Least.{least-is}
 use Rattle.trellis.proofs.Branches.{befores-below}
 use Rattle.wei.specs.State.{before, between}
 use Rattle.nearest.specs.declared.Received.{Received}
 use Rattle.nearest.specs.Line.{lineMeasure}
 use Rattle.nearest.specs.Found.{weighedOf}
-use Rattle.select.specs.Select.{limit, sixteen, arrive, winner, sumAt, fromAt, rowOf}
-use Rattle.sums.specs.Sums.{endOf}
+use Rattle.select.specs.Select.{limit, sixteen, arrive, winner, sumAt, fromAt, lowered, rowOf}
+use Rattle.sums.specs.Sums.{endOf, lowest}
+use Rattle.sums.proofs.Least.{lowest-le}
 use Rattle.select.proofs.Lists.{sixteen-at}
 use Rattle.machine.proofs.Trellis.{searchOf, pickOf, laws, cost-at}
 use Rattle.points.specs.declared.Accord.{Accord}
@@ -154,6 +156,26 @@ module _ (ac : Accord) (b : Start) (y : Two Received) (sums : List ℕ) (room : 
 
   pub off-new : (ys : List (Two Received)) (m : ℕ) → Off (searchOf ac b) ys m (rowOf sums) → Off (searchOf ac b) (y ∷ ys) m (rowOf (sixteen (sumAt sums (weighedOf ac y .costs))))
   off-new ys m off s h = off-next (searchOf ac b) (laws ac b) ys m (rowOf sums) off y s h ∙ ap (raise m) (sym (row-next s h))
+
+-- ── less the least ──
+row-lowered : (sums : List ℕ) (s : ℕ) → s < 16 → rowOf sums s ≡ raise (lowest sums) (rowOf (sixteen (lowered sums)) s)
+unfolding lowered
+row-lowered sums s h =
+    go (ltb (getD sums s 0) limit) refl ∙ ap (λ (v : ℕ). raise (lowest sums) (sealed v tt)) (sym (sixteen-at (lowered sums) s h))
+  where
+    v : ℕ
+    v = getD sums s 0
+
+    go : (c : Bool) → ltb v limit ≡ c → cond c (alive v tt) absent ≡ raise {P = Unit {0}} (lowest sums) (sealed (cond c (v - lowest sums) limit) tt)
+    go true e =
+        let l : v - lowest sums < limit = omega (arith, ltb-true v limit e) in
+        let d : v ≡ v - lowest sums + lowest sums = omega (arith, lowest-le sums s h) in
+        sym (rw (lt-ltb (v - lowest sums) limit l) (ap (λ (n : ℕ). alive n tt) (sym d)))
+    go false e = refl
+
+pub off-lowered : (ac : Accord) (b : Start) (ys : List (Two Received)) (m : ℕ) (sums : List ℕ) → Off (searchOf ac b) ys m (rowOf sums) →
+    Off (searchOf ac b) ys (m + lowest sums) (rowOf (sixteen (lowered sums)))
+off-lowered ac b ys m sums off = off-less (searchOf ac b) (laws ac b) ys m (rowOf sums) off (lowest sums) (rowOf (sixteen (lowered sums))) (row-lowered sums)
 
 -- ── the end ──
 pub end-is : (ac : Accord) (b : Start) (sums : List ℕ) (s : ℕ) → s < 16 → getD sums s 0 < limit → endOf sums ≡ end-state (searchOf ac b) (rowOf sums)

@@ -1,8 +1,8 @@
--- One symbol, from what the code's functions give to the machine's outcome: the look ahead, the three refusals and the taking.
+-- One symbol, from what the code's functions give to the machine's outcome: the look ahead, the two refusals and the taking.
 --   agreed-few           no more is agreed than is pending
 --   summable             sums and costs add up
 --   looked               what the look ahead puts together
---   many, full, short    the refusals 7, 6 and 8
+--   full, short          the refusals 6 and 8
 --   taken                the symbol is taken
 use mathlib.Core.Path.{_≡_, refl, sym, ap, ap₂, _∙_}
 use mathlib.Core.List.{List, [], _++_}
@@ -10,7 +10,7 @@ use Prim.Native.Nat.{ℕ, _+_, _-_, _/_, _%_, _≤_, _<_}
 use native.Mathlib.Omega.{arith}
 use lib.ListN.{length, getD, take, drop}
 use lib.Seq.{length-take-le}
-use borrow.Author.Tests.{eq-eqb, ne-eqb, lt-ltb, le-ltb}
+use borrow.Author.Tests.{lt-ltb, le-ltb}
 use Rattle.trellis.specs.Measure.{Two}
 use Rattle.trellis.specs.Speak.{after}
 use Rattle.trellis.specs.Words.{word, wordsFrom, turnAfter}
@@ -27,10 +27,10 @@ use Rattle.machine.specs.declared.Receiver.{Receiver}
 use Rattle.machine.specs.declared.Outlook.{Outlook}
 use Rattle.machine.specs.declared.Took.{Took}
 use Rattle.reasons.specs.declared.Why.{Why}
-use Rattle.reasons.specs.declared.Why.the-variants.{Done, TooMany, Full, NoRoom}
+use Rattle.reasons.specs.declared.Why.the-variants.{Done, Full, NoRoom}
 use Rattle.planes.specs.Planes.{wordsBefore, movedOf, sameAt, oldest}
 use Rattle.planes.proofs.Oldest.{oldest-le}
-use Rattle.select.specs.Select.{sixteen, sumAt, stepAt, prevIn}
+use Rattle.select.specs.Select.{sixteen, sumAt, lowered, stepAt, prevIn}
 use Rattle.picks.specs.Picks.{numbersOf, keptIn}
 use Rattle.machine.specs.Machine.{nextSums, nextSteps, numbersIn, wayFrom, agreedOf, releasedOf, grown, refused, taking}
 use Rattle.machine.specs.Taken.{Ready, whole, outlookOf, TookIs}
@@ -43,17 +43,17 @@ unfolding agreedOf
 agreed-few rx y = oldest-le (sameAt (rx .planes) (nextSteps rx y)) (rx .core .pending)
 
 -- ---- the look ahead
-pub summable : (core : Core) (sums : List ℕ) (g h : Received) (w : Weighed) → Ready core sums → core .taken < 4294967295 → InRange g → InRange h →
+pub summable : (core : Core) (sums : List ℕ) (g h : Received) (w : Weighed) → Ready core sums → InRange g → InRange h →
     w ≡ weighedOf (core .accord) (heardAs g h) → Summable sums (w .costs)
-summable core sums g h w r few a b e =
+summable core sums g h w r a b e =
     record {
-      sums-below = λ i. omega (arith, r .sums-fit i);
-      costs-below = rw e (λ i. omega (arith, costs-most (core .accord) (heardAs g h) i));
+      sums-most = r .sums-fit;
+      costs-most = rw e (costs-most (core .accord) (heardAs g h));
     }
 
 pub looked : (core : Core) (sums planes : List ℕ) (y : Two Received) (w : Weighed) (next : Selected) (ways : List ℕ) (n numbers : ℕ)
     → w ≡ weighedOf (core .accord) y
-    → next ≡ record { sums = sixteen (sumAt sums (w .costs)); steps = sixteen (stepAt sums (w .costs)) }
+    → next ≡ record { sums = sixteen (lowered (sixteen (sumAt sums (w .costs)))); steps = sixteen (stepAt sums (w .costs)) }
     → ways ≡ wordsBefore planes (next .steps) 0
     → n ≡ oldest (sameAt planes (next .steps)) (core .pending)
     → numbers ≡ numbersOf (w .w1) (w .w2)
@@ -79,10 +79,6 @@ module _ (core : Core) (sums planes picks : List ℕ) (y : Two Received) (out : 
   as-before : (w : Why) (r : Took) → r ≡ record { core = core; written = 0; why = w } → taking rx y (length out) ≡ refused rx w → TookIs (taking rx y (length out)) r sums planes picks out out
   as-before w r f e = rw (e, f) (record { receiver = refl; why = refl; written = refl; out = refl })
 
-  pub many : (r : Took) → r ≡ record { core = core; written = 0; why = TooMany } → core .taken ≡ 4294967295 → TookIs (taking rx y (length out)) r sums planes picks out out
-  unfolding taking
-  many r f h = as-before TooMany r f (rw (eq-eqb _ _ h))
-
   module _ (o : Outlook) (is : o ≡ outlookOf (whole core sums planes []) y) where
     agreed-same : o .agreed ≡ agreedOf rx y
     unfolding agreedOf
@@ -97,37 +93,36 @@ module _ (core : Core) (sums planes picks : List ℕ) (y : Two Received) (out : 
     pub state-below : o .state < 16
     state-below = rw is (omega arith)
 
-    module _ (fresh : core .taken ≡ 4294967295 → ⊥) where
-      pub full : (r : Took) → r ≡ record { core = core; written = 0; why = Full } → core .window < core .pending + 1 - o .agreed → TookIs (taking rx y (length out)) r sums planes picks out out
+    pub full : (r : Took) → r ≡ record { core = core; written = 0; why = Full } → core .window < core .pending + 1 - o .agreed → TookIs (taking rx y (length out)) r sums planes picks out out
+    unfolding taking
+    full r f h = as-before Full r f (rw (← agreed-same, lt-ltb _ _ h))
+
+    module _ (fits : core .pending + 1 - o .agreed ≤ core .window) where
+      pub short : (r : Took) → r ≡ record { core = core; written = 0; why = NoRoom } → length out < o .agreed → TookIs (taking rx y (length out)) r sums planes picks out out
       unfolding taking
-      full r f h = as-before Full r f (rw (ne-eqb _ _ fresh, ← agreed-same, lt-ltb _ _ h))
+      short r f h = as-before NoRoom r f (rw (← agreed-same, le-ltb _ _ fits, lt-ltb _ _ h))
 
-      module _ (fits : core .pending + 1 - o .agreed ≤ core .window) where
-        pub short : (r : Took) → r ≡ record { core = core; written = 0; why = NoRoom } → length out < o .agreed → TookIs (taking rx y (length out)) r sums planes picks out out
-        unfolding taking
-        short r f h = as-before NoRoom r f (rw (ne-eqb _ _ fresh, ← agreed-same, le-ltb _ _ fits, lt-ltb _ _ h))
+      abbrev released : List Symbol
+      released = take (o .agreed) (wayFrom core planes picks (o .state))
 
-        abbrev released : List Symbol
-        released = take (o .agreed) (wayFrom core planes picks (o .state))
+      released-is : released ≡ releasedOf rx y
+      unfolding releasedOf
+      released-is = ap₂ (λ (n s : ℕ). take n (wayFrom core planes picks s)) agreed-same (ap (λ (x : Outlook). x .state) is)
 
-        released-is : released ≡ releasedOf rx y
-        unfolding releasedOf
-        released-is = ap₂ (λ (n s : ℕ). take n (wayFrom core planes picks s)) agreed-same (ap (λ (x : Outlook). x .state) is)
+      words-length : length (wordsFrom (core .accord .u) (core .turn) released) ≡ o .agreed
+      words-length =
+          speak-length turnAfter (word (core .accord .u)) (core .turn) released
+          ∙ length-take-le (o .agreed) (wayFrom core planes picks (o .state)) (rw (way-length core planes picks (o .state)) few)
 
-        words-length : length (wordsFrom (core .accord .u) (core .turn) released) ≡ o .agreed
-        words-length =
-            speak-length turnAfter (word (core .accord .u)) (core .turn) released
-            ∙ length-take-le (o .agreed) (wayFrom core planes picks (o .state)) (rw (way-length core planes picks (o .state)) few)
-
-        pub done : (core′ : Core) (sums′ planes′ picks′ out′ : List ℕ) (turn : ℕ) → o .agreed ≤ length out
-            → turn ≡ after turnAfter (core .turn) released
-            → out′ ≡ wordsFrom (core .accord .u) (core .turn) released ++ drop (o .agreed) out
-            → sums′ ≡ o .sums
-            → planes′ ≡ movedOf (core .pending + 1) planes (o .steps)
-            → picks′ ≡ keptIn picks (core .slot) (o .i3) (o .numbers)
-            → core′ ≡ record { accord = core .accord; window = core .window; taken = core .taken + 1; turn = turn; slot = (core .slot + 1) % 64; pending = core .pending + 1 - o .agreed }
-            → TookIs (taking rx y (length out)) (record { core = core′; written = o .agreed; why = Done }) sums′ planes′ picks′ out out′
-        unfolding taking grown
-        done core′ sums′ planes′ picks′ out′ turn room et eo ea eb ec ed =
-            rw (ne-eqb _ _ fresh, ← agreed-same, le-ltb _ _ fits, le-ltb _ _ room, ← released-is)
-            (record { receiver = rw (ed, et, ea, eb, ec, is); why = refl; written = sym words-length; out = rw words-length eo })
+      pub done : (core′ : Core) (sums′ planes′ picks′ out′ : List ℕ) (turn : ℕ) → o .agreed ≤ length out
+          → turn ≡ after turnAfter (core .turn) released
+          → out′ ≡ wordsFrom (core .accord .u) (core .turn) released ++ drop (o .agreed) out
+          → sums′ ≡ o .sums
+          → planes′ ≡ movedOf (core .pending + 1) planes (o .steps)
+          → picks′ ≡ keptIn picks (core .slot) (o .i3) (o .numbers)
+          → core′ ≡ record { accord = core .accord; window = core .window; turn = turn; slot = (core .slot + 1) % 64; pending = core .pending + 1 - o .agreed }
+          → TookIs (taking rx y (length out)) (record { core = core′; written = o .agreed; why = Done }) sums′ planes′ picks′ out out′
+      unfolding taking grown
+      done core′ sums′ planes′ picks′ out′ turn room et eo ea eb ec ed =
+          rw (← agreed-same, le-ltb _ _ fits, le-ltb _ _ room, ← released-is)
+          (record { receiver = rw (ed, et, ea, eb, ec, is); why = refl; written = sym words-length; out = rw words-length eo })

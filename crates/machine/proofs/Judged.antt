@@ -1,15 +1,14 @@
--- What the machine says to a symbol is what the meaning judges: 7, 6, 8 or 0, and with it the words and the receiver.
+-- What the machine says to a symbol is what the meaning judges: 6, 8 or 0, and with it the words and the receiver.
 --   Judged t y r o       the outcome o for the symbol y is what the reason r says
 --   judged               the machine's outcome is what the judge says
-use mathlib.Core.Path.{_≡_, refl, sym, subst, _∙_}
+use mathlib.Core.Path.{_≡_, refl, sym, subst}
 use mathlib.Core.Bool.{Bool, true, false, cond}
 use mathlib.Core.List.{List, [], _∷_}
-use Prim.Native.Nat.{ℕ, _<_}
+use Prim.Native.Nat.{ℕ}
 use native.Mathlib.Omega.{arith}
-use native.Mathlib.Decide.{decLt}
-use lib.Dec.{eqb, leb, ltb}
+use lib.Dec.{eqb, ltb}
 use lib.ListN.{length}
-use borrow.Author.Tests.{le-leb, lt-leb, ne-eqb, eq-eqb, ltb-false}
+use borrow.Author.Tests.{ltb-false}
 use Rattle.calls.specs.Calls.{fresh}
 use Rattle.trellis.specs.Measure.{Two}
 use Rattle.trellis.specs.Words.{wordsFrom}
@@ -17,7 +16,7 @@ use Rattle.nearest.specs.declared.Received.{Received}
 use Rattle.nearest.specs.Line.{BothInRange}
 use Rattle.machine.specs.declared.Receiver.{Receiver}
 use Rattle.reasons.specs.declared.Why.{Why}
-use Rattle.reasons.specs.declared.Why.the-variants.{Done, Full, TooMany, NoRoom}
+use Rattle.reasons.specs.declared.Why.the-variants.{Done, Full, NoRoom}
 use Rattle.machine.specs.Machine.{Outcome, refused, taking, agreedOf, keptOf, releasedOf, grown, machineOf}
 use Rattle.told.specs.Told.{Told, withHeard, speakerOf, pendingAfter, judgeSymbol, Fine}
 use Rattle.reasons.specs.Reason.{Reason, reason, givenOf}
@@ -26,15 +25,11 @@ use Rattle.machine.proofs.Owes.{owes, owes-step}
 use Rattle.machine.proofs.Telling.{telling-machine}
 use Rattle.told.proofs.Telling.{telling-fine, no-fault}
 
-taking-many : (rx : Receiver) (y : Two Received) (room : ℕ) → eqb (rx .core .taken) 4294967295 ≡ true → taking rx y room ≡ refused rx TooMany
-unfolding taking
-taking-many rx y room e = cc
-
-taking-with : (rx : Receiver) (y : Two Received) (room w k n : ℕ) (ws : List ℕ) → eqb (rx .core .taken) 4294967295 ≡ false → rx .core .window ≡ w → keptOf rx y ≡ k → agreedOf rx y ≡ n →
+taking-with : (rx : Receiver) (y : Two Received) (room w k n : ℕ) (ws : List ℕ) → rx .core .window ≡ w → keptOf rx y ≡ k → agreedOf rx y ≡ n →
     wordsFrom (rx .core .accord .u) (rx .core .turn) (releasedOf rx y) ≡ ws →
     taking rx y room ≡ cond (ltb w k) (refused rx Full) (cond (ltb room n) (refused rx NoRoom) (record { receiver = grown rx y; words = ws; why = Done }))
 unfolding taking
-taking-with rx y room w k n ws e₀ e₁ e₂ e₃ e₄ = cc
+taking-with rx y room w k n ws e₁ e₂ e₃ e₄ = cc
 
 -- refused: no word, and the receiver as it was; taken: the words that y adds, and the receiver that was told y too, which is fine
 pub record Judged (t : Told) (y : Two Received) (r : Reason) (o : Outcome) : Type 0 where
@@ -59,24 +54,18 @@ module _ (t : Told) (f : Fine t) (y : Two Received) (r : BothInRange y) (room : 
   never e = let z : _≡_ {A = ℕ} 0 1 = cc in omega arith
 
   in-range : judgeSymbol t ys y room
-      ≡ cond (leb 4294967295 (length ys)) (reason 7) (cond (ltb (t .window) (pendingAfter t (y ∷ ys))) (reason 6) (cond (ltb room (length (fresh (speakerOf t) ys y))) (reason 8) (reason 0)))
+      ≡ cond (ltb (t .window) (pendingAfter t (y ∷ ys))) (reason 6) (cond (ltb room (length (fresh (speakerOf t) ys y))) (reason 8) (reason 0))
   unfolding judgeSymbol
   in-range = rw (no-fault y r)
 
   same : {a b : Reason} {o p : Outcome} → a ≡ b → o ≡ p → Right b p → Right a o
   same {a} {b} {o} {p} e z j = subst (λ (x : Reason). Right x o) (sym e) (subst (Right b) (sym z) j)
 
-  many : length ys ≡ 4294967295 → Right (judgeSymbol t ys y room) (taking rx y room)
-  many e =
-      same (in-range ∙ rw (le-leb 4294967295 (length ys) (omega arith))) (taking-many rx y room (eq-eqb (rx .core .taken) 4294967295 (owes t f .keeps .taken ∙ e)))
-      (refused-right TooMany never)
-
-  more : length ys < 4294967295 → Right (judgeSymbol t ys y room) (taking rx y room)
-  more few =
-      let S : Stepped (t .accord) (t .start) (t .heard) y (machineOf t) = owes-step t f y r few in
-      same (in-range ∙ rw (lt-leb 4294967295 (length ys) few))
+  pub judged : Judged t y (judgeSymbol t (t .heard) y room) (taking (machineOf t) y room)
+  judged =
+      let S : Stepped (t .accord) (t .start) (t .heard) y (machineOf t) = owes-step t f y in
+      same in-range
       (taking-with rx y room (t .window) (pendingAfter t (y ∷ ys)) (length (fresh (speakerOf t) ys y)) (fresh (speakerOf t) ys y)
-      (ne-eqb (rx .core .taken) 4294967295 (λ e. omega (arith, owes t f .keeps .taken)))
       (owes t f .window) (S .kept) (S .agreed) (S .words))
       (go (ltb (t .window) (pendingAfter t (y ∷ ys))) (ltb room (length (fresh (speakerOf t) ys y))) refl)
     where
@@ -89,12 +78,5 @@ module _ (t : Told) (f : Fine t) (y : Two Received) (r : BothInRange y) (room : 
           record {
             why = refl;
             when-refused = λ z. absurd (never (sym z));
-            when-taken = λ z. (refl, sym (telling-machine t y), telling-fine t f y r few (ltb-false (t .window) (pendingAfter t (y ∷ ys)) e));
+            when-taken = λ z. (refl, sym (telling-machine t y), telling-fine t f y r (ltb-false (t .window) (pendingAfter t (y ∷ ys)) e));
           }
-
-  pub judged : Judged t y (judgeSymbol t (t .heard) y room) (taking (machineOf t) y room)
-  judged = go (decLt (length ys) 4294967295)
-    where
-      go : Dec (length ys < 4294967295) → Right (judgeSymbol t ys y room) (taking rx y room)
-      go (yes few) = more few
-      go (no n) = many (omega (arith, n, f .few))

@@ -8,13 +8,14 @@ use mathlib.Core.List.{List, [], _∷_}
 use Prim.Native.Nat.{ℕ, _≤_, _<_}
 use native.Mathlib.Omega.{arith}
 use lib.Dec.{eqb}
+use borrow.Author.Tests.{eq-eqb}
 use lib.ListN.{length, getD, replicate, length-replicate}
 use Rattle.trellis.specs.Choose.{bare, raise}
 use Rattle.trellis.specs.Search.{first, range, surv}
 use Rattle.trellis.specs.Common.{common, reach}
 use Rattle.trellis.specs.Cells.{Off}
 use Rattle.trellis.specs.Invariant.{Holds}
-use Rattle.trellis.specs.Measure.{Start, free, named, Two}
+use Rattle.trellis.specs.Measure.{Start, free, named, GoodStart, Two}
 use Rattle.trellis.specs.Speak.{after, carried}
 use Rattle.trellis.specs.Words.{turnAfter, firstTurn}
 use Rattle.trellis.proofs.Common.{reach-le}
@@ -23,16 +24,16 @@ use Rattle.wei.specs.Symbol.{Symbol}
 use Rattle.nearest.specs.declared.Received.{Received}
 use Rattle.machine.specs.declared.Receiver.{Receiver}
 use Rattle.select.specs.Select.{limit, rowOf}
-use Rattle.machine.specs.Machine.{core, freshSums, opened, wayFrom, topSum}
+use Rattle.machine.specs.Machine.{core, freshSums, opened, wayFrom}
 use Rattle.select.proofs.Lists.{sixteen-at, sixteen-most}
 use Rattle.machine.proofs.Trellis.{searchOf, laws}
 use Rattle.machine.proofs.Arrivals.{sealed}
+use Rattle.machine.proofs.Bounds.{Lowest}
 use Rattle.points.specs.declared.Accord.{Accord}
 
 pub record Keeps (ac : Accord) (b : Start) (ys : List (Two Received)) (rx : Receiver) : Type 0 where
   pub is-live : rx .live ≡ true
   pub accord : rx .core .accord ≡ ac
-  pub taken : rx .core .taken ≡ length ys
   -- the turn after what is released
   pub turn : rx .core .turn ≡ carried (searchOf ac b) turnAfter (firstTurn b) ys
   -- the sums and the pending symbols on the way into each state are the theory's
@@ -42,8 +43,9 @@ pub record Keeps (ac : Accord) (b : Start) (ys : List (Two Received)) (rx : Rece
   pub sums-long : length (rx .sums) ≡ 16
   pub planes-long : length (rx .planes) ≡ 48
   pub picks-long : length (rx .picks) ≡ 72
-  -- also where nothing reaches
-  pub top : (s : ℕ) → getD (rx .sums) s 0 ≤ topSum (length ys)
+  -- some state keeps 0, and none more than one that nothing reaches
+  pub low : Lowest (rx .sums)
+  pub top : (s : ℕ) → getD (rx .sums) s 0 ≤ limit
 
 -- ── a fresh receiver ──
 module _ (ac : Accord) where
@@ -64,12 +66,17 @@ module _ (ac : Accord) where
       none [] h = refl
       none (c ∷ l) h = absurd (omega arith)
 
-  top-start : (b : Start) (s : ℕ) → getD (freshSums b) s 0 ≤ topSum 0
+  low-start : (b : Start) → GoodStart b → Lowest (freshSums b)
   unfolding freshSums
-  top-start free = sixteen-most (λ s. 0) (topSum 0) (λ s. omega arith)
-  top-start (named n) = sixteen-most (λ s. cond (eqb s n) 0 limit) (topSum 0) (λ s. go (eqb s n))
+  low-start free g = record { state = 0; below = omega arith; is-least = refl }
+  low-start (named n) g = record { state = n; below = g; is-least = sixteen-at (λ s. cond (eqb s n) 0 limit) n g ∙ rw (eq-eqb n n refl) }
+
+  top-start : (b : Start) (s : ℕ) → getD (freshSums b) s 0 ≤ limit
+  unfolding freshSums
+  top-start free = sixteen-most (λ s. 0) limit (λ s. omega arith)
+  top-start (named n) = sixteen-most (λ s. cond (eqb s n) 0 limit) limit (λ s. go (eqb s n))
     where
-      go : (c : Bool) → cond c 0 limit ≤ topSum 0
+      go : (c : Bool) → cond c 0 limit ≤ limit
       go true = omega arith
       go false = omega arith
 
@@ -78,13 +85,12 @@ module _ (ac : Accord) where
   sums-start free = refl
   sums-start (named n) = refl
 
-  pub keeps-start : (window : ℕ) (b : Start) → Keeps ac b [] (opened ac window b)
+  pub keeps-start : (window : ℕ) (b : Start) → GoodStart b → Keeps ac b [] (opened ac window b)
   unfolding opened wayFrom range
-  keeps-start window b =
+  keeps-start window b g =
       record {
         is-live = refl;
         accord = refl;
-        taken = refl;
         turn = turn-start b;
         holds = holds-start (searchOf ac b) (laws ac b) 0 (rowOf (freshSums b)) (off-start b) (wayFrom (core ac window (firstTurn b)) (replicate 48 0) (replicate 72 0)) (λ s. refl);
         slot-below = omega arith;
@@ -92,5 +98,6 @@ module _ (ac : Accord) where
         sums-long = sums-start b;
         planes-long = length-replicate {A = ℕ} 48 0;
         picks-long = length-replicate {A = ℕ} 72 0;
+        low = low-start b g;
         top = top-start b;
       }

@@ -15,5 +15,6 @@ pub mod Owes
 pub mod Finish
 pub mod Telling
 pub mod Judged
+pub mod Kept
 -- for the doors
 pub mod Owed

@@ -13,7 +13,7 @@
 use mathlib.Core.Path.{_≡_, refl, sym, ap, _∙_}
 use mathlib.Core.Bool.{true}
 use mathlib.Core.List.{_∷_}
-use Prim.Native.Nat.{ℕ, _+_, _≤_, _<_}
+use Prim.Native.Nat.{ℕ, _+_, _≤_}
 use native.Mathlib.Omega.{arith}
 use lib.ListN.{length}
 use Rattle.calls.specs.Calls.{fresh, rest}
@@ -49,19 +49,19 @@ module _ (t : Told) (f : Fine t) where
   pending-fits = owes t f .fits
 
   -- ── one more symbol ──
-  module _ (y : Two Received) (r : BothInRange y) (few : length (t .heard) < 4294967295) where
+  module _ (y : Two Received) where
     pub kept-told : keptOf (machineOf t) y ≡ pendingAfter t (y ∷ t .heard)
-    kept-told = owes-step t f y r few .kept
+    kept-told = owes-step t f y .kept
 
     pub agreed-told : agreedOf (machineOf t) y ≡ length (fresh (speakerOf t) (t .heard) y)
-    agreed-told = owes-step t f y r few .agreed
+    agreed-told = owes-step t f y .agreed
 
     -- as many as were pending and the new one are released or stay pending
     pub fresh-kept : length (fresh (speakerOf t) (t .heard) y) + pendingAfter t (y ∷ t .heard) ≡ pendingAfter t (t .heard) + 1
-    fresh-kept = omega (arith, agreed-told, kept-told, pending-told, owes-step t f y r few .few)
+    fresh-kept = omega (arith, agreed-told, kept-told, pending-told, owes-step t f y .few)
 
     pub fresh-few : length (fresh (speakerOf t) (t .heard) y) ≤ machineOf t .core .pending
-    fresh-few = omega (arith, agreed-told, owes-step t f y r few .few)
+    fresh-few = omega (arith, agreed-told, owes-step t f y .few)
 
     pub fresh-most : length (fresh (speakerOf t) (t .heard) y) ≤ 64
     fresh-most = omega (arith, fresh-few, pending-fits, f .small-window)

@@ -7,14 +7,11 @@
 use mathlib.Core.Path.{_≡_, refl, ap, _∙_}
 use mathlib.Core.Bool.{true}
 use mathlib.Core.List.{List, [], _∷_}
-use Prim.Native.Nat.{_≤_, _<_}
+use Prim.Native.Nat.{_≤_}
 use native.Mathlib.Omega.{arith}
-use lib.ListN.{length}
 use Rattle.points.specs.Agreed.{isAccord}
-use Rattle.trellis.specs.Lists.{Every}
 use Rattle.trellis.specs.Measure.{GoodStart, Two}
 use Rattle.nearest.specs.declared.Received.{Received}
-use Rattle.nearest.specs.Line.{BothInRange}
 use Rattle.machine.specs.declared.Receiver.{Receiver}
 use Rattle.machine.specs.Machine.{opened, grown, keptOf, sound, machineAfter, machineOf}
 use Rattle.told.specs.Told.{Told, FineList, Fine}
@@ -29,28 +26,24 @@ pub record Owes (t : Told) (ys : List (Two Received)) (rx : Receiver) : Type 0 w
   pub fits : rx .core .pending ≤ t .window
 
 module _ (t : Told) where
-  all-in-range : (ys : List (Two Received)) → FineList t ys → Every BothInRange ys
-  all-in-range [] f = tt
-  all-in-range (y ∷ ys) f = (f .0, all-in-range ys (f .2))
-
   module _ (agreed : isAccord (t .accord) ≡ true) (small : t .window ≤ 64) (g : GoodStart (t .start)) where
-    next : (ys : List (Two Received)) (y : Two Received) (rx : Receiver) → length (y ∷ ys) ≤ 4294967295 → FineList t (y ∷ ys) → Owes t ys rx → Owes t (y ∷ ys) (grown rx y)
+    next : (ys : List (Two Received)) (y : Two Received) (rx : Receiver) → FineList t (y ∷ ys) → Owes t ys rx → Owes t (y ∷ ys) (grown rx y)
     unfolding grown
-    next ys y rx few f o =
-        let s : Stepped (t .accord) (t .start) ys y rx = stepped (t .accord) (t .start) ys y rx agreed g (all-in-range ys (f .2)) (f .0) few (o .keeps) in
+    next ys y rx f o =
+        let s : Stepped (t .accord) (t .start) ys y rx = stepped (t .accord) (t .start) ys y rx agreed g (o .keeps) in
         let h : keptOf rx y ≤ t .window = omega (arith, f .1, s .kept) in
         record { keeps = s .next (omega arith); window = o .window; fits = h }
 
-    pub owes-after : (ys : List (Two Received)) → length ys ≤ 4294967295 → FineList t ys → Owes t ys (machineAfter t ys)
+    pub owes-after : (ys : List (Two Received)) → FineList t ys → Owes t ys (machineAfter t ys)
     unfolding machineAfter opened
-    owes-after [] few f = record { keeps = keeps-start (t .accord) (t .window) (t .start); window = refl; fits = omega arith }
-    owes-after (y ∷ ys) few f = next ys y (machineAfter t ys) few f (owes-after ys (omega arith) (f .2))
+    owes-after [] f = record { keeps = keeps-start (t .accord) (t .window) (t .start) g; window = refl; fits = omega arith }
+    owes-after (y ∷ ys) f = next ys y (machineAfter t ys) f (owes-after ys (f .2))
 
 pub owes : (t : Told) → Fine t → Owes t (t .heard) (machineOf t)
-owes t f = owes-after t (f .agreed) (f .small-window) (f .good-start) (t .heard) (f .few) (f .each)
+owes t f = owes-after t (f .agreed) (f .small-window) (f .good-start) (t .heard) (f .each)
 
-pub owes-step : (t : Told) → Fine t → (y : Two Received) → BothInRange y → length (t .heard) < 4294967295 → Stepped (t .accord) (t .start) (t .heard) y (machineOf t)
-owes-step t f y r few = stepped (t .accord) (t .start) (t .heard) y (machineOf t) (f .agreed) (f .good-start) (all-in-range t (t .heard) (f .each)) r few (owes t f .keeps)
+pub owes-step : (t : Told) → Fine t → (y : Two Received) → Stepped (t .accord) (t .start) (t .heard) y (machineOf t)
+owes-step t f y = stepped (t .accord) (t .start) (t .heard) y (machineOf t) (f .agreed) (f .good-start) (owes t f .keeps)
 
 -- so the record is one that the functions can work on
 pub owes-sound : (t : Told) (f : Fine t) → sound (machineOf t) ≡ true
@@ -66,4 +59,4 @@ owes-sound t f =
       slot-below = k .slot-below;
       held = omega (arith, o .window, o .fits);
     })
-    (λ i. omega (arith, k .top i, k .taken))
+    (k .top)

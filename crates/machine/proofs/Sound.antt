@@ -18,14 +18,14 @@ use Rattle.trellis.specs.Speak.{after}
 use Rattle.trellis.specs.Words.{turnAfter}
 use Rattle.wei.specs.Symbol.{Symbol, firstLabel}
 use Rattle.nearest.specs.declared.Received.{Received}
-use Rattle.nearest.specs.Line.{BothInRange}
 use Rattle.machine.specs.declared.Core.{Core}
 use Rattle.machine.specs.declared.Receiver.{Receiver}
 use Rattle.sums.proofs.UpTo.{and-both, up-to-all, all-up-to}
+use Rattle.select.specs.Select.{limit}
 use Rattle.picks.specs.Picks.{symbolBy}
-use Rattle.machine.specs.Machine.{topSum, soundCore, sound, pendingAt, wayFrom, keptOf, agreedOf, releasedOf, grown}
+use Rattle.machine.specs.Machine.{newSums, soundCore, sound, pendingAt, wayFrom, keptOf, agreedOf, releasedOf, grown}
 use Rattle.machine.specs.Taken.{CoreFits, SumsFit, Ready}
-use Rattle.machine.proofs.Bounds.{top-next}
+use Rattle.machine.proofs.Bounds.{lowered-most}
 
 -- ---- what the test says
 core-facts : (c : Core) → soundCore c ≡ true → CoreFits c
@@ -45,9 +45,9 @@ core-facts c e =
       held = leb-true (c .pending) (c .window) e₅;
     }
 
-sums-fact : (rx : Receiver) → sound rx ≡ true → SumsFit (rx .core .taken) (rx .sums)
+sums-fact : (rx : Receiver) → sound rx ≡ true → SumsFit (rx .sums)
 unfolding sound
-sums-fact rx e = up-to-all (topSum (rx .core .taken)) (rx .sums) (and-both (soundCore (rx .core)) _ (and-both (rx .live) _ e .1) .1)
+sums-fact rx e = up-to-all limit (rx .sums) (and-both (soundCore (rx .core)) _ (and-both (rx .live) _ e .1) .1)
 
 pub sound-live : (rx : Receiver) → sound rx ≡ true → rx .live ≡ true
 unfolding sound
@@ -83,7 +83,7 @@ unfolding releasedOf
 released-turned rx y h = turned-after (rx .core .turn) (agreedOf rx y) _ h (way-turned (rx .core) (rx .planes) (rx .picks) _)
 
 -- ---- one symbol more
-pub sound-from : (rx : Receiver) → rx .live ≡ true → CoreFits (rx .core) → SumsFit (rx .core .taken) (rx .sums) → sound rx ≡ true
+pub sound-from : (rx : Receiver) → rx .live ≡ true → CoreFits (rx .core) → SumsFit (rx .sums) → sound rx ≡ true
 unfolding sound soundCore
 sound-from rx l c s =
     rw (
@@ -95,11 +95,11 @@ sound-from rx l c s =
       lt-ltb (rx .core .slot) 64 (c .slot-below),
       le-leb (rx .core .pending) (rx .core .window) (c .held),
     )
-    (all-up-to (topSum (rx .core .taken)) (rx .sums) s)
+    (all-up-to limit (rx .sums) s)
 
-pub grown-sound : (rx : Receiver) (y : Two Received) → sound rx ≡ true → BothInRange y → keptOf rx y ≤ rx .core .window → sound (grown rx y) ≡ true
+pub grown-sound : (rx : Receiver) (y : Two Received) → sound rx ≡ true → keptOf rx y ≤ rx .core .window → sound (grown rx y) ≡ true
 unfolding grown
-grown-sound rx y e r h =
+grown-sound rx y e h =
     let c = sound-core rx e in
     sound-from (grown rx y) (sound-live rx e)
     (record {
@@ -110,4 +110,4 @@ grown-sound rx y e r h =
       slot-below = omega arith;
       held = h;
     })
-    (top-next (rx .core .accord) (c .agreed) y r (rx .core .taken) (rx .sums) (sums-fact rx e))
+    (lowered-most (newSums rx y))

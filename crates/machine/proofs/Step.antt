@@ -14,7 +14,6 @@ use lib.ListN.{length, getD, take, drop, length-drop}
 use borrow.Author.Tests.{lt-ltb}
 use Rattle.planes.specs.Planes.{cameFrom}
 use Rattle.planes.proofs.Moved.{moved-length}
-use Rattle.trellis.specs.Lists.{Every}
 use Rattle.trellis.specs.Best.{Surv}
 use Rattle.trellis.specs.Choose.{up}
 use Rattle.trellis.specs.Search.{Search}
@@ -28,27 +27,29 @@ use Rattle.trellis.specs.Words.{word, turnAfter, wordsFrom, firstTurn}
 use Rattle.trellis.specs.Said.{spokenWords}
 use Rattle.trellis.proofs.Invariant.{released, newly-is, holds-next}
 use Rattle.trellis.proofs.Newest.{newest-kept}
+use Rattle.trellis.proofs.Off.{off-up}
 use Rattle.trellis.proofs.Speak.{spoken-new}
 use Rattle.trellis.proofs.Spoken.{spoken-reach}
 use Rattle.wei.specs.Symbol.{Symbol}
 use Rattle.nearest.specs.declared.Received.{Received}
 use Rattle.nearest.specs.declared.Weighed.{Weighed}
 use Rattle.nearest.proofs.Laws.{line-chooses}
-use Rattle.nearest.specs.Line.{BothInRange, lineMeasure, lineChoice}
+use Rattle.nearest.specs.Line.{lineMeasure, lineChoice}
 use Rattle.nearest.specs.Found.{weighedOf}
 use Rattle.machine.specs.declared.Receiver.{Receiver}
+use Rattle.sums.specs.Sums.{lowest}
 use Rattle.select.specs.Select.{limit, fromAt, firstStep, followed, rowOf}
 use Rattle.told.specs.Told.{codeOf}
 use Rattle.picks.proofs.Kept.{kept-length}
-use Rattle.machine.specs.Machine.{costsOf, nextSums, nextSteps, numbersIn, wayFrom, agreedOf, keptOf, releasedOf, grown}
+use Rattle.machine.specs.Machine.{costsOf, newSums, nextSums, nextSteps, numbersIn, wayFrom, agreedOf, keptOf, releasedOf, grown}
 use Rattle.machine.proofs.Trellis.{searchOf, laws, onward, some-up}
-use Rattle.machine.proofs.Arrivals.{Room, up-sealed, off-new}
+use Rattle.machine.proofs.Arrivals.{Room, up-sealed, off-new, off-lowered}
 use Rattle.select.proofs.Followed.{followed-live, followed-below, followed-up}
 use Rattle.machine.proofs.Picked.{step-at, step-from, before-is, newSymbol, symbol-is}
 use Rattle.machine.proofs.Way.{way-grown}
 use Rattle.machine.proofs.Agree.{agreed-most}
 use Rattle.machine.proofs.Keeps.{Keeps}
-use Rattle.machine.proofs.Bounds.{room, top-next}
+use Rattle.machine.proofs.Bounds.{room, lowered-most, lowered-lowest}
 use Rattle.points.specs.declared.Accord.{Accord}
 use Rattle.points.specs.Agreed.{isAccord}
 
@@ -67,7 +68,7 @@ pub record Stepped (ac : Accord) (b : Start) (ys : List (Two Received)) (y : Two
   pub kept : keptOf rx y ≡ length (y ∷ ys) - length (saidOf ac b (y ∷ ys))
   pub next : keptOf rx y ≤ 64 → Keeps ac b (y ∷ ys) (grown rx y)
 
-module _ (b : Start) (g : GoodStart b) (ys : List (Two Received)) (good : Every BothInRange ys) (y : Two Received) (fine : BothInRange y) (few : length (y ∷ ys) ≤ 4294967295)
+module _ (b : Start) (g : GoodStart b) (ys : List (Two Received)) (y : Two Received)
     (rx : Receiver) (small : isAccord (rx .core .accord) ≡ true) (o : Keeps (rx .core .accord) b ys rx) where
   abbrev ac : Accord
   ac = rx .core .accord
@@ -92,33 +93,45 @@ module _ (b : Start) (g : GoodStart b) (ys : List (Two Received)) (good : Every 
 
   -- the sums with y
   fits : Room (rx .sums) (weighedOf ac y .costs)
-  fits = room ac small b ys good y fine few (rx .sums) (H .less) (H .off)
+  fits = room ac b ys (rx .sums) (H .less) (H .off) (o .low) y
 
-  off : Off (searchOf ac b) (y ∷ ys) (H .less) (rowOf (nextSums rx y))
-  off = off-new ac b y (rx .sums) fits ys (H .less) (H .off)
+  off-sums : Off (searchOf ac b) (y ∷ ys) (H .less) (rowOf (newSums rx y))
+  off-sums = off-new ac b y (rx .sums) fits ys (H .less) (H .off)
+
+  -- less the least of them
+  abbrev less : ℕ
+  less = H .less + lowest (newSums rx y)
+
+  off : Off (searchOf ac b) (y ∷ ys) less (rowOf (nextSums rx y))
+  off = off-lowered ac b (y ∷ ys) (H .less) (newSums rx y) off-sums
 
   -- the live states, and the state before each
-  is-sum : (s : ℕ) → T (up (new s)) → getD (nextSums rx y) s 0 < limit
-  is-sum s t = ltb→lt (getD (nextSums rx y) s 0) limit (subst T (up-sealed (getD (nextSums rx y) s 0) tt) t)
+  is-sum : (s : ℕ) → s < 16 → T (up (new s)) → getD (newSums rx y) s 0 < limit
+  is-sum s h t =
+      ltb→lt (getD (newSums rx y) s 0) limit
+      (subst T (off-up S (laws ac b) (y ∷ ys) less new off s h ∙ sym (off-up S (laws ac b) (y ∷ ys) (H .less) (rowOf (newSums rx y)) off-sums s h) ∙ up-sealed (getD (newSums rx y) s 0) tt) t)
 
-  sum-is : (s : ℕ) → getD (nextSums rx y) s 0 < limit → T (up (new s))
-  sum-is s h = subst T (sym (up-sealed (getD (nextSums rx y) s 0) tt ∙ lt-ltb (getD (nextSums rx y) s 0) limit h)) tt
+  sum-is : (s : ℕ) → s < 16 → getD (newSums rx y) s 0 < limit → T (up (new s))
+  sum-is s h k =
+      subst T
+      (sym (off-up S (laws ac b) (y ∷ ys) less new off s h ∙ sym (off-up S (laws ac b) (y ∷ ys) (H .less) (rowOf (newSums rx y)) off-sums s h)
+      ∙ up-sealed (getD (newSums rx y) s 0) tt ∙ lt-ltb (getD (newSums rx y) s 0) limit k)) tt
 
   some-live : (s : ℕ) × (s < 16) × T (up (new s))
-  some-live = some-up ac b g (y ∷ ys) (H .less) new off
+  some-live = some-up ac b g (y ∷ ys) less new off
 
   live-from : (s : ℕ) → s < 16 → T (up (new s)) → before S y row s ≡ cameFrom (getD (nextSteps rx y) s 0)
   live-from s h t =
-      before-is ac b y (rx .sums) fits s h (is-sum s t)
-      ∙ sym (step-from (rx .sums) (costsOf rx y) s h ∙ ap (fromAt (rx .sums) (costsOf rx y)) (followed-live (nextSums rx y) s (is-sum s t)))
+      before-is ac b y (rx .sums) fits s h (is-sum s h t)
+      ∙ sym (step-from (rx .sums) (costsOf rx y) s h ∙ ap (fromAt (rx .sums) (costsOf rx y)) (followed-live (newSums rx y) s (is-sum s h t)))
 
   step-of : (i : ℕ) → i < 16 → (s : ℕ) × (s < 16) × T (up (new s)) × (before S y row s ≡ cameFrom (getD (nextSteps rx y) i 0))
   step-of i h =
       let (t, k, l) = some-live in
-      let s = followed (nextSums rx y) i in
-      let hs : s < 16 = followed-below (nextSums rx y) i h in
-      let ls : getD (nextSums rx y) s 0 < limit = followed-up (nextSums rx y) t k (is-sum t l) i in
-      (s, hs, sum-is s ls, before-is ac b y (rx .sums) fits s hs ls ∙ sym (step-from (rx .sums) (costsOf rx y) i h))
+      let s = followed (newSums rx y) i in
+      let hs : s < 16 = followed-below (newSums rx y) i h in
+      let ls : getD (newSums rx y) s 0 < limit = followed-up (newSums rx y) t k (is-sum t k l) i in
+      (s, hs, sum-is s hs ls, before-is ac b y (rx .sums) fits s hs ls ∙ sym (step-from (rx .sums) (costsOf rx y) i h))
 
   agree : Agreed 16 (λ s. up (new s)) (λ s. way (before S y row s)) p (agreedOf rx y)
   unfolding agreedOf
@@ -132,13 +145,13 @@ module _ (b : Start) (g : GoodStart b) (ys : List (Two Received)) (good : Every 
   n-few = agree .few
 
   n-is : reach S ys + agreedOf rx y ≡ reach S (y ∷ ys)
-  n-is = newly-is S (laws ac b) (onward ac b g) y ys row new way p H (H .less) off newest (agreedOf rx y) agree
+  n-is = newly-is S (laws ac b) (onward ac b g) y ys row new way p H less off newest (agreedOf rx y) agree
 
   final-is : common (searchOf ac b) (y ∷ ys) ≡ common (searchOf ac b) ys ++ releasedOf rx y
   unfolding releasedOf
   final-is =
       let (s, h, t, e) = step-of 0 (omega arith) in
-      released S (laws ac b) (onward ac b g) y ys row new way p H (H .less) off newest (agreedOf rx y) agree s h t
+      released S (laws ac b) (onward ac b g) y ys row new way p H less off newest (agreedOf rx y) agree s h t
       ∙ ap (λ (r : ℕ). common S ys ++ take (agreedOf rx y) (way r)) e
 
   -- the record after y
@@ -147,16 +160,16 @@ module _ (b : Start) (g : GoodStart b) (ys : List (Two Received)) (good : Every 
   grown-way h s l t =
       let W : Weighed = weighedOf ac y in
       let e : getD (nextSteps rx y) s 0 ≡ firstStep (rx .sums) (costsOf rx y) s =
-      step-at (rx .sums) (costsOf rx y) s l ∙ ap (firstStep (rx .sums) (costsOf rx y)) (followed-live (nextSums rx y) s (is-sum s t)) in
-      way-grown (rx .core) (rx .planes) (rx .picks) (nextSteps rx y) (W .i3) (numbersIn rx y) _ _ _ (agreedOf rx y) (o .picks-long) (o .slot-below) (o .pending-fits) n-few h s l
+      step-at (rx .sums) (costsOf rx y) s l ∙ ap (firstStep (rx .sums) (costsOf rx y)) (followed-live (newSums rx y) s (is-sum s l t)) in
+      way-grown (rx .core) (rx .planes) (rx .picks) (nextSteps rx y) (W .i3) (numbersIn rx y) _ _ (agreedOf rx y) (o .picks-long) (o .slot-below) (o .pending-fits) n-few h s l
       ∙ ap₂ (λ (r : ℕ) (c : Symbol). drop (agreedOf rx y) (way r ++ (c ∷ []))) (sym (live-from s l t))
-      (ap (λ (x : ℕ). newSymbol ac y (x % 8)) e ∙ sym (symbol-is ac b y (rx .sums) fits s l (is-sum s t) small))
+      (ap (λ (x : ℕ). newSymbol ac y (x % 8)) e ∙ sym (symbol-is ac b y (rx .sums) fits s l (is-sum s l t) small))
 
   next-holds : keptOf rx y ≤ 64 → Holds (searchOf ac b) (y ∷ ys) (rowOf (grown rx y .sums)) (wayFrom (grown rx y .core) (grown rx y .planes) (grown rx y .picks)) (grown rx y .core .pending)
   unfolding grown
   next-holds h =
       subst (Holds S (y ∷ ys) new (wayFrom (grown rx y .core) (grown rx y .planes) (grown rx y .picks))) (let e : suc p - agreedOf rx y ≡ keptOf rx y = omega arith in e)
-      (holds-next S (laws ac b) (onward ac b g) y ys row new way p H (H .less) off newest (agreedOf rx y) agree
+      (holds-next S (laws ac b) (onward ac b g) y ys row new way p H less off newest (agreedOf rx y) agree
       (wayFrom (grown rx y .core) (grown rx y .planes) (grown rx y .picks)) (λ s l t k. grown-way h s l t))
 
   grown-keeps : keptOf rx y ≤ 64 → Keeps ac b (y ∷ ys) (grown rx y)
@@ -166,7 +179,6 @@ module _ (b : Start) (g : GoodStart b) (ys : List (Two Received)) (good : Every 
       record {
         is-live = o .is-live;
         accord = refl;
-        taken = omega (arith, o .taken);
         turn = ap (λ (q : ℕ). after turnAfter q (releasedOf rx y)) (o .turn) ∙ sym (spoken-new (searchOf ac b) (laws ac b) (word (ac .u)) turnAfter (firstTurn b) y ys (releasedOf rx y) final-is .1);
         holds = next-holds h;
         sums-long = refl;
@@ -174,7 +186,8 @@ module _ (b : Start) (g : GoodStart b) (ys : List (Two Received)) (good : Every 
         pending-fits = h;
         planes-long = moved-length (rx .core .pending + 1) (rx .planes) (nextSteps rx y);
         picks-long = kept-length (rx .picks) (rx .core .slot) (W .i3) (numbersIn rx y) (o .picks-long) (o .slot-below);
-        top = λ s. omega (arith, top-next ac small y fine (length ys) (rx .sums) (o .top) s);
+        low = let (s, l, t) = some-live in lowered-lowest (newSums rx y) s l (is-sum s l t);
+        top = lowered-most (newSums rx y);
       }
 
   said-many : (zs : List (Two Received)) → length (saidOf ac b zs) ≡ reach (searchOf ac b) zs
@@ -195,7 +208,6 @@ module _ (b : Start) (g : GoodStart b) (ys : List (Two Received)) (good : Every 
       }
 
 -- the record's accord is ac
-pub stepped : (ac : Accord) (b : Start) (ys : List (Two Received)) (y : Two Received) (rx : Receiver) → isAccord ac ≡ true → GoodStart b → Every BothInRange ys → BothInRange y →
-    length (y ∷ ys) ≤ 4294967295 → Keeps ac b ys rx → Stepped ac b ys y rx
-stepped ac b ys y rx small g good fine few o =
-    subst (λ (v : Accord). isAccord v ≡ true → Keeps v b ys rx → Stepped v b ys y rx) (o .accord) (λ s e. here b g ys good y fine few rx s e) small o
+pub stepped : (ac : Accord) (b : Start) (ys : List (Two Received)) (y : Two Received) (rx : Receiver) → isAccord ac ≡ true → GoodStart b → Keeps ac b ys rx → Stepped ac b ys y rx
+stepped ac b ys y rx small g o =
+    subst (λ (v : Accord). isAccord v ≡ true → Keeps v b ys rx → Stepped v b ys y rx) (o .accord) (λ s e. here b g ys y rx s e) small o

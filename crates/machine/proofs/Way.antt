@@ -82,10 +82,10 @@ another a p m h g l k e = go (decLt (a + m) p)
     go (yes b) = omega arith
     go (no b) = omega arith
 
-module _ (c : Core) (planes picks steps i3 : List ℕ) (n window taken turn k : ℕ) (long : length picks ≡ 72) (slot-below : c .slot < 64)
+module _ (c : Core) (planes picks steps i3 : List ℕ) (n window turn k : ℕ) (long : length picks ≡ 72) (slot-below : c .slot < 64)
     (held : c .pending ≤ 64) (few : k ≤ c .pending) (kept : c .pending + 1 - k ≤ 64) (s : ℕ) (h : s < 16) where
   abbrev c′ : Core
-  c′ = record { accord = c .accord; window = window; taken = taken; turn = turn; slot = (c .slot + 1) % 64; pending = c .pending + 1 - k }
+  c′ = record { accord = c .accord; window = window; turn = turn; slot = (c .slot + 1) % 64; pending = c .pending + 1 - k }
 
   abbrev step : ℕ
   step = getD steps s 0
@@ -134,7 +134,7 @@ module _ (c : Core) (planes picks steps i3 : List ℕ) (n window taken turn k : 
       go (yes g) = older i g
       go (no g) = newest i (omega arith)
 
-  pub way-grown : wayFrom (record { accord = c .accord; window = window; taken = taken; turn = turn; slot = (c .slot + 1) % 64; pending = c .pending + 1 - k })
+  pub way-grown : wayFrom (record { accord = c .accord; window = window; turn = turn; slot = (c .slot + 1) % 64; pending = c .pending + 1 - k })
       (movedOf (c .pending + 1) planes steps) (keptIn picks (c .slot) i3 n) s
       ≡ drop k (wayFrom c planes picks (cameFrom (getD steps s 0)) ++ (symbolBy (c .accord .u) (getD i3 (getD steps s 0 % 8) 0 % 2) n (getD steps s 0 % 8) ∷ []))
   way-grown =

@@ -3,7 +3,7 @@
 --   freshSums b                the sums before any symbol
 --   opened k window b          a fresh receiver
 --   shut                       a closed one
---   costsOf, nextSums, nextSteps   what the symbol y makes of the sums
+--   costsOf, newSums, nextSums, nextSteps   what the symbol y makes of the sums, and what the states keep of them
 --   numbersIn rx y             the numbers of the points nearest to y
 --   slotOf, ageOf              where a pending symbol stands
 --   pendingAt, wayFrom         the pending symbols on the way into a state
@@ -11,11 +11,11 @@
 --   keptOf rx y                how many are pending then
 --   releasedOf rx y            the released symbols, the oldest first
 --   grown rx y                 the receiver with y taken
---   Outcome, taking            what happens to y where the output has `room` places: refused 7, 6, 8 in this order, or taken
+--   Outcome, taking            what happens to y where the output has `room` places: refused 6, 8 in this order, or taken
 --   lastSymbols rx             the pending symbols of the answer, the oldest first
 --   machineOf t                the receiver after what it has been told; machineAfter t ys, after the symbols ys alone
 --   sound rx                   the record is one that the functions can work on: anything else is answered like a closed receiver
-use Prim.Native.Nat.{ℕ, _+_, _-_, _*_, _%_, _^_}
+use Prim.Native.Nat.{ℕ, _+_, _-_, _%_}
 use mathlib.Core.Bool.{Bool, true, false, cond, _&&_}
 use mathlib.Core.List.{List, [], _∷_, map}
 use lib.Dec.{eqb, leb, ltb}
@@ -33,8 +33,8 @@ use Rattle.planes.specs.Planes.{subsetIn, movedOf, sameAt, oldest}
 use Rattle.machine.specs.declared.Core.{Core}
 use Rattle.machine.specs.declared.Receiver.{Receiver}
 use Rattle.reasons.specs.declared.Why.{Why}
-use Rattle.reasons.specs.declared.Why.the-variants.{Done, TooMany, Full, NoRoom}
-use Rattle.select.specs.Select.{limit, sixteen, sumAt, stepAt, prevIn}
+use Rattle.reasons.specs.declared.Why.the-variants.{Done, Full, NoRoom}
+use Rattle.select.specs.Select.{limit, sixteen, sumAt, lowered, stepAt, prevIn}
 use Rattle.sums.specs.Sums.{endOf, allUpTo}
 use Rattle.picks.specs.Picks.{numbersOf, symbolIn, keptIn}
 use Rattle.told.specs.Told.{Told}
@@ -46,7 +46,7 @@ freshSums free = sixteen (λ s. 0)
 freshSums (named n) = sixteen (λ s. cond (eqb s n) 0 limit)
 
 abbrev pub core : Accord → ℕ → ℕ → Core
-core k window turn = record { accord = k; window = window; taken = 0; turn = turn; slot = 0; pending = 0 }
+core k window turn = record { accord = k; window = window; turn = turn; slot = 0; pending = 0 }
 
 unfoldable pub opened : Accord → ℕ → Start → Receiver
 opened k window b = record { live = true; core = core k window (firstTurn b); sums = freshSums b; planes = replicate 48 0; picks = replicate 72 0 }
@@ -59,8 +59,11 @@ shut = record { live = false; core = core (ofWidth 0) 0 0; sums = replicate 16 0
 abbrev pub costsOf : Receiver → Two Received → List ℕ
 costsOf rx y = weighedOf (rx .core .accord) y .costs
 
+abbrev pub newSums : Receiver → Two Received → List ℕ
+newSums rx y = sixteen (sumAt (rx .sums) (costsOf rx y))
+
 abbrev pub nextSums : Receiver → Two Received → List ℕ
-nextSums rx y = sixteen (sumAt (rx .sums) (costsOf rx y))
+nextSums rx y = sixteen (lowered (newSums rx y))
 
 abbrev pub nextSteps : Receiver → Two Received → List ℕ
 nextSteps rx y = sixteen (stepAt (rx .sums) (costsOf rx y))
@@ -103,7 +106,6 @@ grown rx y =
           record {
             accord = rx .core .accord;
             window = rx .core .window;
-            taken = rx .core .taken + 1;
             turn = after turnAfter (rx .core .turn) (releasedOf rx y);
             slot = (rx .core .slot + 1) % 64;
             pending = keptOf rx y;
@@ -123,10 +125,9 @@ refused rx w = record { receiver = rx; words = []; why = w }
 
 unfoldable pub taking : Receiver → Two Received → ℕ → Outcome
 taking rx y room =
-    cond (eqb (rx .core .taken) 4294967295) (refused rx TooMany)
-    (cond (ltb (rx .core .window) (keptOf rx y)) (refused rx Full)
+    cond (ltb (rx .core .window) (keptOf rx y)) (refused rx Full)
     (cond (ltb room (agreedOf rx y)) (refused rx NoRoom)
-    (record { receiver = grown rx y; words = wordsFrom (rx .core .accord .u) (rx .core .turn) (releasedOf rx y); why = Done })))
+    (record { receiver = grown rx y; words = wordsFrom (rx .core .accord .u) (rx .core .turn) (releasedOf rx y); why = Done }))
 
 -- ---- finish
 
@@ -138,15 +139,11 @@ lastWords rx = wordsFrom (rx .core .accord .u) (rx .core .turn) (lastSymbols rx)
 
 -- ---- what the functions can work on
 
--- no sum is above this after so many symbols: each adds less than 2^30
-abbrev pub topSum : ℕ → ℕ
-topSum n = limit + n * 2 ^ 30
-
 unfoldable pub soundCore : Core → Bool
 soundCore c = isAccord (c .accord) && (leb 1 (c .window) && (leb (c .window) 64 && (leb (c .turn) 4 && (ltb (c .slot) 64 && leb (c .pending) (c .window)))))
 
 unfoldable pub sound : Receiver → Bool
-sound rx = rx .live && (soundCore (rx .core) && allUpTo (topSum (rx .core .taken)) (rx .sums))
+sound rx = rx .live && (soundCore (rx .core) && allUpTo limit (rx .sums))
 
 -- ---- after a history
 

@@ -1,6 +1,6 @@
 -- What the code of one symbol is told and what it gives, in terms of the machine.
 --   CoreFits c           the ranges that `soundCore` tests, as facts
---   SumsFit n sums       no sum is above what n symbols can make
+--   SumsFit sums         no state keeps more than one that nothing reaches
 --   Ready c sums         both
 --   whole                an open receiver, from its parts
 --   outlookOf rx y       what the symbol y would make of the receiver
@@ -19,8 +19,8 @@ use Rattle.machine.specs.declared.Receiver.{Receiver}
 use Rattle.machine.specs.declared.Outlook.{Outlook}
 use Rattle.machine.specs.declared.Took.{Took}
 use Rattle.planes.specs.Planes.{wordsBefore}
-use Rattle.select.specs.Select.{prevIn}
-use Rattle.machine.specs.Machine.{nextSums, nextSteps, numbersIn, agreedOf, Outcome, topSum}
+use Rattle.select.specs.Select.{limit, prevIn}
+use Rattle.machine.specs.Machine.{nextSums, nextSteps, numbersIn, agreedOf, Outcome}
 
 pub record CoreFits (c : Core) : Type 0 where
   pub agreed : isAccord (c .accord) ≡ true
@@ -30,12 +30,12 @@ pub record CoreFits (c : Core) : Type 0 where
   pub slot-below : c .slot < 64
   pub held : c .pending ≤ c .window
 
-abbrev pub SumsFit : ℕ → List ℕ → Type 0
-SumsFit n sums = (i : ℕ) → getD sums i 0 ≤ topSum n
+abbrev pub SumsFit : List ℕ → Type 0
+SumsFit sums = (i : ℕ) → getD sums i 0 ≤ limit
 
 pub record Ready (c : Core) (sums : List ℕ) : Type 0 where
   pub core-fits : CoreFits c
-  pub sums-fit : SumsFit (c .taken) sums
+  pub sums-fit : SumsFit sums
 
 abbrev pub whole : Core → List ℕ → List ℕ → List ℕ → Receiver
 whole c sums planes picks = record { live = true; core = c; sums = sums; planes = planes; picks = picks }

@@ -25,17 +25,16 @@ ghost use Rattle.machine.specs.Taken.{CoreFits, Ready, whole, outlookOf,
 pub struct Core {
     pub accord: Accord,
     pub window: usize,
-    pub taken: u32,
     pub turn: u32,
     pub slot: usize,
     pub pending: usize,
 }
 
-// The receiver: sums by state, three registers of each state, and what was picked of the pending symbols.
+// The receiver: what each state keeps of its sum, three registers of each state, and what was picked of the pending symbols.
 pub struct Receiver {
     pub live: bool,
     pub core: Core,
-    pub sums: [u64; 16],
+    pub sums: [u32; 16],
     pub planes: [u64; 48],
     pub picks: [u64; 72],
 }
@@ -47,10 +46,10 @@ pub struct Took {
     pub why: Why,
 }
 
-// What a symbol would make of the receiver: the new sums, the step into each state and the first word of the state before it, what is
+// What a symbol would make of the receiver: what the states keep then, the step into each state and the first word of the state before it, what is
 // picked, how many pending symbols are agreed then, and a state whose way begins with them.
 pub struct Outlook {
-    pub sums: [u64; 16],
+    pub sums: [u32; 16],
     pub steps: [u8; 16],
     pub ways: [u64; 16],
     pub i3: [u8; 8],
@@ -90,13 +89,13 @@ pub fn write_words(
 fn look_ahead(
     t: &Chart,
     core: Core,
-    sums: &[u64; 16],
+    sums: &[u32; 16],
     planes: &[u64; 48],
     first: Received,
     second: Received,
 ) -> Outlook
     requires { ⌜ (now t ≡ chartOf (core .accord)) × InRange first × InRange second ⌝ }
-    requires { ⌜ Ready core (now sums) × (core .taken < 4294967295) ⌝ }
+    requires { ⌜ Ready core (now sums) ⌝ }
     ensures { λ r. ⌜ r ≡ outlookOf (whole core (now (sums .entry)) (now (planes .entry)) []) (heardAs first second) ⌝ }
 {
     let w = nearest::weigh(t, core.accord, first, second);
@@ -133,26 +132,25 @@ fn refused(core: Core, why: Why) -> Took
 
 // The numbers after a symbol is taken, with the turn after its words and with so many pending.
 fn moved_on(core: Core, turn: u32, pending: usize) -> Core
-    requires { ⌜ (core .taken < 4294967295) × (core .slot < 64) ⌝ }
-    ensures { λ r. ⌜ r ≡ record { accord = core .accord; window = core .window; taken = core .taken + 1; turn = turn; slot = (core .slot + 1) % 64; pending = pending } ⌝ }
+    requires { ⌜ core .slot < 64 ⌝ }
+    ensures { λ r. ⌜ r ≡ record { accord = core .accord; window = core .window; turn = turn; slot = (core .slot + 1) % 64; pending = pending } ⌝ }
 {
     let accord = core.accord;
     Core {
         accord: accord,
         window: core.window,
-        taken: core.taken + 1,
         turn: turn,
         slot: (core.slot + 1) % 64,
         pending: pending,
     }
 }
 
-// One symbol. It is refused with number 7, 6 or 8, in this order, and then nothing has been stored; or it is taken, and the words
+// One symbol. It is refused with number 6 or 8, in this order, and then nothing has been stored; or it is taken, and the words
 // that all live states now agree on stand at the front of `out`.
 pub fn take_symbol(
     t: &Chart,
     core: Core,
-    sums: &mut [u64; 16],
+    sums: &mut [u32; 16],
     planes: &mut [u64; 48],
     picks: &mut [u64],
     first: Received,
@@ -164,9 +162,6 @@ pub fn take_symbol(
     ensures { λ r. ⌜ TookIs (taking (whole core (now (sums .entry)) (now (planes .entry)) (now (picks .entry))) (heardAs first second) (length (now (out .entry))))
         r (now (sums .exit)) (now (planes .exit)) (now (picks .exit)) (now (out .entry)) (now (out .exit)) ⌝ }
 {
-    if core.taken == 4294967295 {
-        return refused(core, Why::TooMany);
-    }
     let o = look_ahead(t, core, sums, planes, first, second);
     let n = o.agreed;
     let kept = core.pending + 1 - n;

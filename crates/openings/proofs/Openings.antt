@@ -87,7 +87,7 @@ module _ (ac : Accord) (w : ℕ) (b : Start) where
   opens-done r h k l s i =
       opens r (record { receiver = opened ac w (startOf b); why = Done }) (rw (h, le-leb 1 w k, le-leb w 64 l, s)) i
       (rw (h, le-leb 1 w k, le-leb w 64 l, s))
-      (λ z. (record { agreed = h; some-window = k; small-window = l; good-start = start-good b s; few = omega arith; each = tt }, refl))
+      (λ z. (record { agreed = h; some-window = k; small-window = l; good-start = start-good b s; each = tt }, refl))
 
   -- what the opening's function gives keeps the promise
   pub opening-opens : Opens ac w b (record { receiver = opening ac w b .receiver; why = opening ac w b .why })

@@ -10,8 +10,8 @@ use reasons::Why;
 ghost use mathlib.Core.Path.{_≡_};
 ghost use mathlib.Core.Bool.{true, cond, _&&_};
 ghost use Rattle.trellis.specs.Words.{firstTurn};
-ghost use Rattle.machine.specs.Machine.{core, freshSums, shut, topSum, soundCore, sound};
-ghost use Rattle.sums.specs.Sums.{allUpTo};
+ghost use Rattle.machine.specs.Machine.{core, freshSums, shut, soundCore, sound};
+ghost use Rattle.sums.specs.Sums.{limit, allUpTo};
 ghost use Rattle.openings.specs.Given.{plainWindow, startOf, startFits, startAt};
 ghost use Rattle.openings.specs.Opening.{Opens};
 
@@ -40,7 +40,7 @@ pub fn closed_receiver() -> Receiver
             0,
             0,
         ),
-        sums: [0u64; 16],
+        sums: [0u32; 16],
         planes: [0u64; 48],
         picks: [0u64; 72],
     }
@@ -52,20 +52,19 @@ fn fresh_core(accord: Accord, window: usize, turn: u32) -> Core
     Core {
         accord: accord,
         window: window,
-        taken: 0,
         turn: turn,
         slot: 0,
         pending: 0,
     }
 }
 
-// The sums before any symbol: 0 for a state that may stand first, and for every other one more than any sum can be.
-fn fresh_sums(start: Start) -> [u64; 16]
+// The sums before any symbol: 0 for a state that may stand first, and for every other one more than a reached state can keep.
+fn fresh_sums(start: Start) -> [u32; 16]
     requires { ⌜ startFits start ≡ true ⌝ }
     ensures { λ r. ⌜ r ≡ freshSums (startOf start) ⌝ }
 {
     match start {
-        Start::Free => [0u64; 16],
+        Start::Free => [0u32; 16],
         Start::At(s) => {
             let mut sums = [sums::LIMIT; 16];
             sums[s as usize] = 0;
@@ -174,9 +173,9 @@ fn core_fits(c: Core) -> bool
     c.pending <= c.window
 }
 
-// Whether a receiver of these parts is open and in range: no sum is above what so many symbols can make.
-pub fn parts_fit(live: bool, c: Core, sums: &[u64; 16]) -> bool
-    ensures { λ r. ⌜ r ≡ (live && (soundCore c && allUpTo (topSum (c .taken)) (now (sums .entry)))) ⌝ }
+// Whether a receiver of these parts is open and in range: no state keeps more than one that nothing reaches.
+pub fn parts_fit(live: bool, c: Core, sums: &[u32; 16]) -> bool
+    ensures { λ r. ⌜ r ≡ (live && (soundCore c && allUpTo limit (now (sums .entry)))) ⌝ }
 {
     if !live {
         return false;
@@ -184,7 +183,7 @@ pub fn parts_fit(live: bool, c: Core, sums: &[u64; 16]) -> bool
     if !core_fits(c) {
         return false;
     }
-    sums::all_up_to(sums, sums::LIMIT + (c.taken as u64) * 1073741824)
+    sums::all_up_to(sums, sums::LIMIT)
 }
 
 // Whether the receiver is open and in range.

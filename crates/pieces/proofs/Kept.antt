@@ -9,7 +9,7 @@ use mathlib.Core.List.{List, []}
 use Prim.Native.Nat.{ℕ, _<_, _≤_}
 use native.Mathlib.Omega.{arith}
 use borrow.Author.Tests.{ltb-false, lt-ltb, le-ltb}
-use lib.Dec.{T, eqb, ltb}
+use lib.Dec.{T, ltb}
 use lib.ListN.{length}
 use Rattle.trellis.specs.Measure.{Two}
 use Rattle.nearest.specs.declared.Received.{Received}
@@ -39,9 +39,8 @@ module _ (rx : Receiver) (y : Two Received) (room : ℕ) where
   unfolding symbolAt taking
   symbol-refused =
       either Left (ltb (faultOf y) 4) _ _ (λ _ d. (refl, refl))
-      (λ _. either Left (eqb (rx .core .taken) 4294967295) _ _ (λ _ d. (refl, refl))
       (λ _. either Left (ltb (rx .core .window) (keptOf rx y)) _ _ (λ _ d. (refl, refl))
-      (λ _. either Left (ltb room (agreedOf rx y)) _ _ (λ _ d. (refl, refl)) (λ _ d. absurd (subst T d tt)))))
+      (λ _. either Left (ltb room (agreedOf rx y)) _ _ (λ _ d. (refl, refl)) (λ _ d. absurd (subst T d tt))))
 
 module _ (rx : Receiver) (f : sound rx ≡ true) (y : Two Received) (room : ℕ) where
   abbrev Fit : Outcome → Type 0
@@ -51,9 +50,8 @@ module _ (rx : Receiver) (f : sound rx ≡ true) (y : Two Received) (room : ℕ)
   unfolding symbolAt taking
   symbol-sound =
       either Fit (ltb (faultOf y) 4) _ _ (λ _. f)
-      (λ a. either Fit (eqb (rx .core .taken) 4294967295) _ _ (λ _. f)
       (λ _. either Fit (ltb (rx .core .window) (keptOf rx y)) _ _ (λ _. f)
-      (λ c. either Fit (ltb room (agreedOf rx y)) _ _ (λ _. f) (λ _. grown-sound rx y f (in-range y a) (ltb-false (rx .core .window) (keptOf rx y) c)))))
+      (λ c. either Fit (ltb room (agreedOf rx y)) _ _ (λ _. f) (λ _. grown-sound rx y f (ltb-false (rx .core .window) (keptOf rx y) c))))
 
 -- what both ends agreed on stays
 module _ (rx : Receiver) (y : Two Received) (room : ℕ) where
@@ -64,9 +62,8 @@ module _ (rx : Receiver) (y : Two Received) (room : ℕ) where
   unfolding symbolAt taking grown
   symbol-accord =
       either Agreed (ltb (faultOf y) 4) _ _ (λ _. refl)
-      (λ _. either Agreed (eqb (rx .core .taken) 4294967295) _ _ (λ _. refl)
       (λ _. either Agreed (ltb (rx .core .window) (keptOf rx y)) _ _ (λ _. refl)
-      (λ _. either Agreed (ltb room (agreedOf rx y)) _ _ (λ _. refl) (λ _. refl))))
+      (λ _. either Agreed (ltb room (agreedOf rx y)) _ _ (λ _. refl) (λ _. refl)))
 
 -- ---- one symbol, as the code has it
 

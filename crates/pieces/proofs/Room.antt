@@ -1,12 +1,11 @@
 -- Room: a symbol writes no more words than there is room for, and so does a run of them.
 --   symbol-few, running-few
-use mathlib.Core.Path.{_≡_, refl}
 use mathlib.Core.Bool.{Bool, true, false, cond}
 use mathlib.Core.List.{List, [], _∷_, _++_}
 use Prim.Native.Nat.{ℕ, _+_, _-_, _≤_}
 use native.Mathlib.Omega.{arith}
 use borrow.Author.Tests.{ltb-false}
-use lib.Dec.{eqb, ltb}
+use lib.Dec.{ltb}
 use lib.ListN.{length, take, length-append, length-take}
 use Rattle.trellis.specs.Measure.{Two}
 use Rattle.trellis.specs.Words.{word, wordsFrom, turnAfter}
@@ -34,9 +33,8 @@ module _ (rx : Receiver) (y : Two Received) (room : ℕ) where
   unfolding symbolAt taking
   symbol-few =
       either Few (ltb (faultOf y) 4) _ _ (λ _. omega arith)
-      (λ _. either Few (eqb (rx .core .taken) 4294967295) _ _ (λ _. omega arith)
       (λ _. either Few (ltb (rx .core .window) (keptOf rx y)) _ _ (λ _. omega arith)
-      (λ _. either Few (ltb room (agreedOf rx y)) _ _ (λ _. omega arith) (λ e. omega (arith, released-few, ltb-false room (agreedOf rx y) e)))))
+      (λ _. either Few (ltb room (agreedOf rx y)) _ _ (λ _. omega arith) (λ e. omega (arith, released-few, ltb-false room (agreedOf rx y) e))))
 
 pub running-few : (zs : List (Two Received)) (rx : Receiver) (n : ℕ) (ws : List ℕ) (room : ℕ) → length ws ≤ room → length (running zs rx n ws room .words) ≤ room
 unfolding running

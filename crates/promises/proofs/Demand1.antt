@@ -1,22 +1,23 @@
--- DEMAND 1, its numbers. "Each refusal's number is reached by a computed case and is given exactly when 01 says; for 7: with 4,294,967,295
--- heard every good symbol is answered 7, with one fewer it is not."
+-- DEMAND 1, its numbers. "Each refusal's number is reached by a computed case and is given exactly when 01 says"; 02, Wish 6: 7 leaves the
+-- table, and no run is overlong.
 --
 -- When 01 gives each number is written in specs/Table, one type for each door, the tests in their order. Each theorem here says of any
 -- result that a door's promise allows: the number is k exactly if the table gives k.
 --   sender-opens, sends            the sender's opening: 1; sending a word to an end: 9, 4, 8
 --   receiver-opens                 the receiver's opening: 1, 2, 3
---   hears, finishes                a piece and a finish for a receiver that has been told something: 10, then 5, 7, 6, 8 for the first
+--   hears, finishes                a piece and a finish for a receiver that has been told something: 10, then 5, 6, 8 for the first
 --                                  symbol that is refused; 8 at a finish
 --   hears-nine, finishes-nine      9 exactly if the end is closed; an end is closed or has been told something (`end-known`)
---   seven, no-seven                7 for every good symbol after 4,294,967,295, and for none before
+--   however-many                   a good symbol that the window holds, with room for its words, is taken, whatever came before it
+--   never-seven                    no reason of the receiver has the number 7
 --   sends-left, opens-left, finishes-left   what a refusal leaves behind
--- Every number is reached by a computed case (proofs/Reached). That an opening and calls give an end with 4,294,967,295 symbols taken,
--- which answers 7 to every good symbol, is proved in proofs/History (`full`).
+-- Every number is reached by a computed case (proofs/Reached). That for every n calls give an end with n symbols taken, which takes
+-- another, is proved in proofs/History (`no-last`).
 use mathlib.Core.Path.{_≡_, refl, sym, ap, subst, _∙_}
 use mathlib.Core.Bool.{false}
 use mathlib.Core.Logic.{_↔_, ⊎-elim}
-use mathlib.Core.List.{List, _++_, reverse}
-use Prim.Native.Nat.{ℕ, _-_, _<_}
+use mathlib.Core.List.{List, _∷_, _++_, reverse}
+use Prim.Native.Nat.{ℕ, _-_, _≤_}
 use native.Mathlib.Omega.{arith}
 use lib.IntN.{ℤ}
 use lib.ListN.{length, take}
@@ -24,7 +25,8 @@ use Rattle.points.specs.declared.Accord.{Accord}
 use Rattle.trellis.specs.Measure.{Two}
 use Rattle.nearest.specs.declared.Received.{Received}
 use Rattle.nearest.specs.Line.{BothInRange}
-use Rattle.told.specs.Told.{Told, judgeSymbol, Fine}
+use Rattle.calls.specs.Calls.{fresh}
+use Rattle.told.specs.Told.{Told, speakerOf, pendingAfter, judgeSymbol, Fine}
 use Rattle.reasons.specs.Reason.{Reason, reason, givenOf}
 use Rattle.sender.specs.declared.Sender.{Sender}
 use Rattle.sender.specs.declared.Sent.{Sent}
@@ -40,6 +42,7 @@ use Rattle.receiver.proofs.Left.{shut-hears, shut-finishes}
 use Rattle.promises.proofs.Ends.{Known, end-known, known-live}
 pub use Rattle.openings.proofs.Openings.{opens-left}
 pub use Rattle.receiver.proofs.Left.{finishes-left}
+pub use Rattle.reasons.proofs.Apart.{never-seven}
 use Rattle.told.specs.Piece.{Piece}
 use Rattle.receiver.specs.Doors.{Ran, stopped, hearing, finishing}
 use Rattle.promises.specs.End.{End}
@@ -47,7 +50,7 @@ use Rattle.told.specs.Owed.{finishOwed}
 use Rattle.receiver.specs.Promise.{Hears, Finishes}
 use Rattle.promises.specs.Table as table
 use Rattle.promises.proofs.Numbers.{sender-opening-case, sender-opening-is, sending-case, sending-is}
-use Rattle.promises.proofs.Numbers.{opening-case, opening-is, said-case, said-is, piece-case, piece-one, finish-case, finish-is, apart}
+use Rattle.promises.proofs.Numbers.{opening-case, opening-is, said-is, piece-case, piece-one, finish-case, finish-is, apart}
 
 -- ---- the sender
 
@@ -85,10 +88,9 @@ module _ (t : Told) (f : Fine t) (rx : Receiver) (m : rx ≡ machineOf t) (out :
 -- no table of an open receiver has a 9
 said-open : (t : Told) (ys : List (Two Received)) (y : Two Received) (room : ℕ) (g : Reason) → table.SymbolGives t ys y room g → g .number ≡ 9 → ⊥
 said-open t ys y room g (table.SymbolGives.five i) e = omega arith
-said-open t ys y room g (table.SymbolGives.seven i j) e = omega arith
-said-open t ys y room g (table.SymbolGives.six i j k) e = omega arith
-said-open t ys y room g (table.SymbolGives.eight i j k l) e = omega arith
-said-open t ys y room g (table.SymbolGives.taken i j k l) e = omega arith
+said-open t ys y room g (table.SymbolGives.six i j) e = omega arith
+said-open t ys y room g (table.SymbolGives.eight i j k) e = omega arith
+said-open t ys y room g (table.SymbolGives.taken i j k) e = omega arith
 
 hears-open : (t : Told) (q : Piece) (room m n : ℕ) (g : Reason) → table.PieceGives t q room m n g → g .number ≡ 9 → ⊥
 hears-open t q room m n g (table.PieceGives.ten a b c) e = omega arith
@@ -130,18 +132,8 @@ module _ (rx : Receiver) (e : End rx) (out : List ℕ) (r : Answer) (o : List �
         λ z. absurd (apart (rx .live) (known-live rx k) z),
       )
 
--- ---- number 7
+-- ---- no run is overlong
 
-module _ (t : Told) (ys : List (Two Received)) (y : Two Received) (room : ℕ) where
-  pub seven : length ys ≡ 4294967295 → BothInRange y → judgeSymbol t ys y room ≡ reason 7
-  seven e r = said-is t ys y room (reason 7) (table.SymbolGives.seven r (omega arith))
-
-  pub no-seven : length ys < 4294967295 → judgeSymbol t ys y room .number ≡ 7 → ⊥
-  no-seven h = go (judgeSymbol t ys y room) (said-case t ys y room)
-    where
-      go : (g : Reason) → table.SymbolGives t ys y room g → g .number ≡ 7 → ⊥
-      go g (table.SymbolGives.five a) e = omega arith
-      go g (table.SymbolGives.seven a b) e = omega arith
-      go g (table.SymbolGives.six a b c) e = omega arith
-      go g (table.SymbolGives.eight a b c d) e = omega arith
-      go g (table.SymbolGives.taken a b c d) e = omega arith
+pub however-many : (t : Told) (ys : List (Two Received)) (y : Two Received) (room : ℕ) → BothInRange y → pendingAfter t (y ∷ ys) ≤ t .window →
+    length (fresh (speakerOf t) ys y) ≤ room → judgeSymbol t ys y room ≡ reason 0
+however-many t ys y room r h k = said-is t ys y room (reason 0) (table.SymbolGives.taken r h k)

@@ -1,12 +1,12 @@
--- 7 is not an empty promise: calls can tell a receiver 4,294,967,295 symbols.
+-- A receiver runs for years (02, Wish 6): whatever the number of symbols, calls can tell a receiver so many, and it takes another.
 --   single, handed  a symbol as a piece of its own, and that a caller can hand it over
 --   fine-end        every history that can be told is told by an opening and calls: its receiver is an end
---   histories-end   for each number up to 4,294,967,295 there is an end that has been told so many
---   full            an end to which every good symbol is one too many
+--   TakesMore rx    some good symbol is taken by it, where the output has 64 places
+--   no-last         there is no n after which good symbols are refused for their count: some end has been told n, and takes one more
 use mathlib.Core.Path.{_≡_, refl, ap, subst, _∙_}
 use mathlib.Core.Bool.{true}
 use mathlib.Core.List.{List, [], _∷_}
-use Prim.Native.Nat.{ℕ, _+_, _*_, _≤_, _<_}
+use Prim.Native.Nat.{ℕ, _+_, _*_, _≤_}
 use native.Mathlib.Omega.{arith}
 use lib.IntN.{pos}
 use lib.ListN.{length, replicate, length-replicate}
@@ -19,7 +19,7 @@ use Rattle.nearest.specs.declared.Received.the-variants.{Heard, Missing}
 use Rattle.nearest.specs.Line.{BothInRange}
 use Rattle.reasons.specs.Reason.{reason, givenOf}
 use Rattle.points.specs.Agreed.{ofWidth}
-use Rattle.told.specs.Told.{Told, pendingAfter, Fine, FineList, withHeard}
+use Rattle.told.specs.Told.{Told, pendingAfter, judgeSymbol, Fine, FineList, withHeard}
 use Rattle.told.specs.Piece.{Piece, markedPiece}
 use Rattle.told.specs.Owed.{pieceOwed}
 use Rattle.told.proofs.Cases.{piece-goes}
@@ -32,11 +32,9 @@ use Rattle.openings.proofs.Openings.{opening-told}
 use Rattle.receiver.specs.declared.Answer.{Answer}
 use Rattle.receiver.specs.Promise.{Hears}
 use Rattle.receiver.proofs.Doors.{hearing-owes}
-use Rattle.cases.proofs.Steady.{zeros, told, steady}
+use Rattle.cases.proofs.Steady.{zeros, zeros-good, told, steady, goes-on}
 use Rattle.promises.specs.End.{End, fresh, heard}
-use Rattle.promises.specs.Table as table
-use Rattle.promises.proofs.Numbers.{said-is}
-use Rattle.promises.proofs.Demand1.{seven}
+use Rattle.promises.proofs.Demand1.{however-many}
 
 -- a symbol as a piece of its own; the mark, and the coordinates, by which a caller hands it over
 abbrev pub single : Two Received → Piece
@@ -63,19 +61,20 @@ handed y = go (y .first) (y .second)
     go Missing (Heard t) = refl
     go Missing Missing = refl
 
--- `hear` answers 7 to every good symbol
-abbrev pub AnswersSeven : Receiver → Type 0
-AnswersSeven rx = (y : Two Received) → BothInRange y → (out : List ℕ) (r : Answer) (o : List ℕ) → Hears rx (single y) out r o → givenOf (r .why) ≡ reason 7
+pub record TakesMore (rx : Receiver) : Type 0 where
+  pub symbol : Two Received
+  pub good : BothInRange symbol
+  pub is-taken : (out : List ℕ) (r : Answer) (o : List ℕ) → 64 ≤ length out → Hears rx (single symbol) out r o → (givenOf (r .why) ≡ reason 0) × (r .taken ≡ 1)
 
 fine-same : (t : Told) (zs ys : List (Two Received)) → FineList (withHeard t zs) ys → FineList t ys
 fine-same t zs [] f = tt
 fine-same t zs (y ∷ ys) f = (f .0, f .1, fine-same t zs ys (f .2))
 
 -- one symbol that is not one to refuse, as a piece with room for 64 words
-heard-one : (t : Told) (f : Fine t) (y : Two Received) → BothInRange y → length (t .heard) < 4294967295 → pendingAfter t (y ∷ t .heard) ≤ t .window →
+heard-one : (t : Told) (f : Fine t) (y : Two Received) → BothInRange y → pendingAfter t (y ∷ t .heard) ≤ t .window →
     pieceOwed t (single y) 64 .told ≡ withHeard t (y ∷ t .heard)
 unfolding walk
-heard-one t f y r few h = rw (piece-goes t (single y) 64 refl, said-is t (t .heard) y 64 (reason 0) (table.SymbolGives.taken r few h (fresh-most t f y r few)))
+heard-one t f y r h = rw (piece-goes t (single y) 64 refl, however-many t (t .heard) y 64 r h (fresh-most t f y))
 
 module _ (ac : Accord) (w : ℕ) (b : Start) where
   abbrev after : List (Two Received) → Told
@@ -84,30 +83,35 @@ module _ (ac : Accord) (w : ℕ) (b : Start) where
   pub fine-end : (ys : List (Two Received)) → Fine (after ys) → End (machineOf (after ys))
   fine-end [] f = subst End (opening-told ac w b f) (fresh ac w b)
   fine-end (y ∷ ys) f =
-      let few : length ys < 4294967295 = omega (arith, f .few) in
       let g : Fine (after ys) =
       record {
         agreed = f .agreed;
         some-window = f .some-window;
         small-window = f .small-window;
         good-start = f .good-start;
-        few = omega arith;
         each = fine-same (after ys) (y ∷ ys) ys (f .each .2);
       } in
-      subst End (hearing-owes (after ys) g (single y) 64 .receiver ∙ ap machineOf (heard-one (after ys) g y (f .each .0) few (f .each .1))) (heard (fine-end ys g) (single y) 64)
+      subst End (hearing-owes (after ys) g (single y) 64 .receiver ∙ ap machineOf (heard-one (after ys) g y (f .each .0) (f .each .1))) (heard (fine-end ys g) (single y) 64)
 
--- so for each number there is an end that has been told so many; and one that has been told 4,294,967,295 answers 7
-pub histories-end : (n : ℕ) → n ≤ 4294967295 → (t : Told) × Fine t × (length (t .heard) ≡ n) × End (machineOf t) × (n ≡ 4294967295 → AnswersSeven (machineOf t))
-unfolding walk
-histories-end n h =
-    let f = steady n h in
-    let l = length-replicate n zeros in (
-      told n,
-      f,
-      l,
-      fine-end (ofWidth 0) 64 Free (replicate n zeros) f,
-      λ e y g out r o p. p .owed (told n) f refl .given ∙ rw (piece-goes (told n) (single y) (length out) refl, seven (told n) (replicate n zeros) y (length out) (l ∙ e) g),
-    )
+-- so for each number there is an end that has been told so many, and goes on
+module _ (n : ℕ) where
+  abbrev ys : List (Two Received)
+  ys = replicate n zeros
 
-pub full : (rx : Receiver) × End rx × AnswersSeven rx
-full = let (t, f, c, e, s) = histories-end 4294967295 (omega arith) in (machineOf t, e, s refl)
+  taken-as-well : (room : ℕ) → 64 ≤ room → judgeSymbol (told n) ys zeros room ≡ reason 0
+  taken-as-well room h = however-many (told n) ys zeros room zeros-good (goes-on n) (omega (arith, fresh-most (told n) (steady n) zeros))
+
+  more : TakesMore (machineOf (told n))
+  unfolding walk
+  more =
+      record {
+        symbol = zeros;
+        good = zeros-good;
+        is-taken = λ out r o h p.
+            let w = p .owed (told n) (steady n) refl in
+            let e = taken-as-well (length out) h in
+            (w .given ∙ rw (piece-goes (told n) (single zeros) (length out) refl, e), w .taken ∙ rw (piece-goes (told n) (single zeros) (length out) refl, e));
+      }
+
+  pub no-last : (t : Told) × Fine t × (length (t .heard) ≡ n) × End (machineOf t) × TakesMore (machineOf t)
+  no-last = (told n, steady n, length-replicate n zeros, fine-end (ofWidth 0) 64 Free ys (steady n), more)

@@ -35,23 +35,22 @@ module _ (t : Told) (g : GoodStart (t .start)) where
       (subst (λ (zs : List (Two Received)). Is zs l) (sym (reverse-reverse ys)) h))
       ∙ speak-length turnAfter (word (t .accord .u)) (firstTurn (t .start)) l
 
-  -- 5 and 7 have passed
-  module _ (ys : List (Two Received)) (y : Two Received) (room : ℕ) (good : BothInRange y) (few : length ys < 4294967295) (l : List Symbol) (h : Is (y ∷ ys) l) where
+  -- 5 has passed
+  module _ (ys : List (Two Received)) (y : Two Received) (room : ℕ) (good : BothInRange y) (l : List Symbol) (h : Is (y ∷ ys) l) where
     pending-is : pendingAfter t (y ∷ ys) ≡ length (y ∷ ys) - length l
     pending-is = omega (arith, spoken-many (y ∷ ys) l h)
 
     pub six : (judgeSymbol t ys y room .number ≡ 6) ↔ (t .window < length (y ∷ ys) - length l)
     six = (
       λ e. go (judgeSymbol t ys y room) (said-case t ys y room) e,
-      λ k. ap (λ (r : Reason). r .number) (said-is t ys y room (reason 6) (table.SymbolGives.six good few (omega (arith, pending-is)))),
+      λ k. ap (λ (r : Reason). r .number) (said-is t ys y room (reason 6) (table.SymbolGives.six good (omega (arith, pending-is)))),
     )
       where
         go : (r : Reason) → table.SymbolGives t ys y room r → r .number ≡ 6 → t .window < length (y ∷ ys) - length l
         go r (table.SymbolGives.five a) e = absurd (omega arith)
-        go r (table.SymbolGives.seven a b) e = absurd (omega arith)
-        go r (table.SymbolGives.six a b c) e = omega (arith, pending-is)
-        go r (table.SymbolGives.eight a b c d) e = absurd (omega arith)
-        go r (table.SymbolGives.taken a b c d) e = absurd (omega arith)
+        go r (table.SymbolGives.six a b) e = omega (arith, pending-is)
+        go r (table.SymbolGives.eight a b c) e = absurd (omega arith)
+        go r (table.SymbolGives.taken a b c) e = absurd (omega arith)
 
     -- 6 has passed too
     module _ (held : length (y ∷ ys) - length l ≤ t .window) (l₀ : List Symbol) (h₀ : Is ys l₀) where
@@ -61,12 +60,11 @@ module _ (t : Told) (g : GoodStart (t .start)) where
       pub eight : (judgeSymbol t ys y room .number ≡ 8) ↔ (room < length l - length l₀)
       eight = (
         λ e. go (judgeSymbol t ys y room) (said-case t ys y room) e,
-        λ k. ap (λ (r : Reason). r .number) (said-is t ys y room (reason 8) (table.SymbolGives.eight good few (omega (arith, pending-is)) (omega (arith, new-is)))),
+        λ k. ap (λ (r : Reason). r .number) (said-is t ys y room (reason 8) (table.SymbolGives.eight good (omega (arith, pending-is)) (omega (arith, new-is)))),
       )
         where
           go : (r : Reason) → table.SymbolGives t ys y room r → r .number ≡ 8 → room < length l - length l₀
           go r (table.SymbolGives.five a) e = absurd (omega arith)
-          go r (table.SymbolGives.seven a b) e = absurd (omega arith)
-          go r (table.SymbolGives.six a b c) e = absurd (omega arith)
-          go r (table.SymbolGives.eight a b c d) e = omega (arith, new-is)
-          go r (table.SymbolGives.taken a b c d) e = absurd (omega arith)
+          go r (table.SymbolGives.six a b) e = absurd (omega arith)
+          go r (table.SymbolGives.eight a b c) e = omega (arith, new-is)
+          go r (table.SymbolGives.taken a b c) e = absurd (omega arith)

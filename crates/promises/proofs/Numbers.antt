@@ -114,27 +114,23 @@ module _ (ac : Accord) (w : ℕ) (b : Start) where
 module _ (t : Told) (ys : List (Two Received)) (y : Two Received) (room : ℕ) where
   pub said-case : table.SymbolGives t ys y room (judgeSymbol t ys y room)
   unfolding judgeSymbol
-  said-case = go (ltb (faultOf y) 4) (leb 4294967295 (length ys)) (ltb (t .window) (pendingAfter t (y ∷ ys))) (ltb room (length (fresh (speakerOf t) ys y))) refl refl refl refl
+  said-case = go (ltb (faultOf y) 4) (ltb (t .window) (pendingAfter t (y ∷ ys))) (ltb room (length (fresh (speakerOf t) ys y))) refl refl refl
     where
-      go : (a b c d : Bool) → ltb (faultOf y) 4 ≡ a → leb 4294967295 (length ys) ≡ b → ltb (t .window) (pendingAfter t (y ∷ ys)) ≡ c → ltb room (length (fresh (speakerOf t) ys y)) ≡ d →
-          table.SymbolGives t ys y room (cond a (record { number = 5; place = faultOf y }) (cond b (reason 7) (cond c (reason 6) (cond d (reason 8) (reason 0)))))
-      go true b c d e f g h = table.SymbolGives.five (ltb-true (faultOf y) 4 e)
-      go false true c d e f g h = table.SymbolGives.seven (in-range y e) (leb-true 4294967295 (length ys) f)
-      go false false true d e f g h = table.SymbolGives.six (in-range y e) (leb-false 4294967295 (length ys) f) (ltb-true (t .window) (pendingAfter t (y ∷ ys)) g)
-      go false false false true e f g h =
-          table.SymbolGives.eight (in-range y e) (leb-false 4294967295 (length ys) f) (ltb-false (t .window) (pendingAfter t (y ∷ ys)) g) (ltb-true room (length (fresh (speakerOf t) ys y)) h)
-      go false false false false e f g h =
-          table.SymbolGives.taken (in-range y e) (leb-false 4294967295 (length ys) f) (ltb-false (t .window) (pendingAfter t (y ∷ ys)) g) (ltb-false room (length (fresh (speakerOf t) ys y)) h)
+      go : (a c d : Bool) → ltb (faultOf y) 4 ≡ a → ltb (t .window) (pendingAfter t (y ∷ ys)) ≡ c → ltb room (length (fresh (speakerOf t) ys y)) ≡ d →
+          table.SymbolGives t ys y room (cond a (record { number = 5; place = faultOf y }) (cond c (reason 6) (cond d (reason 8) (reason 0))))
+      go true c d e g h = table.SymbolGives.five (ltb-true (faultOf y) 4 e)
+      go false true d e g h = table.SymbolGives.six (in-range y e) (ltb-true (t .window) (pendingAfter t (y ∷ ys)) g)
+      go false false true e g h =
+          table.SymbolGives.eight (in-range y e) (ltb-false (t .window) (pendingAfter t (y ∷ ys)) g) (ltb-true room (length (fresh (speakerOf t) ys y)) h)
+      go false false false e g h =
+          table.SymbolGives.taken (in-range y e) (ltb-false (t .window) (pendingAfter t (y ∷ ys)) g) (ltb-false room (length (fresh (speakerOf t) ys y)) h)
 
   pub said-is : (g : Reason) → table.SymbolGives t ys y room g → judgeSymbol t ys y room ≡ g
   unfolding judgeSymbol
   said-is g (table.SymbolGives.five h) = rw (lt-ltb (faultOf y) 4 h)
-  said-is g (table.SymbolGives.seven r n) = rw (no-fault y r, le-leb 4294967295 (length ys) n)
-  said-is g (table.SymbolGives.six r n p) = rw (no-fault y r, lt-leb 4294967295 (length ys) n, lt-ltb (t .window) (pendingAfter t (y ∷ ys)) p)
-  said-is g (table.SymbolGives.eight r n p q) =
-      rw (no-fault y r, lt-leb 4294967295 (length ys) n, le-ltb (t .window) (pendingAfter t (y ∷ ys)) p, lt-ltb room (length (fresh (speakerOf t) ys y)) q)
-  said-is g (table.SymbolGives.taken r n p q) =
-      rw (no-fault y r, lt-leb 4294967295 (length ys) n, le-ltb (t .window) (pendingAfter t (y ∷ ys)) p, le-ltb room (length (fresh (speakerOf t) ys y)) q)
+  said-is g (table.SymbolGives.six r p) = rw (no-fault y r, lt-ltb (t .window) (pendingAfter t (y ∷ ys)) p)
+  said-is g (table.SymbolGives.eight r p q) = rw (no-fault y r, le-ltb (t .window) (pendingAfter t (y ∷ ys)) p, lt-ltb room (length (fresh (speakerOf t) ys y)) q)
+  said-is g (table.SymbolGives.taken r p q) = rw (no-fault y r, le-ltb (t .window) (pendingAfter t (y ∷ ys)) p, le-ltb room (length (fresh (speakerOf t) ys y)) q)
 
 -- ---- a piece
 
@@ -144,10 +140,9 @@ said-taken t ys y room z = go (judgeSymbol t ys y room) (said-case t ys y room) 
   where
     go : (g : Reason) → table.SymbolGives t ys y room g → g .number ≡ 0 → table.SymbolGives t ys y room (reason 0)
     go g (table.SymbolGives.five a) e = absurd (omega arith)
-    go g (table.SymbolGives.seven a b) e = absurd (omega arith)
-    go g (table.SymbolGives.six a b c) e = absurd (omega arith)
-    go g (table.SymbolGives.eight a b c d) e = absurd (omega arith)
-    go g (table.SymbolGives.taken a b c d) e = table.SymbolGives.taken a b c d
+    go g (table.SymbolGives.six a b) e = absurd (omega arith)
+    go g (table.SymbolGives.eight a b c) e = absurd (omega arith)
+    go g (table.SymbolGives.taken a b c) e = table.SymbolGives.taken a b c
 
 -- how the symbols zs went after ys: all taken, or up to the first that is refused
 data Went (t : Told) (ys zs : List (Two Received)) (room : ℕ) (e : Ended (speakerOf t) (judgeOf t)) : Type 0 where

@@ -68,7 +68,7 @@ module _ (ac : Accord) (w : ℕ) (b : Start) (f : Fine (toldOf ac w b [])) (y : 
   taken-first : (room : ℕ) → judgeSymbol t [] y room ≡ reason 0
   taken-first room =
       said-is t [] y room (reason 0)
-      (table.SymbolGives.taken good (omega arith) (omega (arith, said-nothing, f .some-window))
+      (table.SymbolGives.taken good (omega (arith, said-nothing, f .some-window))
       (omega (arith, said-nothing, length-drop (length (speakerOf t .spoken [])) (speakerOf t .spoken (y ∷ [])))))
 
   pub first-taken : (out : List ℕ) (r : Answer) (o : List ℕ) → Hears (machineOf t) (single y) out r o → (r .taken ≡ 1) × (givenOf (r .why) ≡ reason 0)

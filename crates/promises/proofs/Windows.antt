@@ -25,10 +25,9 @@ use Rattle.promises.proofs.Demand1.{hears}
 
 six-late : (t : Told) (ys : List (Two Received)) (y : Two Received) (room : ℕ) (g : Reason) → table.SymbolGives t ys y room g → g .number ≡ 6 → t .window ≤ length ys
 six-late t ys y room g (table.SymbolGives.five a) e = absurd (omega arith)
-six-late t ys y room g (table.SymbolGives.seven a b) e = absurd (omega arith)
-six-late t ys y room g (table.SymbolGives.six a b c) e = omega arith
-six-late t ys y room g (table.SymbolGives.eight a b c d) e = absurd (omega arith)
-six-late t ys y room g (table.SymbolGives.taken a b c d) e = absurd (omega arith)
+six-late t ys y room g (table.SymbolGives.six a b) e = omega arith
+six-late t ys y room g (table.SymbolGives.eight a b c) e = absurd (omega arith)
+six-late t ys y room g (table.SymbolGives.taken a b c) e = absurd (omega arith)
 
 pub never-six : (t : Told) (ys : List (Two Received)) (y : Two Received) (room : ℕ) → length ys < t .window → judgeSymbol t ys y room .number ≡ 6 → ⊥
 never-six t ys y room h e = omega (arith, six-late t ys y room (judgeSymbol t ys y room) (said-case t ys y room) e)

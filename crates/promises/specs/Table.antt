@@ -1,5 +1,5 @@
 -- 01's table "Numbers given back", door by door: each number with all that is so when it is given, the tests before it in their order
--- among them. Demand 1 says that a number is given exactly then (proofs/Demand1).
+-- among them. Demand 1 says that a number is given exactly then (proofs/Demand1). 7 is given no more (02, Wish 6).
 --   SenderOpens k n         the sender's opening gives n
 --   SendGives s n out k     sending the word n into `out` gives k
 --   ReceiverOpens k w b n   the receiver's opening gives n
@@ -49,13 +49,12 @@ pub data ReceiverOpens (k : Accord) (w : ℕ) (b : Start) : ℕ → Type 0 where
   three : isAccord k ≡ true → 1 ≤ w → w ≤ 64 → (n : ℕ) → b ≡ At n → 15 < n → ReceiverOpens k w b 3
   done : isAccord k ≡ true → 1 ≤ w → w ≤ 64 → startFits b ≡ true → ReceiverOpens k w b 0
 
--- "symbol by symbol 5, 7, 6, 8"
+-- "The order of checks becomes 5, 6, 8" (02, Wish 6)
 pub data SymbolGives (t : Told) (ys : List (Two Received)) (y : Two Received) (room : ℕ) : Reason → Type 0 where
   five : faultOf y < 4 → SymbolGives t ys y room (record { number = 5; place = faultOf y })
-  seven : BothInRange y → 4294967295 ≤ length ys → SymbolGives t ys y room (reason 7)
-  six : BothInRange y → length ys < 4294967295 → t .window < pendingAfter t (y ∷ ys) → SymbolGives t ys y room (reason 6)
-  eight : BothInRange y → length ys < 4294967295 → pendingAfter t (y ∷ ys) ≤ t .window → room < length (fresh (speakerOf t) ys y) → SymbolGives t ys y room (reason 8)
-  taken : BothInRange y → length ys < 4294967295 → pendingAfter t (y ∷ ys) ≤ t .window → length (fresh (speakerOf t) ys y) ≤ room → SymbolGives t ys y room (reason 0)
+  six : BothInRange y → t .window < pendingAfter t (y ∷ ys) → SymbolGives t ys y room (reason 6)
+  eight : BothInRange y → pendingAfter t (y ∷ ys) ≤ t .window → room < length (fresh (speakerOf t) ys y) → SymbolGives t ys y room (reason 8)
+  taken : BothInRange y → pendingAfter t (y ∷ ys) ≤ t .window → length (fresh (speakerOf t) ys y) ≤ room → SymbolGives t ys y room (reason 0)
 
 -- "Earlier symbols of that piece stay taken": the symbols zs, heard after ys, were each answered with 0 in the room left then, and n is the
 -- sum of their words

@@ -1,5 +1,5 @@
 -- The numbers given back, from 01's table "Numbers given back". What is promised speaks of these numbers and never of the code's
--- names for them.
+-- names for them. 4 is the sender's; 7 is given no more, and its number stays unused (02, Wish 6).
 --   Reason        a number of the table, with the place where it is 5
 --   reason n      the number n, which has no place
 --   givenOf why   what the code's reason stands for
@@ -8,7 +8,7 @@ use Prim.Native.Nat.{ℕ}
 use mathlib.Core.Bool.{Bool}
 use lib.Dec.{eqb}
 use Rattle.reasons.specs.declared.Why.{Why}
-use Rattle.reasons.specs.declared.Why.the-variants.{Done, BadWidth, BadWindow, BadStart, BadSample, Full, TooMany, NoRoom, Closed, Uneven}
+use Rattle.reasons.specs.declared.Why.the-variants.{Done, BadWidth, BadWindow, BadStart, BadSample, Full, NoRoom, Closed, Uneven}
 
 pub record Reason : Type 0 where
   pub number : ℕ
@@ -25,7 +25,6 @@ givenOf BadWindow = reason 2
 givenOf BadStart = reason 3
 givenOf (BadSample p) = record { number = 5; place = p }
 givenOf Full = reason 6
-givenOf TooMany = reason 7
 givenOf NoRoom = reason 8
 givenOf Closed = reason 9
 givenOf Uneven = reason 10

@@ -7,13 +7,12 @@ use mathlib.Core.Bool.{Bool, true, false, cond}
 use mathlib.Core.List.{List, [], _∷_}
 use Prim.Native.Nat.{ℕ, _+_, _-_, _≤_, _<_}
 use native.Mathlib.Omega.{arith}
-use borrow.Author.Tests.{eqb-true, ltb-true, ltb-false, leb-false}
-use lib.Dec.{eqb, leb, ltb}
+use borrow.Author.Tests.{eqb-true, ltb-true, ltb-false}
+use lib.Dec.{eqb, ltb}
 use lib.ListN.{length}
 use Rattle.calls.specs.Calls.{walk, after, fresh}
 use Rattle.trellis.specs.Measure.{Two}
 use Rattle.nearest.specs.declared.Received.{Received}
-use Rattle.nearest.specs.Line.{BothInRange}
 use Rattle.machine.specs.declared.Receiver.{Receiver}
 use Rattle.reasons.specs.declared.Why.the-variants.{Done, NoRoom, Closed, Uneven}
 use Rattle.machine.specs.Machine.{shut, lastWords, sound}
@@ -29,7 +28,6 @@ use Rattle.receiver.specs.Doors.{stopped, hearing, finishing}
 use Rattle.told.specs.Owed.{Owed, endedOf, pieceOwed, finishOwed}
 use Rattle.told.proofs.Cases.{finish-cases}
 use Rattle.receiver.specs.Promise.{Hears, Finishes}
-use Rattle.told.proofs.Telling.{in-range}
 use Rattle.pieces.proofs.Room.{running-few}
 use Rattle.pieces.proofs.Symbols.{symbol-judged}
 
@@ -73,19 +71,17 @@ module _ (t : Told) (f : Fine t) where
 
 module _ (t : Told) where
   -- what an 8 means
-  eight : (ys : List (Two Received)) (y : Two Received) (room : ℕ) → judgeSymbol t ys y room .number ≡ 8 → BothInRange y × (length ys < 4294967295) × (room < length (fresh (speakerOf t) ys y))
+  eight : (ys : List (Two Received)) (y : Two Received) (room : ℕ) → judgeSymbol t ys y room .number ≡ 8 → room < length (fresh (speakerOf t) ys y)
   unfolding judgeSymbol
-  eight ys y room =
-      go (ltb (faultOf y) 4) (leb 4294967295 (length ys)) (ltb (t .window) (pendingAfter t (y ∷ ys))) (ltb room (length (fresh (speakerOf t) ys y))) refl refl refl
+  eight ys y room = go (ltb (faultOf y) 4) (ltb (t .window) (pendingAfter t (y ∷ ys))) (ltb room (length (fresh (speakerOf t) ys y))) refl
     where
-      go : (a b c d : Bool) → ltb (faultOf y) 4 ≡ a → leb 4294967295 (length ys) ≡ b → ltb room (length (fresh (speakerOf t) ys y)) ≡ d →
-          cond a (record { number = 5; place = faultOf y }) (cond b (reason 7) (cond c (reason 6) (cond d (reason 8) (reason 0)))) .number ≡ 8 →
-          BothInRange y × (length ys < 4294967295) × (room < length (fresh (speakerOf t) ys y))
-      go true b c d e g h z = absurd (omega arith)
-      go false true c d e g h z = absurd (omega arith)
-      go false false true d e g h z = absurd (omega arith)
-      go false false false false e g h z = absurd (omega arith)
-      go false false false true e g h z = (in-range y e, leb-false 4294967295 (length ys) g, ltb-true room (length (fresh (speakerOf t) ys y)) h)
+      go : (a c d : Bool) → ltb room (length (fresh (speakerOf t) ys y)) ≡ d →
+          cond a (record { number = 5; place = faultOf y }) (cond c (reason 6) (cond d (reason 8) (reason 0))) .number ≡ 8 →
+          room < length (fresh (speakerOf t) ys y)
+      go true c d h z = absurd (omega arith)
+      go false true d h z = absurd (omega arith)
+      go false false false h z = absurd (omega arith)
+      go false false true h z = ltb-true room (length (fresh (speakerOf t) ys y)) h
 
   enough : (zs ys : List (Two Received)) → Fine (withHeard t ys) → (room : ℕ) → length zs + pendingAfter t ys ≤ room → walk (speakerOf t) (judgeOf t) ys zs room .why .number ≡ 8 → ⊥
   unfolding walk
@@ -98,10 +94,10 @@ module _ (t : Told) where
       go : (Fine (withHeard t (y ∷ ys)) → (m : ℕ) → length zs + pendingAfter t (y ∷ ys) ≤ m → walk (speakerOf t) (judgeOf t) (y ∷ ys) zs m .why .number ≡ 8 → ⊥) →
           (b : Bool) → eqb (judgeSymbol t ys y room .number) 0 ≡ b →
           after (speakerOf t) (judgeOf t) ys y (judgeSymbol t ys y room) b (walk (speakerOf t) (judgeOf t) (y ∷ ys) zs left) .why .number ≡ 8 → ⊥
-      go ih false e z = let (r, few, short) = eight ys y room z in omega (arith, fresh-kept (withHeard t ys) f y r few)
+      go ih false e z = omega (arith, eight ys y room z, fresh-kept (withHeard t ys) f y)
       go ih true e z =
           let g : Fine (withHeard t (y ∷ ys)) = symbol-judged t ys f y room .fine (eqb-true (judgeSymbol t ys y room .number) 0 e) in
-          ih g left (omega (arith, fresh-kept (withHeard t ys) f y (g .each .0) (g .few))) z
+          ih g left (omega (arith, fresh-kept (withHeard t ys) f y)) z
 
   pub never-short : Fine t → (p : Piece) (room : ℕ) → length (p .symbols) + pendingAfter t (t .heard) ≤ room → pieceOwed t p room .reason .number ≡ 8 → ⊥
   unfolding pieceOwed

@@ -11,8 +11,8 @@ use pieces::Heard;
 use reasons::Why;
 ghost use mathlib.Core.Path.{_≡_};
 ghost use mathlib.Core.Bool.{_&&_};
-ghost use Rattle.machine.specs.Machine.{core, topSum, soundCore};
-ghost use Rattle.sums.specs.Sums.{allUpTo};
+ghost use Rattle.machine.specs.Machine.{core, soundCore};
+ghost use Rattle.sums.specs.Sums.{limit, allUpTo};
 ghost use Rattle.told.specs.Piece.{pieceWith, markedPiece, pieceOf};
 ghost use Rattle.receiver.specs.Promise.{lentLive, HearsLent, Hears, Finishes};
 
@@ -46,8 +46,8 @@ fn nothing_heard(core: Core, why: Why) -> Heard
 }
 
 // Whether parts that are lent are those of an open receiver in range.
-fn lent_fit(live: bool, core: Core, sums: &[u64; 16], picks: &[u64]) -> bool
-    ensures { λ r. ⌜ r ≡ (lentLive live (now (picks .entry)) && (soundCore core && allUpTo (topSum (core .taken)) (now (sums .entry)))) ⌝ }
+fn lent_fit(live: bool, core: Core, sums: &[u32; 16], picks: &[u64]) -> bool
+    ensures { λ r. ⌜ r ≡ (lentLive live (now (picks .entry)) && (soundCore core && allUpTo limit (now (sums .entry)))) ⌝ }
 {
     if picks.len() != 72 {
         return false;
@@ -64,7 +64,7 @@ pub fn hear_piece_lent(
     marked: bool,
     marks: &[u8],
     samples: &[i32],
-    sums: &mut [u64; 16],
+    sums: &mut [u32; 16],
     planes: &mut [u64; 48],
     picks: &mut [u64],
     out: &mut [u32],
@@ -86,7 +86,7 @@ pub fn hear_lent(
     live: bool,
     core: Core,
     samples: &[i32],
-    sums: &mut [u64; 16],
+    sums: &mut [u32; 16],
     planes: &mut [u64; 48],
     picks: &mut [u64],
     out: &mut [u32],

@@ -70,14 +70,13 @@ module _ (t : Told) (ys : List (Two Received)) (y : Two Received) where
   unfolding judgeSymbol
   roomy room z few =
       rw (le-ltb 65 (length (fresh (speakerOf t) ys y)) few)
-      (go (ltb (faultOf y) 4) (leb 4294967295 (length ys)) (ltb (t .window) (pendingAfter t (y ∷ ys))) (ltb room (length (fresh (speakerOf t) ys y))) z)
+      (go (ltb (faultOf y) 4) (ltb (t .window) (pendingAfter t (y ∷ ys))) (ltb room (length (fresh (speakerOf t) ys y))) z)
     where
-      go : (a b c d : Bool) → cond {A = Reason} a (record { number = 5; place = faultOf y }) (cond b (reason 7) (cond c (reason 6) (cond d (reason 8) (reason 0)))) .number ≡ 0 →
-          cond a (record { number = 5; place = faultOf y }) (cond b (reason 7) (cond c (reason 6) (reason 0))) ≡ reason 0
-      go true b c d e = absurd (omega arith)
-      go false true c d e = absurd (omega arith)
-      go false false true d e = absurd (omega arith)
-      go false false false d e = refl
+      go : (a c d : Bool) → cond {A = Reason} a (record { number = 5; place = faultOf y }) (cond c (reason 6) (cond d (reason 8) (reason 0))) .number ≡ 0 →
+          cond a (record { number = 5; place = faultOf y }) (cond c (reason 6) (reason 0)) ≡ reason 0
+      go true c d e = absurd (omega arith)
+      go false true d e = absurd (omega arith)
+      go false false d e = refl
 
 -- the piece of one symbol
 one-owed : (t : Told) (m : ℕ) (a b c d : ℤ) (y : Two Received) → markedSymbol m a b c d ≡ y → m ≤ 3 → judgeSymbol t (t .heard) y 65 ≡ reason 0 →
@@ -119,7 +118,7 @@ module _ (t : Told) (ys : List (Two Received)) (f : Fine (withHeard t ys)) (y : 
   ws = fresh (speakerOf t) ys y
 
   few : length ws ≤ 64
-  few = fresh-most (withHeard t ys) f y (g .each .0) (g .few)
+  few = fresh-most (withHeard t ys) f y
 
   small : Every (λ w. w < 4294967296) ws
   small = all-small (t .accord .u) (narrow (withHeard t ys) f) ws (fresh-below (withHeard t ys) f ys y)

@@ -29,7 +29,7 @@ openRecords k window start = openEntry k window start ∷ []
 
 -- ---- a piece
 
--- "5, 7, 6, 8, where 8 is an out too short for the symbol's words or bytes too short for its records"
+-- "5, 6, 8, where 8 is an out too short for the symbol's words or bytes too short for its records"
 unfoldable pub judgeRecorded : Told → List (Two Received) → Two Received → ℕ → ℕ → Reason
 judgeRecorded t ys y room bytes =
     let j = judgeSymbol t ys y room in

@@ -57,7 +57,7 @@ pub fn hear_piece_lent(
     marked: bool,
     marks: &[u8],
     samples: &[i32],
-    sums: &mut [u64; 16],
+    sums: &mut [u32; 16],
     planes: &mut [u64; 48],
     picks: &mut [u64],
     out: &mut [u32],

@@ -24,8 +24,8 @@ use Rattle.nearest.specs.Line.{lineDistance}
 use Rattle.nearest.specs.Found.{costOf, weighedOf}
 use Rattle.lists.specs.Tabled.{tabled}
 use Rattle.planes.specs.Planes.{carried, movedWords, movedOf, sameFrom, oldest}
-use Rattle.select.specs.Select.{arrive, winner, sumAt, firstStep, reachedOf, liveOf, followed, stepAt}
-use Rattle.sums.specs.Sums.{endOf, allUpTo}
+use Rattle.select.specs.Select.{arrive, winner, sumAt, firstStep, lowered, reachedOf, liveOf, followed, stepAt}
+use Rattle.sums.specs.Sums.{endOf, lowest, allUpTo}
 use Rattle.picks.specs.Picks.{numbersOf, symbolBy, keptIn}
 use Rattle.told.specs.Told.{faultAt, faultOf}
 use Rattle.machine.specs.Machine.{freshSums, opened, shut, wayFrom, agreedOf, releasedOf, grown, taking, lastSymbols, soundCore, sound}
@@ -91,7 +91,7 @@ computed : (replayed (whole 0) ≡ Agree 1)
     × (replayed (6 ∷ 1 ∷ 64 ∷ 16 ∷ []) ≡ Refused 0 1)
 unfolding feedings stepped settled code.took code.opened code.heard code.finished code.answered code.unlessDue code.left frames.pushed frames.begun
     frames.grown frames.mayGrow frames.capped kindOf byteFits coordinateOf numberOf opening hearing finishing sound soundCore allUpTo opened shut freshSums running symbolAt
-    faultAt faultOf taking agreedOf grown releasedOf oldest sameFrom carried movedWords movedOf tabled followed liveOf reachedOf sumAt stepAt firstStep winner
+    faultAt faultOf taking agreedOf grown releasedOf oldest sameFrom carried movedWords movedOf tabled followed liveOf reachedOf sumAt lowered lowest stepAt firstStep winner
     arrive weighedOf costOf bestI3 typeSum counted gapOf near least lineDistance distance pointOf aPoint coordinates squareOf gridPoint secondLabel before between
     carryI1 carryI2 wayFrom range speak after endOf lastSymbols symbolBy numbersOf keptIn word wordParts packed
 computed = (refl, refl, refl, refl, refl, refl, refl, refl, refl, refl, refl, refl)

@@ -23,7 +23,7 @@ pub struct Fed {
 pub struct Replay {
     pub frame: Frame,
     pub judge: Judge,
-    pub sums: [u64; 16],
+    pub sums: [u32; 16],
     pub planes: [u64; 48],
     pub picks: [u64; 72],
     pub due: [u32; 65],
@@ -68,7 +68,7 @@ fn is_agreed(v: Verdict) -> bool
 fn settle(
     frame: Frame,
     j: Judge,
-    sums: &mut [u64; 16],
+    sums: &mut [u32; 16],
     planes: &mut [u64; 48],
     picks: &mut [u64; 72],
     due: &mut [u32],
@@ -89,7 +89,7 @@ pub fn feed_lent(
     frame: Frame,
     judge: Judge,
     bytes: &[u8],
-    sums: &mut [u64; 16],
+    sums: &mut [u32; 16],
     planes: &mut [u64; 48],
     picks: &mut [u64; 72],
     due: &mut [u32],

@@ -15,7 +15,7 @@ ghost use Rattle.replay_step.specs.Judging.{stateOf, hears, finishes, byRole, t
 ghost use Rattle.replay_take.specs.Lent.{Laid, OpensLent, undue};
 
 // The receiver's lists, anew; a refusal leaves them.
-fn lay(why: Why, rx: Receiver, sums: &mut [u64; 16], planes: &mut [u64; 48], picks: &mut [u64; 72])
+fn lay(why: Why, rx: Receiver, sums: &mut [u32; 16], planes: &mut [u64; 48], picks: &mut [u64; 72])
     ensures { λ _. ⌜ Laid why rx (now (sums .entry)) (now (planes .entry)) (now (picks .entry)) (now (sums .exit)) (now (planes .exit)) (now (picks .exit)) ⌝ }
 {
     if !reasons::is_done(why) {
@@ -34,7 +34,7 @@ fn take_open(
     j: Judge,
     k: u8,
     body: [u8; 9],
-    sums: &mut [u64; 16],
+    sums: &mut [u32; 16],
     planes: &mut [u64; 48],
     picks: &mut [u64; 72],
 ) -> Judge
@@ -80,7 +80,7 @@ fn take_symbol(
     j: Judge,
     k: u8,
     body: [u8; 9],
-    sums: &mut [u64; 16],
+    sums: &mut [u32; 16],
     planes: &mut [u64; 48],
     picks: &mut [u64; 72],
     due: &mut [u32],
@@ -100,7 +100,7 @@ fn take_symbol(
 
 fn take_finish(
     j: Judge,
-    sums: &mut [u64; 16],
+    sums: &mut [u32; 16],
     planes: &mut [u64; 48],
     picks: &mut [u64; 72],
     due: &mut [u32],
@@ -130,7 +130,7 @@ fn take_undue(
     ends: bool,
     k: u8,
     body: [u8; 9],
-    sums: &mut [u64; 16],
+    sums: &mut [u32; 16],
     planes: &mut [u64; 48],
     picks: &mut [u64; 72],
     due: &mut [u32],
@@ -154,7 +154,7 @@ fn take_kind(
     words: u64,
     k: u8,
     body: [u8; 9],
-    sums: &mut [u64; 16],
+    sums: &mut [u32; 16],
     planes: &mut [u64; 48],
     picks: &mut [u64; 72],
     due: &mut [u32],
@@ -181,7 +181,7 @@ pub fn take(
     j: Judge,
     k: u8,
     body: [u8; 9],
-    sums: &mut [u64; 16],
+    sums: &mut [u32; 16],
     planes: &mut [u64; 48],
     picks: &mut [u64; 72],
     due: &mut [u32],

@@ -2,8 +2,9 @@
 --   range-length, range-at     f at the n numbers from a on: how many, and what stands at a place
 --   sixteen-at, sixteen-same   f at the states; two that are equal there
 --   sixteen-most               a bound that also holds past them
-use mathlib.Core.Path.{_≡_, refl, sym, ap, _∙_}
-use mathlib.Core.List.{map}
+--   same-front                 two lists with the same front and the same rest
+use mathlib.Core.Path.{_≡_, refl, sym, ap, ap₂, _∙_}
+use mathlib.Core.List.{List, _∷_, map}
 use Prim.Native.Nat.{ℕ, zero, suc, _+_, _≤_, _<_}
 use native.Mathlib.Omega.{arith}
 use native.Mathlib.Decide.{decLt}
@@ -39,3 +40,6 @@ sixteen-most f m h s = go (decLt s 16)
     go : Dec (s < 16) → getD (sixteen f) s 0 ≤ m
     go (yes g) = omega (arith, sixteen-at f s g, h s)
     go (no g) = omega (arith, List·getD-eq-default (sixteen f) 0 {n = s} (omega arith))
+
+pub same-front : {x y : ℕ} {l m : List ℕ} → x ≡ y → l ≡ m → _≡_ {A = List ℕ} (x ∷ l) (y ∷ m)
+same-front e f = ap₂ (λ (a : ℕ) (k : List ℕ). a ∷ k) e f

@@ -1,17 +1,18 @@
--- Add, compare and select on numbers, as the code does it. A state that no sequence reaches has a sum of `limit` (of the crate `sums`)
--- or more: the sums of reached states stay below it, so an unreached state never wins, and nothing is ever compared with a flag.
+-- Add, compare and select on numbers, as the code does it. A state that no sequence reaches keeps `limit` (of the crate `sums`): what
+-- reached states keep stays below it, with one more cost too, so an unreached state never wins, and nothing is ever compared with a flag.
 --   sixteen f              f at the states 0 to 15
 --   arrive sums costs t k  the sum of the way into t from the k-th state before it
 --   winner                 the place of the least such sum, the first of equals
 --   sumAt                  that sum
 --   fromAt                 the state it comes from
 --   firstStep              the step into t as one number: 8 times that state, and the 4D subset of the step
+--   lowered sums s         what s keeps: its sum less the least one; `limit` where nothing reaches it
 --   rowOf sums s           what the sums say of the state s: its sum, or that nothing reaches it
 --   liveOf sums            the reached states
 --   followed sums s        s, or the first reached state where nothing reaches s
 --   stepAt                 the step into the state that t is or follows
 --   prevIn steps s         the state before s
-use Prim.Native.Nat.{ℕ, _+_, _*_, _/_, _%_}
+use Prim.Native.Nat.{ℕ, _+_, _-_, _*_, _/_, _%_}
 use mathlib.Core.Bool.{cond}
 use mathlib.Core.List.{List, [], _∷_}
 use lib.Dec.{ltb}
@@ -20,6 +21,7 @@ use Rattle.trellis.specs.Best.{Surv, absent, alive}
 use Rattle.trellis.specs.Search.{range}
 use Rattle.trellis.specs.Pick.{least}
 use Rattle.wei.specs.State.{before, between}
+use Rattle.sums.specs.Sums.{lowest}
 pub use Rattle.sums.specs.Sums.{limit}
 
 abbrev pub sixteen : (ℕ → ℕ) → List ℕ
@@ -39,6 +41,10 @@ fromAt sums costs t = before t (winner sums costs t)
 
 unfoldable pub firstStep : List ℕ → List ℕ → ℕ → ℕ
 firstStep sums costs t = 8 * fromAt sums costs t + between (fromAt sums costs t) t
+
+-- "its sum less the smallest sum of any reachable state" (02, Wish 6): the least of all numbers is a reached state's, where one is
+unfoldable pub lowered : List ℕ → ℕ → ℕ
+lowered sums s = cond (ltb (getD sums s 0) limit) (getD sums s 0 - lowest sums) limit
 
 abbrev pub rowOf : List ℕ → ℕ → Surv (Unit {0})
 rowOf sums s = cond (ltb (getD sums s 0) limit) (alive (getD sums s 0) tt) absent

@@ -1,50 +1,35 @@
 -- How the code goes: notions that its inner contracts name and that nobody need believe. What is selected stands in Select.
---   Summable sums costs   a sum and a cost add up
---   wayBy sums costs t k  the way into t from the k-th state before it: its sum and its last step
---   nearerOf a b          the way with the smaller sum, the first of equals
---   wayAt sums costs t    the best way into t
---   sumsOf, stepsOf       the sums and the steps of all sixteen ways, four by four
+--   Summable sums costs    the sums are in range, and so are the costs
+--   stepBy t k             the step into t from the k-th state before it: below 128
+--   keyBy sums costs t k   the way into t from there as one number, 128 times its sum and its step: of two ways the smaller number has
+--                          the smaller sum, and of equal sums the smaller state before
+--   keyAt sums costs t     the least of the four
+--   sumsIn, stepsIn keys   what the keys of sixteen states say
 --   followedStep sums steps s   the step into the state that s is or follows
-use Prim.Native.Nat.{ℕ, _+_, _*_, _^_, _<_}
-use mathlib.Core.Bool.{Bool, true, false}
-use mathlib.Core.List.{List, [], _∷_}
-use lib.Dec.{ltb}
+use Prim.Native.Nat.{ℕ, _+_, _*_, _/_, _%_, _≤_}
+use mathlib.Core.List.{List}
 use lib.ListN.{getD}
 use Rattle.wei.specs.State.{before, between}
-use Rattle.select.specs.declared.ways.Way.{Way}
-use Rattle.select.specs.declared.ways.Four.{Four}
-use Rattle.select.specs.Select.{arrive, sumAt, firstStep, followed}
+use Rattle.select.specs.Select.{limit, sixteen, arrive, sumAt, firstStep, followed}
 
 pub record Summable (sums costs : List ℕ) : Type 0 where
-  pub sums-below : (i : ℕ) → getD sums i 0 < 2 ^ 63
-  pub costs-below : (i : ℕ) → getD costs i 0 < 2 ^ 30
+  pub sums-most : (i : ℕ) → getD sums i 0 ≤ limit
+  pub costs-most : (i : ℕ) → getD costs i 0 ≤ 524288
 
-unfoldable pub wayBy : List ℕ → List ℕ → ℕ → ℕ → Way
-wayBy sums costs t k = record { sum = arrive sums costs t k; step = 8 * before t k + between (before t k) t }
+abbrev pub stepBy : ℕ → ℕ → ℕ
+stepBy t k = 8 * before t k + between (before t k) t
 
-abbrev pub keepWay : Bool → Way → Way → Way
-keepWay true a b = b
-keepWay false a b = a
+unfoldable pub keyBy : List ℕ → List ℕ → ℕ → ℕ → ℕ
+keyBy sums costs t k = 128 * arrive sums costs t k + stepBy t k
 
-abbrev pub nearerOf : Way → Way → Way
-nearerOf a b = keepWay (ltb (b .sum) (a .sum)) a b
+unfoldable pub keyAt : List ℕ → List ℕ → ℕ → ℕ
+keyAt sums costs t = 128 * sumAt sums costs t + firstStep sums costs t
 
-unfoldable pub wayAt : List ℕ → List ℕ → ℕ → Way
-wayAt sums costs t = record { sum = sumAt sums costs t; step = firstStep sums costs t }
+abbrev pub sumsIn : List ℕ → List ℕ
+sumsIn keys = sixteen (λ s. getD keys s 0 / 128)
 
-abbrev pub sumsOf : Four → Four → Four → Four → List ℕ
-sumsOf w x y z =
-    w .a .sum ∷ w .b .sum ∷ w .c .sum ∷ w .d .sum
-    ∷ x .a .sum ∷ x .b .sum ∷ x .c .sum ∷ x .d .sum
-    ∷ y .a .sum ∷ y .b .sum ∷ y .c .sum ∷ y .d .sum
-    ∷ z .a .sum ∷ z .b .sum ∷ z .c .sum ∷ z .d .sum ∷ []
-
-abbrev pub stepsOf : Four → Four → Four → Four → List ℕ
-stepsOf w x y z =
-    w .a .step ∷ w .b .step ∷ w .c .step ∷ w .d .step
-    ∷ x .a .step ∷ x .b .step ∷ x .c .step ∷ x .d .step
-    ∷ y .a .step ∷ y .b .step ∷ y .c .step ∷ y .d .step
-    ∷ z .a .step ∷ z .b .step ∷ z .c .step ∷ z .d .step ∷ []
+abbrev pub stepsIn : List ℕ → List ℕ
+stepsIn keys = sixteen (λ s. getD keys s 0 % 128)
 
 -- ---- following
 

@@ -17,7 +17,9 @@ use Rattle.sender.specs.declared.Sender.{Sender}
 use Rattle.sender.specs.Send as sender
 use Rattle.machine.specs.declared.Receiver.{Receiver}
 use Rattle.machine.specs.Machine as machine
-use Rattle.layout.specs.Layout.{receiverTag, senderLength, receiverLength, picksAt}
+use Rattle.layout.specs.Layout.{receiverTag, senderLength, receiverLength, sumsAt, planesAt, picksAt}
+use Rattle.layout.specs.Halves.{unpacked, packed, AllHalves}
+use Rattle.layout.proofs.Halves.{packed-length, back}
 use Rattle.layout.specs.Tagged.{holds}
 use Rattle.stored.specs.State.{senderIn, wordsOfSender, receiverIn, wordsOfReceiver, readSender, readReceiver, SenderStored, ReceiverStored}
 use Rattle.front.specs.Words.{coreIn, wordsOfCore, FrontStored}
@@ -57,9 +59,9 @@ sender-stored s l f e = record { words = e; reads = ap senderIn e ∙ sender-bac
 
 pub record ReceiverFits (rx : Receiver) : Type 0 where
   pub u : rx .core .accord .u < 2 ^ 32
-  pub taken : rx .core .taken < 2 ^ 32
   pub turn : rx .core .turn < 2 ^ 32
   pub sums : length (rx .sums) ≡ 16
+  pub small : AllHalves (rx .sums)
   pub planes : length (rx .planes) ≡ 48
   pub picks : length (rx .picks) ≡ 72
 
@@ -71,45 +73,45 @@ module _ (rx : Receiver) (rest : List ℕ) where
   head = wordsOfCore (rx .live) (rx .core)
 
   -- the four parts and what stands behind them
-  parts : state ≡ head ++ (rx .sums ++ (rx .planes ++ (rx .picks ++ rest)))
+  parts : state ≡ head ++ (packed (rx .sums) ++ (rx .planes ++ (rx .picks ++ rest)))
   unfolding wordsOfReceiver
   parts = simp append-assoc
 
   module _ (f : ReceiverFits rx) where
     long : receiverLength ≤ length state
     long =
-        rw (parts, length-append head, length-append (rx .sums), length-append (rx .planes), length-append (rx .picks), f .sums, f .planes, f .picks)
+        rw (parts, length-append head, length-append (packed (rx .sums)), length-append (rx .planes), length-append (rx .picks), packed-length (rx .sums), f .planes, f .picks)
         (omega arith)
 
-    sums-at : drop 7 state ≡ rx .sums ++ (rx .planes ++ (rx .picks ++ rest))
+    sums-at : drop sumsAt state ≡ packed (rx .sums) ++ (rx .planes ++ (rx .picks ++ rest))
     sums-at = rw parts
 
-    planes-at : drop 23 state ≡ rx .planes ++ (rx .picks ++ rest)
-    planes-at = sym (drop-drop 16 7 state) ∙ rw sums-at (drop-at (rx .sums) (rx .planes ++ (rx .picks ++ rest)) 16 (f .sums))
+    planes-at : drop planesAt state ≡ rx .planes ++ (rx .picks ++ rest)
+    planes-at = sym (drop-drop 8 sumsAt state) ∙ rw sums-at (drop-at (packed (rx .sums)) (rx .planes ++ (rx .picks ++ rest)) 8 (packed-length (rx .sums)))
 
-    picks-at : drop 71 state ≡ rx .picks ++ rest
-    picks-at = sym (drop-drop 48 23 state) ∙ rw planes-at (drop-at (rx .planes) (rx .picks ++ rest) 48 (f .planes))
+    picks-at : drop picksAt state ≡ rx .picks ++ rest
+    picks-at = sym (drop-drop 48 planesAt state) ∙ rw planes-at (drop-at (rx .planes) (rx .picks ++ rest) 48 (f .planes))
 
     held-yes : rx .live ≡ true → holds receiverLength receiverTag state ≡ true
     unfolding holds wordsOfReceiver
     held-yes e =
         let n = le-leb receiverLength (length state) long in
-        let b = lt-ltb (rx .core .taken) (2 ^ 32) (f .taken) in
         let d = lt-ltb (rx .core .turn) (2 ^ 32) (f .turn) in
-        rw (n, e, b, d)
+        rw (n, e, d)
 
     core-at : coreIn state ≡ rx .core
     unfolding wordsOfReceiver
     core-at =
         let c = rx .core in
-        ap (λ (k : Accord). record { accord = k; window = c .window; taken = c .taken; turn = c .turn; slot = c .slot; pending = c .pending }) (accord-back (c .accord) (f .u))
+        ap (λ (k : Accord). record { accord = k; window = c .window; turn = c .turn; slot = c .slot; pending = c .pending }) (accord-back (c .accord) (f .u))
 
     receiver-live : rx .live ≡ true → receiverIn (wordsOfReceiver rx ++ rest) ≡ rx
     unfolding receiverIn
     receiver-live e =
-        let s : take 16 (drop 7 state) ≡ rx .sums = rw sums-at (take-at (rx .sums) (rx .planes ++ (rx .picks ++ rest)) 16 (f .sums)) in
-        let t : take 48 (drop 23 state) ≡ rx .planes = rw planes-at (take-at (rx .planes) (rx .picks ++ rest) 48 (f .planes)) in
-        let p : take 72 (drop 71 state) ≡ rx .picks = rw picks-at (take-at (rx .picks) rest 72 (f .picks)) in
+        let h : take 8 (drop sumsAt state) ≡ packed (rx .sums) = rw sums-at (take-at (packed (rx .sums)) (rx .planes ++ (rx .picks ++ rest)) 8 (packed-length (rx .sums))) in
+        let s : unpacked (take 8 (drop sumsAt state)) ≡ rx .sums = ap unpacked h ∙ back (rx .sums) (f .small) (f .sums) in
+        let t : take 48 (drop planesAt state) ≡ rx .planes = rw planes-at (take-at (rx .planes) (rx .picks ++ rest) 48 (f .planes)) in
+        let p : take 72 (drop picksAt state) ≡ rx .picks = rw picks-at (take-at (rx .picks) rest 72 (f .picks)) in
         rw (held-yes e) (λ i. record { live = sym e i; core = core-at i; sums = s i; planes = t i; picks = p i })
 
     receiver-shut : rx .live ≡ false → receiverIn (wordsOfReceiver rx ++ rest) ≡ machine.shut
@@ -133,5 +135,5 @@ pub front-stored : (rx : Receiver) (l l₁ : List ℕ) {o : List ℕ} → FrontS
     → length (rx .picks) ≡ 72 → drop picksAt l₁ ≡ rx .picks ++ drop receiverLength l → ReceiverStored rx l o
 unfolding wordsOfReceiver
 front-stored rx l l₁ f sized behind =
-    receiver-stored rx l (record { u = f .u-fits; taken = f .taken-fits; turn = f .turn-fits; sums = f .sums-fit; planes = f .planes-fit; picks = sized })
-    (f .words ∙ rw behind (joined (wordsOfCore (rx .live) (rx .core)) (rx .sums) (rx .planes) (rx .picks) (drop receiverLength l)))
+    receiver-stored rx l (record { u = f .u-fits; turn = f .turn-fits; sums = f .sums-fit; small = f .sums-small; planes = f .planes-fit; picks = sized })
+    (f .words ∙ rw behind (joined (wordsOfCore (rx .live) (rx .core)) (packed (rx .sums)) (rx .planes) (rx .picks) (drop receiverLength l)))

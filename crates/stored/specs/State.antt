@@ -6,7 +6,7 @@
 --   SenderStored, ReceiverStored      a record was put into words, and they read as it
 use Prim.Native.Nat.{ℕ}
 use mathlib.Core.Path.{_≡_}
-use mathlib.Core.Bool.{true, cond}
+use mathlib.Core.Bool.{true, cond, _&&_}
 use mathlib.Core.List.{List, [], _∷_, _++_}
 use lib.ListN.{getD, take, drop}
 use Rattle.accords.specs.Numbers.{accordIn, accordWord}
@@ -15,19 +15,20 @@ use Rattle.machine.specs.Machine as machine
 use Rattle.sender.specs.declared.Sender.{Sender}
 use Rattle.sender.specs.Send as sending
 use Rattle.layout.specs.Layout.{senderTag, receiverTag, senderLength, receiverLength, sumsAt, planesAt, picksAt}
-use Rattle.layout.specs.Tagged.{tagOf, holds}
+use Rattle.layout.specs.Tagged.{tagOf, isHalf, holds}
+use Rattle.layout.specs.Halves.{unpacked, packed}
 use Rattle.front.specs.Words.{coreIn, wordsOfCore}
 
 -- ---- a sender: the tag, map and width, the turn, the state
 
 unfoldable pub senderIn : List ℕ → Sender
 senderIn ws =
-    cond (holds senderLength senderTag ws) (record { live = true; accord = accordIn (getD ws 1 0); turn = getD ws 2 0; state = getD ws 3 0 }) sending.shut
+    cond (holds senderLength senderTag ws && isHalf (getD ws 3 0)) (record { live = true; accord = accordIn (getD ws 1 0); turn = getD ws 2 0; state = getD ws 3 0 }) sending.shut
 
 unfoldable pub wordsOfSender : Sender → List ℕ
 wordsOfSender s = tagOf (s .live) senderTag ∷ accordWord (s .accord) ∷ s .turn ∷ s .state ∷ []
 
--- ---- a receiver: the tag, six numbers, sixteen sums, 48 registers and 72 words of picks
+-- ---- a receiver: the tag, five numbers, sixteen sums, two to a word, 48 registers and 72 words of picks
 
 unfoldable pub receiverIn : List ℕ → Receiver
 receiverIn ws =
@@ -35,14 +36,14 @@ receiverIn ws =
     (record {
       live = true;
       core = coreIn ws;
-      sums = take 16 (drop sumsAt ws);
+      sums = unpacked (take 8 (drop sumsAt ws));
       planes = take 48 (drop planesAt ws);
       picks = take 72 (drop picksAt ws);
     })
     machine.shut
 
 unfoldable pub wordsOfReceiver : Receiver → List ℕ
-wordsOfReceiver rx = wordsOfCore (rx .live) (rx .core) ++ (rx .sums ++ (rx .planes ++ rx .picks))
+wordsOfReceiver rx = wordsOfCore (rx .live) (rx .core) ++ (packed (rx .sums) ++ (rx .planes ++ rx .picks))
 
 -- ---- a record put into words
 

@@ -16,6 +16,9 @@ pub fn load_sender(words: &[u64]) -> Sender
     if !layout::holds_record(words, layout::SENDER_WORDS, layout::SENDER) {
         return sender::closed_sender();
     }
+    if !layout::is_half(words[layout::SENDER_STATE]) {
+        return sender::closed_sender();
+    }
     let accord = accords::accord_in(words[layout::ACCORD]);
     let turn = words[layout::SENDER_TURN] as u32;
     let state = words[layout::SENDER_STATE] as u32;

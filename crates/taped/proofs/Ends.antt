@@ -37,8 +37,7 @@ module _ (rx : Receiver) (y : Two Received) (room : ℕ) where
   unfolding symbolAt taking grown
   symbol-live =
       live-of (ltb (faultOf y) 4) _ _ (rx .live) refl
-      (live-of (eqb (rx .core .taken) 4294967295) _ _ (rx .live) refl
-      (live-of (ltb (rx .core .window) (keptOf rx y)) _ _ (rx .live) refl (live-of (ltb room (agreedOf rx y)) _ _ (rx .live) refl refl)))
+      (live-of (ltb (rx .core .window) (keptOf rx y)) _ _ (rx .live) refl (live-of (ltb room (agreedOf rx y)) _ _ (rx .live) refl refl))
 
   taped-live : (bytes : ℕ) → tapedAt rx y room bytes .receiver .live ≡ rx .live
   unfolding tapedAt

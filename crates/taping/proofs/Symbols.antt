@@ -1,7 +1,7 @@
 -- One symbol: what the machine says where it is lent no more places than the bytes can record, and where they cannot hold its own record.
 --   released-many   as many words are released as are agreed
 --   enough          with bytes for its own record: the machine's own answer with so many places
---   short           with fewer: 5, 7 or 6 as it says it, and else 8
+--   short           with fewer: 5 or 6 as it says it, and else 8
 use mathlib.Core.Path.{_≡_, refl, _∙_}
 use mathlib.Core.Bool.{Bool, true, false, cond, _&&_}
 use mathlib.Core.List.{List}
@@ -21,7 +21,7 @@ use Rattle.machine.specs.Machine.{Outcome, refused, taking, nextSteps, wayFrom,
 use Rattle.machine.proofs.CodeTaken.{agreed-few}
 use Rattle.machine.proofs.Way.{way-length}
 use Rattle.reasons.specs.declared.Why.{Why}
-use Rattle.reasons.specs.declared.Why.the-variants.{Done, BadSample, TooMany, Full, NoRoom}
+use Rattle.reasons.specs.declared.Why.the-variants.{Done, BadSample, Full, NoRoom}
 use Rattle.reasons.specs.Reason.{isDone}
 use Rattle.told.specs.Told.{faultOf}
 use Rattle.pieces.specs.Running.{symbolAt}
@@ -44,24 +44,23 @@ module _ (rx : Receiver) (y : Two Received) where
   abbrev within : ℕ → Outcome → Outcome
   within bytes o = cond (isDone (o .why) && ltb bytes (spaceOf (symbolRecords y (o .words)))) (refused rx NoRoom) o
 
-  -- what is said once it is neither 5, 7 nor 6
+  -- what is said once it is neither 5 nor 6
   abbrev roomy : Bool → Outcome
   roomy b = cond b (refused rx NoRoom) (record { receiver = grown rx y; words = words; why = Done })
 
-  -- both ways of asking, by cases on 5, 7, 6
+  -- both ways of asking, by cases on 5, 6
   by-cases : (P : Outcome → Outcome → Type 0) (room other : ℕ) → ((w : Why) → isDone w ≡ false → P (refused rx w) (refused rx w)) →
       P (roomy (ltb room (agreedOf rx y))) (roomy (ltb other (agreedOf rx y))) → P (symbolAt rx y room) (symbolAt rx y other)
   unfolding symbolAt taking
-  by-cases P room other not rest = go (ltb (faultOf y) 4) (eqb (rx .core .taken) 4294967295) (ltb (rx .core .window) (keptOf rx y))
+  by-cases P room other not rest = go (ltb (faultOf y) 4) (ltb (rx .core .window) (keptOf rx y))
     where
-      full : Bool → Bool → Bool → ℕ → Outcome
-      full a b c m = cond a (refused rx (BadSample (faultOf y))) (cond b (refused rx TooMany) (cond c (refused rx Full) (roomy (ltb m (agreedOf rx y)))))
+      full : Bool → Bool → ℕ → Outcome
+      full a c m = cond a (refused rx (BadSample (faultOf y))) (cond c (refused rx Full) (roomy (ltb m (agreedOf rx y))))
 
-      go : (a b c : Bool) → P (full a b c room) (full a b c other)
-      go true b c = not (BadSample (faultOf y)) refl
-      go false true c = not TooMany refl
-      go false false true = not Full refl
-      go false false false = rest
+      go : (a c : Bool) → P (full a c room) (full a c other)
+      go true c = not (BadSample (faultOf y)) refl
+      go false true = not Full refl
+      go false false = rest
 
   -- what both rooms hold
   abbrev fitting : ℕ → ℕ → ℕ

@@ -3,7 +3,7 @@
 // doors of `recorder` test a record and a piece's length before they come here.
 //
 // A symbol whose records have no room is an 8 and is not taken. The machine itself refuses it: it is lent no more places for words than
-// the bytes can record. Only where the symbol's own record has no room is it heard on a copy, since 5, 7 and 6 come first; that ends the
+// the bytes can record. Only where the symbol's own record has no room is it heard on a copy, since 5 and 6 come first; that ends the
 // call.
 use machine::Core;
 use reasons::Why;
@@ -36,12 +36,12 @@ struct Step {
     why: Why,
 }
 
-// What is said to a symbol whose own record has no room: 5, 7 or 6 first, as a copy of the receiver says it, and else 8.
+// What is said to a symbol whose own record has no room: 5 or 6 first, as a copy of the receiver says it, and else 8.
 fn refusal(
     core: Core,
     mark: u8,
     four: &[i32],
-    sums: &[u64; 16],
+    sums: &[u32; 16],
     planes: &[u64; 48],
     picks: &[u64],
 ) -> Why
@@ -98,7 +98,7 @@ fn record_symbol(
     core: Core,
     mark: u8,
     four: &[i32],
-    sums: &mut [u64; 16],
+    sums: &mut [u32; 16],
     planes: &mut [u64; 48],
     picks: &mut [u64],
     out: &mut [u32],
@@ -146,7 +146,7 @@ pub fn record_symbols(
     marked: bool,
     marks: &[u8],
     samples: &[i32],
-    sums: &mut [u64; 16],
+    sums: &mut [u32; 16],
     planes: &mut [u64; 48],
     picks: &mut [u64],
     out: &mut [u32],

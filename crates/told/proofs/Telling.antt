@@ -9,10 +9,9 @@
 use mathlib.Core.Path.{_≡_, refl}
 use mathlib.Core.Bool.{Bool, true, false, cond}
 use mathlib.Core.List.{List, [], _∷_}
-use Prim.Native.Nat.{ℕ, _+_, _≤_, _<_}
+use Prim.Native.Nat.{ℕ, _+_, _≤_}
 use native.Mathlib.Omega.{arith}
 use lib.Dec.{ltb}
-use lib.ListN.{length}
 use lib.IntN.{natAbs}
 use borrow.Author.Tests.{leb-true, le-leb, ltb-true, ltb-false}
 use Rattle.points.specs.declared.Accord.{Accord}
@@ -33,14 +32,13 @@ module _ (t : Told) (zs : List (Two Received)) where
   unfolding judgeSymbol
   telling-judge ys y room = refl
 
-pub telling-fine : (t : Told) (f : Fine t) (y : Two Received) → BothInRange y → length (t .heard) < 4294967295 → pendingAfter t (y ∷ t .heard) ≤ t .window → Fine (withHeard t (y ∷ t .heard))
-telling-fine t f y r few h =
+pub telling-fine : (t : Told) (f : Fine t) (y : Two Received) → BothInRange y → pendingAfter t (y ∷ t .heard) ≤ t .window → Fine (withHeard t (y ∷ t .heard))
+telling-fine t f y r h =
     record {
       agreed = f .agreed;
       some-window = f .some-window;
       small-window = f .small-window;
       good-start = f .good-start;
-      few = few;
       each = (r, h, fine-same t (y ∷ t .heard) (t .heard) (f .each));
     }
 
@@ -49,7 +47,7 @@ module _ (k : Accord) (window : ℕ) (b : Start) where
   unheard = record { accord = k; window = window; start = b; heard = [] }
 
   pub fine-opened : isAccord k ≡ true → 1 ≤ window → window ≤ 64 → GoodStart b → Fine unheard
-  fine-opened h i l g = record { agreed = h; some-window = i; small-window = l; good-start = g; few = omega arith; each = tt }
+  fine-opened h i l g = record { agreed = h; some-window = i; small-window = l; good-start = g; each = tt }
 
 -- one point
 pub fault-most : (h : Received) → faultAt h ≤ 2

@@ -7,13 +7,13 @@
 --   speakerOf t       what is spoken of a list of symbols, and its answer
 --   pendingAfter t ys how many symbols of ys are taken and not released
 --   faultOf y         the place of the first coordinate out of range, 0 to 3; 4 if there is none. faultAt h, of one point: 0, 1; 2
---   judgeOf t         what is said to a symbol, heard after ys with room for so many words: 5, 7, 6, 8 in this order, or 0
+--   judgeOf t         what is said to a symbol, heard after ys with room for so many words: 5, 6, 8 in this order, or 0
 --   Fine t            a history that calls can tell: no symbol of it was one to refuse
 use Prim.Native.Nat.{ℕ, _+_, _-_, _≤_}
 use mathlib.Core.Path.{_≡_}
 use mathlib.Core.Bool.{true, cond}
 use mathlib.Core.List.{List, [], _∷_}
-use lib.Dec.{eqb, leb, ltb}
+use lib.Dec.{eqb, ltb}
 use lib.ListN.{length}
 use Rattle.wei.specs.Symbol.{Symbol}
 use Rattle.points.specs.declared.Accord.{Accord}
@@ -66,14 +66,13 @@ faultAt Missing = 2
 unfoldable pub faultOf : Two Received → ℕ
 faultOf y = cond (ltb (faultAt (y .first)) 2) (faultAt (y .first)) (2 + faultAt (y .second))
 
--- "symbol by symbol 5, 7, 6, 8"
+-- "The order of checks becomes 5, 6, 8" (02, Wish 6)
 unfoldable pub judgeSymbol : Told → List (Two Received) → Two Received → ℕ → Reason
 judgeSymbol t ys y room =
     cond (ltb (faultOf y) 4) (record { number = 5; place = faultOf y })
-    (cond (leb 4294967295 (length ys)) (reason 7)
     (cond (ltb (t .window) (pendingAfter t (y ∷ ys))) (reason 6)
     (cond (ltb room (length (fresh (speakerOf t) ys y))) (reason 8)
-    (reason 0))))
+    (reason 0)))
 
 abbrev pub judgeOf : (t : Told) → Judge (speakerOf t)
 judgeOf t = record { R = Reason; judge = judgeSymbol t; good = λ r. eqb (r .number) 0; done = reason 0 }
@@ -88,5 +87,4 @@ pub record Fine (t : Told) : Type 0 where
   pub some-window : 1 ≤ t .window
   pub small-window : t .window ≤ 64
   pub good-start : GoodStart (t .start)
-  pub few : length (t .heard) ≤ 4294967295
   pub each : FineList t (t .heard)

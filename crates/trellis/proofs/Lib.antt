@@ -34,6 +34,6 @@ pub mod Words
 pub mod Spoken
 pub mod Line
 pub mod Clean
--- sums fit; rows of 01
-pub mod Bound
+-- how far apart sums are; rows of 01
+pub mod Spread
 pub mod Examples

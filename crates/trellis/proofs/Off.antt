@@ -1,5 +1,6 @@
 -- A row of sums that is the true one less some m, at the states below N: add, compare, select gives the same cells from it, the
--- same states are live in it, it ends in the same state, and the next row is again the true one less m.
+-- same states are live in it, it ends in the same state, the next row is again the true one less m, and a row less k more is the true
+-- one less m + k.
 use mathlib.Core.Path.{_≡_, refl, sym, ap, _∙_}
 use mathlib.Core.Bool.{Bool, true, false}
 use mathlib.Core.List.{List, [], _∷_}
@@ -52,6 +53,10 @@ module _ {P : Type 0} where
   raise-swap : (d m : ℕ) (o : Surv P) → raise d (raise m o) ≡ raise m (raise d o)
   raise-swap d m absent = refl
   raise-swap d m (alive w p) = ap (λ (n : ℕ). alive n p) (let e : w + m + d ≡ w + d + m = omega arith in e)
+
+  raise-twice : (m k : ℕ) (o : Surv P) → raise m (raise k o) ≡ raise (m + k) o
+  raise-twice m k absent = refl
+  raise-twice m k (alive w p) = ap (λ (n : ℕ). alive n p) (let e : w + k + m ≡ w + (m + k) = omega arith in e)
 
   tag-raise : (m t : ℕ) (o : Surv P) → tag t (raise m o) ≡ raise m (tag t o)
   tag-raise m t absent = refl
@@ -126,3 +131,7 @@ module _ {K : Code} (S : Search K) (L : Laws S) where
         ∙ ap bare (acs-surv y ys s)
         ∙ ap bare (acs-off y s h)
         ∙ bare-raise m (acs S y row s)
+
+    -- k less at every reached state
+    pub off-less : (k : ℕ) (low : ℕ → Surv (Unit {0})) → ((s : ℕ) → s < N → row s ≡ raise k (low s)) → Off S ys (m + k) low
+    off-less k low e s h = off s h ∙ ap (raise m) (e s h) ∙ raise-twice m k (low s)

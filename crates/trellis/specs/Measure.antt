@@ -5,7 +5,6 @@
 --   GoodStart b      the start is free or names a state
 --   Measure          what is heard, the distance, and the order of ties
 --   First u M y c    c is the first of its subset for what was heard: by distance, then by the order of ties
---   Near u M Good    what is good lies less than 2^30 from every symbol that can be sent
 --   weiCode u M b    the code of width u
 --   Two P            a received symbol: two received points
 --   cap, counted     the most that a point's distance counts for, and what it counts for
@@ -15,7 +14,7 @@
 --   tieRow P d y c   the numbers by which ties between symbols of a subset are settled, the first first
 --   pairs P d n      the measure of 01 and 02: counted distances, and that order
 use mathlib.Core.Path.{_≡_}
-use Prim.Native.Nat.{ℕ, _+_, _^_, _≤_, _<_, min}
+use Prim.Native.Nat.{ℕ, _+_, _≤_, _<_, min}
 use mathlib.Core.Bool.{Bool, true}
 use mathlib.Core.List.{List, [], _∷_}
 use lib.Dec.{eqb}
@@ -49,10 +48,6 @@ pub record First (u : ℕ) (M : Measure) (y : M .Heard) (c : Symbol) : Type 0 wh
   pub valid : Valid u c
   pub nearest : (d : Symbol) → Valid u d → d .y0 ≡ c .y0 → d .i1 ≡ c .i1 → d .i2 ≡ c .i2 → M .far y c ≤ M .far y d
   pub soonest : (d : Symbol) → Valid u d → d .y0 ≡ c .y0 → d .i1 ≡ c .i1 → d .i2 ≡ c .i2 → M .far y c ≡ M .far y d → M .ties y c d
-
--- "The squared distance of a 4D point from a received symbol stays below 2^30"
-abbrev pub Near : (u : ℕ) (M : Measure) → (M .Heard → Type 0) → Type 0
-Near u M Good = (y : M .Heard) (c : Symbol) → Good y → Valid u c → M .far y c < 2 ^ 30
 
 abbrev pub weiCode : ℕ → Measure → Start → Code
 weiCode u M b =

@@ -1,4 +1,4 @@
--- `core_of`: six numbers, of which two must fit 32 bits; the map and the width are one.
+-- `core_of`: five numbers, of which one must fit 32 bits; the map and the width are one.
 use Prim.Native.Nat.{ℕ, _≤_, _<_}
 use native.Mathlib.Omega.{arith}
 use lib.ListN.{getD}
@@ -9,7 +9,7 @@ use borrow.Author.Needs.{needs}
 use Rattle.course_numbers.proofs.core_of.Statement.{statement}
 use Rattle.course_numbers.proofs.core_of.Tie as tie
 
-known : (s : tie.Start) (i : ℕ) → i < 19 → getD (s .args .t1) i 0 ≤ getD limits i 0
+known : (s : tie.Start) (i : ℕ) → i < 18 → getD (s .args .t1) i 0 ≤ getD limits i 0
 known s i h = within-at limits (s .args .t1) (s .pre) i h
 
 array-read-accord-in : tie.Need-array-read-accord-in
@@ -30,14 +30,8 @@ cast-t14 c = let h : getD (c .before .args .t1) 14 0 ≤ 4294967295 = known (c .
 array-read-t17 : tie.Need-array-read-t17
 array-read-t17 c = search needs
 
-cast-t18 : tie.Need-cast-t18
-cast-t18 c = let h : getD (c .before .args .t1) 15 0 ≤ 4294967295 = known (c .before) 15 (omega arith) in omega (arith, h)
-
 array-read-t21 : tie.Need-array-read-t21
 array-read-t21 c = search needs
-
-array-read-t25 : tie.Need-array-read-t25
-array-read-t25 c = search needs
 
 returns : tie.Need-returns
 unfolding coreIn
@@ -53,7 +47,5 @@ core-of-spec =
     array-read-t13
     cast-t14
     array-read-t17
-    cast-t18
     array-read-t21
-    array-read-t25
     returns)

@@ -9,7 +9,7 @@ use Rattle.course_numbers.specs.Numbers.{frameIn}
 use Rattle.course_numbers.proofs.frame_of.Statement.{statement}
 use Rattle.course_numbers.proofs.frame_of.Tie as tie
 
-known : (s : tie.Start) (i : ℕ) → i < 19 → getD (s .args .t1) i 0 ≤ getD limits i 0
+known : (s : tie.Start) (i : ℕ) → i < 18 → getD (s .args .t1) i 0 ≤ getD limits i 0
 known s i h = within-at limits (s .args .t1) (s .pre) i h
 
 array-read-stage-of : tie.Need-array-read-stage-of

@@ -9,20 +9,20 @@ use Rattle.course_numbers.specs.Numbers.{judgeIn}
 use Rattle.course_numbers.proofs.judge_of.Statement.{statement}
 use Rattle.course_numbers.proofs.judge_of.Tie as tie
 
-known : (s : tie.Start) (i : ℕ) → i < 19 → getD (s .args .t1) i 0 ≤ getD limits i 0
+known : (s : tie.Start) (i : ℕ) → i < 18 → getD (s .args .t1) i 0 ≤ getD limits i 0
 known s i h = within-at limits (s .args .t1) (s .pre) i h
 
 array-read-g : tie.Need-array-read-g
 array-read-g c = search needs
 
 cast-g : tie.Need-cast-g
-cast-g c = let h : getD (c .args .t1) 17 0 ≤ 4294967295 = known c 17 (omega arith) in omega (arith, h)
+cast-g c = let h : getD (c .args .t1) 16 0 ≤ 4294967295 = known c 16 (omega arith) in omega (arith, h)
 
 array-read-h : tie.Need-array-read-h
 array-read-h c = search needs
 
 cast-h : tie.Need-cast-h
-cast-h c = let h : getD (c .args .t1) 18 0 ≤ 4294967295 = known c 18 (omega arith) in omega (arith, h)
+cast-h c = let h : getD (c .args .t1) 17 0 ≤ 4294967295 = known c 17 (omega arith) in omega (arith, h)
 
 array-read-t7 : tie.Need-array-read-t7
 array-read-t7 c = search needs

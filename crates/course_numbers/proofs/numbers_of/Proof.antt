@@ -86,23 +86,20 @@ accord-word-requires c κs = search needs
 cast-t32 : tie.Need-cast-t32
 cast-t32 c = search needs
 
-cast-t33 : tie.Need-cast-t33
-cast-t33 c = search needs
-
 verdict-number-requires : tie.Need-verdict-number-requires
 verdict-number-requires c κs = search needs
 
 got-of-requires : tie.Need-got-of-requires
 got-of-requires c κs = search needs
 
-cast-t36 : tie.Need-cast-t36
-cast-t36 c = search needs
+cast-t35 : tie.Need-cast-t35
+cast-t35 c = search needs
 
 wanted-of-requires : tie.Need-wanted-of-requires
 wanted-of-requires c κs = search needs
 
-cast-t38 : tie.Need-cast-t38
-cast-t38 c = search needs
+cast-t37 : tie.Need-cast-t37
+cast-t37 c = search needs
 
 count-of-requires : tie.Need-count-of-requires
 count-of-requires c κs = search needs
@@ -110,9 +107,8 @@ count-of-requires c κs = search needs
 returns : tie.Need-returns
 unfolding numbersOf
 returns c =
-    let d = c .before .before .before .before .before .before .before in
-    let stage = d .before .before .before .before .before .before .before .before .before .before .before .before in
-    let s = stage .before .before .before .before in
+    let d = c .before .before .before .before .before .before in
+    let s = d .before .before .before .before .before .before .before .before .before .before .before .before .before .before .before .before in
     let f = s .args .f in
     let j = s .args .j in
     let bytes : Bytes (f .body) = (
@@ -128,11 +124,11 @@ returns c =
     ) in
     let kind = d .before .before .before .before .before .before .before .before .before .before .struct-known .given in
     let none : within limits (numbersOf f j) ≡ true = fit f j (omega (arith, kind)) bytes (wide s)
-    (omega (arith, c .before .before .before .before .before .struct-known2 .given)) (omega (arith, c .before .before .before .before .struct-known3 .given))
+    (omega (arith, c .before .before .before .before .struct-known2 .given))
     (omega (arith, c .before .before .got-of .ensures, c .before .before .got-of .ok)) (omega (arith, c .before .wanted-of .ensures, c .before .wanted-of .ok)) in
     let k = j .core in
     let same : _ ≡ numbersOf f j = λ i.
-    stage .stage-number .ensures i ∷
+    d .before .before .before .before .before .before .before .before .before .before .before .before .stage-number .ensures i ∷
     d .before .before .before .before .before .before .before .before .before .before .before .phase-number .ensures i ∷
     f .kind ∷
     d .before .before .before .before .before .before .before .before .before .byte .ensures i ∷
@@ -144,9 +140,8 @@ returns c =
     d .before .before .before .byte7 .ensures i ∷
     d .before .before .byte8 .ensures i ∷
     d .before .byte9 .ensures i ∷
-    c .before .before .before .before .before .before .before .live-number .ensures i ∷
-    c .before .before .before .before .before .before .accord-word .ensures i ∷
-    k .taken ∷
+    c .before .before .before .before .before .before .live-number .ensures i ∷
+    c .before .before .before .before .before .accord-word .ensures i ∷
     k .turn ∷
     c .before .before .before .verdict-number .ensures i ∷
     c .before .before .got-of .ensures i ∷
@@ -192,11 +187,10 @@ numbers-of-spec =
     live-number-requires
     accord-word-requires
     cast-t32
-    cast-t33
     verdict-number-requires
     got-of-requires
-    cast-t36
+    cast-t35
     wanted-of-requires
-    cast-t38
+    cast-t37
     count-of-requires
     returns)

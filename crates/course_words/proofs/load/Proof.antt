@@ -6,6 +6,7 @@ use native.Mathlib.Omega.{arith}
 use denote.Ref.{now}
 use lib.ListN.{length, drop, length-drop}
 use lib.Seq.{length-take-le}
+use Rattle.layout.specs.Halves.{unpacked}
 use Rattle.replay.specs.Course.{courseOf}
 use Rattle.course_layout.specs.Table.{limits, within}
 use Rattle.course_layout.proofs.Limits.{all-small}
@@ -16,18 +17,11 @@ use borrow.Author.Needs.{needs}
 use Rattle.course_words.proofs.load.Statement.{statement}
 use Rattle.course_words.proofs.load.Tie as tie
 
--- the ways back, each named after the place that it leads to
-abbrev to-numbers : tie.After-get4 → tie.After-get
-to-numbers c = c .before .before .before .before .before .before .before .before .before
-
-abbrev to-start : tie.After-get → tie.Start
-to-start c = c .before .before .before
-
 known : (s : tie.Start) → Holding (now (s .args .words))
 known s = holding (now (s .args .words)) (s .pre)
 
 all-due : (s : tie.Start) → length (dueIn (now (s .args .words))) ≡ 65
-all-due s = length-take-le 65 (drop 166 (now (s .args .words))) (rw length-drop (omega (arith, known s)))
+all-due s = length-take-le 65 (drop 157 (now (s .args .words))) (rw length-drop (omega (arith, known s)))
 
 slice-aggregate-get : tie.Need-slice-aggregate-get
 slice-aggregate-get c = search needs
@@ -60,40 +54,44 @@ part-narrow-start : tie.Need-part-narrow-start
 part-narrow-start c = search needs
 
 part-narrow-end : tie.Need-part-narrow-end
-part-narrow-end c = omega (arith, known (to-start (to-numbers (c .before))))
+part-narrow-end c = omega (arith, known (c .before .before .before .before .before .before .before .before .before .before .before .before .before))
 
 slice-aggregate-narrow : tie.Need-slice-aggregate-narrow
 slice-aggregate-narrow c = search needs
 
 narrow-requires : tie.Need-narrow-requires
 narrow-requires c κs =
-    let s = to-start (to-numbers (c .before .before .before)) in
+    let s = c .before .before .before .before .before .before .before .before .before .before .before .before .before .before .before in
     let n = all-due s in
     (all-small 65 (dueIn (now (s .args .words))) (omega arith) (known s .due), omega arith)
 
 frame-of-requires : tie.Need-frame-of-requires
 frame-of-requires c κs =
-    let g = to-numbers (c .before .before .before .before .before) in
-    ap (λ (l : List ℕ). within limits l) (g .get .ensures) ∙ known (to-start g) .numbers
+    let g = c .before .before .before .before .before .before .before .before .before .before .before .before .before .before in
+    ap (λ (l : List ℕ). within limits l) (g .get .ensures) ∙ known (g .before .before .before) .numbers
 
 judge-of-requires : tie.Need-judge-of-requires
 judge-of-requires c κs =
-    let g = to-numbers (c .before .before .before .before .before .before) in
-    ap (λ (l : List ℕ). within limits l) (g .get .ensures) ∙ known (to-start g) .numbers
+    let g = c .before .before .before .before .before .before .before .before .before .before .before .before .before .before .before in
+    ap (λ (l : List ℕ). within limits l) (g .get .ensures) ∙ known (g .before .before .before) .numbers
+
+unpack-requires : tie.Need-unpack-requires
+unpack-requires c κs = search needs
 
 returns : tie.Need-returns
 unfolding courseIn
 returns c =
-    let picks = c .before .before .before .before .before .before .before in
+    let picks = c .before .before .before .before .before .before .before .before in
     let planes = picks .before .before .before in
-    let sums = planes .before .before .before in
-    let numbers = sums .before .before .before in
-    let s = to-start numbers in
+    let halves = planes .before .before .before in
+    let numbers = halves .before .before .before in
+    let s = numbers .before .before .before in
     let ns = numbers .get .ensures in
-    let frame = c .before .frame-of .ensures ∙ ap frameIn ns in
-    let judge = c .judge-of .ensures ∙ ap judgeIn ns in
-    let due = filled (dueIn (now (s .args .words))) _ (all-due s) (c .before .before .before .narrow .ensures) in
-    λ i. courseOf (frame i) (judge i) (sums .get2 .ensures i) (planes .get3 .ensures i) (picks .get4 .ensures i) (due i)
+    let frame = c .before .before .frame-of .ensures ∙ ap frameIn ns in
+    let judge = c .before .judge-of .ensures ∙ ap judgeIn ns in
+    let sums = c .unpack .ensures ∙ ap unpacked (halves .get2 .ensures) in
+    let due = filled (dueIn (now (s .args .words))) _ (all-due s) (c .before .before .before .before .narrow .ensures) in
+    λ i. courseOf (frame i) (judge i) (sums i) (planes .get3 .ensures i) (picks .get4 .ensures i) (due i)
 
 pub load-spec : {M : Type 1} → statement M
 load-spec =
@@ -114,4 +112,5 @@ load-spec =
     narrow-requires
     frame-of-requires
     judge-of-requires
+    unpack-requires
     returns)

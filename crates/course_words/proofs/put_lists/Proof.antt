@@ -1,15 +1,26 @@
 -- `put_lists`: one list behind the other.
-use mathlib.Core.Path.{_≡_}
+use mathlib.Core.Path.{_≡_, ap, _∙_}
+use mathlib.Core.List.{List, _++_}
+use Prim.Native.Nat.{ℕ}
 use native.Mathlib.Omega.{arith}
 use denote.Ref.{now}
-use lib.ListN.{length}
+use lib.ListN.{length, take, drop}
+use Rattle.layout.proofs.Halves.{packed-length}
+use Rattle.course_layout.specs.Table.{sumsAt, dueAt}
 use Rattle.course_words.proofs.Back.{lists-put}
 use borrow.Author.Needs.{needs}
 use Rattle.course_words.proofs.put_lists.Statement.{statement}
 use Rattle.course_words.proofs.put_lists.Tie as tie
 
-sized : (s : tie.Start) → (length (s .args .t1) ≡ 16) × (length (s .args .t2) ≡ 48) × (length (s .args .t3) ≡ 72)
+sized : (s : tie.Start) → (length (s .args .sums) ≡ 16) × (length (s .args .t2) ≡ 48) × (length (s .args .t3) ≡ 72)
 sized s = (search needs, search needs, search needs)
+
+pack-requires : tie.Need-pack-requires
+pack-requires c κs = search needs
+
+-- eight words
+words-many : (p : tie.After-pack) → length (p .pack .result) ≡ 8
+words-many p = ap length (p .pack .ensures .0) ∙ packed-length (p .before .before .args .sums)
 
 slice-aggregate-put : tie.Need-slice-aggregate-put
 slice-aggregate-put c = search needs
@@ -34,15 +45,19 @@ same-length c = search needs
 
 returns : tie.Need-returns
 returns c =
-    let second = c .before .before .before .before .before .before .before in
+    let third = c .before .before in
+    let second = third .before .before .before .before .before in
     let first = second .before .before .before .before .before in
-    let s = first .before .before .before .before in
+    let p = first .before .before .before in
+    let s = p .before .before in
     let l = now (s .args .words) in
     let (a, b, d) = sized s in
+    let put = lists-put l (p .pack .result) (s .args .t2) (s .args .t3) (omega (arith, s .pre)) (words-many p) b d (first .put .ensures .is) (second .put2 .ensures .is) (third .put3 .ensures .is) in
     record {
-      is = lists-put l (s .args .t1) (s .args .t2) (s .args .t3) (omega (arith, s .pre)) a b d (first .put .ensures .is) (second .put2 .ensures .is) (c .before .before .put3 .ensures .is);
+      is = put ∙ ap (λ (m : List ℕ). take sumsAt l ++ (m ++ (s .args .t2 ++ (s .args .t3 ++ drop dueAt l)))) (p .pack .ensures .0);
       same = same-length c;
       sums-fit = a;
+      sums-small = p .pack .ensures .1;
       planes-fit = b;
       picks-fit = d;
     }
@@ -51,6 +66,7 @@ pub put-lists-spec : {M : Type 1} → statement M
 put-lists-spec =
     tie.close
     (tie.spec
+    pack-requires
     slice-aggregate-put
     put-requires
     slice-aggregate-put-2

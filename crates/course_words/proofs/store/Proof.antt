@@ -75,7 +75,18 @@ returns c =
     let ns = tag .before .before .before .numbers-of .ensures in
     let due = c .before .before .put-due .ensures in
     let within-all = ap (λ (l : List ℕ). within limits l) (sym (ns .0)) ∙ ns .1 in
-    let fits : CourseFits (replayOf r) = record { numbers = within-all; nine = n .0; sums = n .1; planes = n .2; picks = n .3; due = n .4; small = due .1; width = wide s } in
+    let fits : CourseFits (replayOf r) =
+    record {
+      numbers = within-all;
+      nine = n .0;
+      sums = n .1;
+      halves = lists .put-lists .ensures .sums-small;
+      planes = n .2;
+      picks = n .3;
+      due = n .4;
+      small = due .1;
+      width = wide s;
+    } in
     all-put (replayOf r) (now (s .args .words)) (s .pre) fits (tag .put .ensures .is) (ns .0) (numbers .put2 .ensures .is) (lists .put-lists .ensures .is) (due .0 .is)
 
 pub store-spec : {M : Type 1} → statement M

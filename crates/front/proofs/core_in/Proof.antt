@@ -22,30 +22,24 @@ accord-in-requires c κs = search needs
 shared-slice-read-window : tie.Need-shared-slice-read-window
 shared-slice-read-window c = let h = known (c .before .before .before .before) in omega arith
 
-shared-slice-read-taken : tie.Need-shared-slice-read-taken
-shared-slice-read-taken c = let h = known (c .before .before .before .before .before) in omega arith
-
-cast-taken : tie.Need-cast-taken
-cast-taken c = let h = known (c .before .before .before .before .before) in omega arith
-
 shared-slice-read-turn : tie.Need-shared-slice-read-turn
-shared-slice-read-turn c = let h = known (c .before .before .before .before .before .before) in omega arith
+shared-slice-read-turn c = let h = known (c .before .before .before .before .before) in omega arith
 
 cast-turn : tie.Need-cast-turn
-cast-turn c = let h = known (c .before .before .before .before .before .before) in omega arith
+cast-turn c = let h = known (c .before .before .before .before .before) in omega arith
 
 shared-slice-read-slot : tie.Need-shared-slice-read-slot
-shared-slice-read-slot c = let h = known (c .before .before .before .before .before .before .before) in omega arith
+shared-slice-read-slot c = let h = known (c .before .before .before .before .before .before) in omega arith
 
 shared-slice-read-pending : tie.Need-shared-slice-read-pending
-shared-slice-read-pending c = let h = known (c .before .before .before .before .before .before .before .before) in omega arith
+shared-slice-read-pending c = let h = known (c .before .before .before .before .before .before .before) in omega arith
 
 returns : tie.Need-returns
 returns c =
-    let s = c .before .before .before .before .before .before .before .before in
+    let s = c .before .before .before .before .before .before .before in
     let ws = now (s .args .words) in
-    ap (λ (k : Accord). record { accord = k; window = getD ws 4 0; taken = getD ws 2 0; turn = getD ws 3 0; slot = getD ws 5 0; pending = getD ws 6 0 })
-    (c .before .before .before .before .before .accord-in .ensures)
+    ap (λ (k : Accord). record { accord = k; window = getD ws 3 0; turn = getD ws 2 0; slot = getD ws 4 0; pending = getD ws 5 0 })
+    (c .before .before .before .before .accord-in .ensures)
 
 pub core-in-spec : {M : Type 1} → statement M
 core-in-spec =
@@ -54,8 +48,6 @@ core-in-spec =
     shared-slice-read-accord-in
     accord-in-requires
     shared-slice-read-window
-    shared-slice-read-taken
-    cast-taken
     shared-slice-read-turn
     cast-turn
     shared-slice-read-slot

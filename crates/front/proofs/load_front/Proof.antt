@@ -1,10 +1,12 @@
 -- `load_front`: two parts from their places, and the numbers.
+use mathlib.Core.Path.{ap, _∙_}
 use Prim.Native.Nat.{ℕ}
 use native.Mathlib.Omega.{arith}
 use denote.Ref.{now}
 use borrow.Author.Needs.{needs}
 use lib.ListN.{length-replicate}
 use Rattle.layout.specs.Layout.{receiverLength, receiverTag}
+use Rattle.layout.specs.Halves.{unpacked}
 use Rattle.layout.proofs.Held.{Held, held}
 use Rattle.layout.proofs.Lent.{part-loaded}
 use Rattle.front.proofs.load_front.Statement.{statement}
@@ -25,11 +27,11 @@ part-copy-end c = let h = known (c .before) in omega arith
 sub-copy-2 : tie.Need-sub-copy-2
 sub-copy-2 c = search needs
 
-part-sums-start : tie.Need-part-sums-start
-part-sums-start c = search needs
+part-halves-start : tie.Need-part-halves-start
+part-halves-start c = search needs
 
-part-sums-end : tie.Need-part-sums-end
-part-sums-end c = search needs
+part-halves-end : tie.Need-part-halves-end
+part-halves-end c = search needs
 
 copy-requires : tie.Need-copy-requires
 copy-requires c κs = search needs
@@ -58,15 +60,19 @@ copy-requires-2 c κs = search needs
 core-in-requires : tie.Need-core-in-requires
 core-in-requires c κs = search needs
 
+unpack-requires : tie.Need-unpack-requires
+unpack-requires c κs = search needs
+
 returns : tie.Need-returns
 returns c =
-    let first = c .before .before .before .before .before .before in
-    let s = c .before .before .before .before .before .before .before .before .before .before in
+    let first = c .before .before .before .before .before .before .before in
+    let s = first .before .before .before .before in
     let ws = now (s .args .words) in
     let h = known s in
-    let a = part-loaded ws _ _ 7 16 (omega arith) (length-replicate {A = ℕ} 16 0) (first .copy .ensures) in
-    let b = part-loaded ws _ _ 23 48 (omega arith) (length-replicate {A = ℕ} 48 0) (c .before .before .copy2 .ensures) in
-    λ i. record { core = c .core-in .ensures i; sums = a i; planes = b i }
+    let a = part-loaded ws _ _ 6 8 (omega arith) (length-replicate {A = ℕ} 8 0) (first .copy .ensures) in
+    let b = part-loaded ws _ _ 14 48 (omega arith) (length-replicate {A = ℕ} 48 0) (c .before .before .before .copy2 .ensures) in
+    let u = c .unpack .ensures ∙ ap unpacked a in
+    λ i. record { core = c .before .core-in .ensures i; sums = u i; planes = b i }
 
 pub load-front-spec : {M : Type 1} → statement M
 load-front-spec =
@@ -76,8 +82,8 @@ load-front-spec =
     part-copy-start
     part-copy-end
     sub-copy-2
-    part-sums-start
-    part-sums-end
+    part-halves-start
+    part-halves-end
     copy-requires
     sub-copy-3
     part-copy-start-2
@@ -87,4 +93,5 @@ load-front-spec =
     part-planes-end
     copy-requires-2
     core-in-requires
+    unpack-requires
     returns)

@@ -1,4 +1,4 @@
--- `store_core`: seven stores.
+-- `store_core`: six stores.
 use native.Mathlib.Omega.{arith}
 use denote.Ref.{now}
 use lib.ListN.{length-set}
@@ -26,9 +26,6 @@ cast-words c = search needs
 slice-write-words-3 : tie.Need-slice-write-words-3
 slice-write-words-3 c = simp length-set (omega arith)
 
-cast-words-2 : tie.Need-cast-words-2
-cast-words-2 c = search needs
-
 slice-write-words-4 : tie.Need-slice-write-words-4
 slice-write-words-4 c = simp length-set (omega arith)
 
@@ -38,9 +35,6 @@ slice-write-words-5 c = simp length-set (omega arith)
 slice-write-words-6 : tie.Need-slice-write-words-6
 slice-write-words-6 c = simp length-set (omega arith)
 
-slice-write-words-7 : tie.Need-slice-write-words-7
-slice-write-words-7 c = simp length-set (omega arith)
-
 same-length : tie.Need-same-length
 same-length c = search needs
 
@@ -48,10 +42,9 @@ returns : tie.Need-returns
 returns c =
     record {
       words =
-          let s = c .before .before .before .before .before .before in
-          rw (c .before .before .before .before .tag-of .ensures, c .before .before .accord-word .ensures) (stored (wordsOfCore (s .args .live) (s .args .c)) (now (s .args .words)) (s .pre));
+          let s = c .before .before .before .before .before in
+          rw (c .before .before .before .tag-of .ensures, c .before .accord-word .ensures) (stored (wordsOfCore (s .args .live) (s .args .c)) (now (s .args .words)) (s .pre));
       u-fits = search needs;
-      taken-fits = search needs;
       turn-fits = search needs;
     }
 
@@ -65,10 +58,8 @@ store-core-spec =
     slice-write-words-2
     cast-words
     slice-write-words-3
-    cast-words-2
     slice-write-words-4
     slice-write-words-5
     slice-write-words-6
-    slice-write-words-7
     same-length
     returns)

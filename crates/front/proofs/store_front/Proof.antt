@@ -7,16 +7,21 @@ use denote.Ref.{now}
 use borrow.Author.Needs.{needs}
 use lib.ListN.{length, drop, length-append}
 use lib.Seq.{take-all}
+use Rattle.layout.specs.Halves.{packed}
 use Rattle.layout.proofs.Lent.{placed, all-copied}
+use Rattle.layout.proofs.Halves.{packed-length}
 use Rattle.front.specs.Words.{wordsOfCore}
 use Rattle.front.proofs.store_front.Statement.{statement}
 use Rattle.front.proofs.store_front.Tie as tie
 
-sized : (s : tie.Start) → (length (s .args .t3) ≡ 16) × (length (s .args .t4) ≡ 48)
+sized : (s : tie.Start) → (length (s .args .sums) ≡ 16) × (length (s .args .t4) ≡ 48)
 sized s = (search needs, search needs)
 
 store-core-requires : tie.Need-store-core-requires
 store-core-requires c κs = search needs
+
+pack-requires : tie.Need-pack-requires
+pack-requires c κs = search needs
 
 sub-copy : tie.Need-sub-copy
 sub-copy c = search needs
@@ -66,22 +71,27 @@ same-length c = search needs
 returns : tie.Need-returns
 returns c =
     let first = c .before .before .before .before .before .before .before .before in
-    let core = first .before .before .before .before .before .before .store-core .ensures in
-    let s = first .before .before .before .before .before .before .before .before .before in
+    let p = first .before .before .before .before in
+    let core = p .before .before .before .store-core .ensures in
+    let s = p .before .before .before .before .before .before in
     let a = s .args in
     let l = now (a .words) in
     let (n₁, n₂) = sized s in
     let head = wordsOfCore (a .live) (a .c) in
-    let two = head ++ a .t3 in
-    let m₂ : length two ≡ 23 = rw length-append (omega arith) in
-    let e₂ = placed l head 7 refl (core .words) (a .t3) 16 (all-copied (a .t3) _ _ 16 (take-all 16 (a .t3) (omega arith)) n₁ (first .copy .ensures)) in
-    let e₃ = placed l two 23 m₂ e₂ (a .t4) 48 (all-copied (a .t4) _ _ 48 (take-all 48 (a .t4) (omega arith)) n₂ (c .before .before .copy2 .ensures)) in
+    let halves = packed (a .sums) in
+    let two = head ++ halves in
+    let n₀ = packed-length (a .sums) in
+    let m₂ : length two ≡ 14 = rw length-append (omega arith) in
+    let is = p .pack .ensures .0 in
+    let e₁ = take-all 8 (p .pack .result) (omega (arith, ap length is)) ∙ is in
+    let e₂ = placed l head 6 refl (core .words) halves 8 (all-copied halves _ _ 8 e₁ n₀ (first .copy .ensures)) in
+    let e₃ = placed l two 14 m₂ e₂ (a .t4) 48 (all-copied (a .t4) _ _ 48 (take-all 48 (a .t4) (omega arith)) n₂ (c .before .before .copy2 .ensures)) in
     record {
-      words = e₃ ∙ ap (λ (m : List ℕ). m ++ drop 71 l) (append-assoc head (a .t3) (a .t4));
+      words = e₃ ∙ ap (λ (m : List ℕ). m ++ drop 62 l) (append-assoc head halves (a .t4));
       u-fits = core .u-fits;
-      taken-fits = core .taken-fits;
       turn-fits = core .turn-fits;
       sums-fit = n₁;
+      sums-small = p .pack .ensures .1;
       planes-fit = n₂;
     }
 
@@ -90,6 +100,7 @@ store-front-spec =
     tie.close
     (tie.spec
     store-core-requires
+    pack-requires
     sub-copy
     part-copy-start
     part-copy-end

@@ -13,16 +13,15 @@ advance-requires : tie.Need-advance-requires
 advance-requires c κs =
     let w = c .before .before .before .before .before in
     let s = w .before in
-    summable (s .args .core) (s .args .sums .now) (s .args .first) (s .args .second) (w .weigh .result) (s .pre .1 .0) (s .pre .1 .1) (s .pre .0 .1) (s .pre .0 .2) (w .weigh .ensures)
+    summable (s .args .core) (s .args .sums .now) (s .args .first) (s .args .second) (w .weigh .result) (s .pre .1) (s .pre .0 .1) (s .pre .0 .2) (w .weigh .ensures)
 
 words-before-requires : tie.Need-words-before-requires
 words-before-requires c κs = search needs
 
 agreed-requires : tie.Need-agreed-requires
 agreed-requires c κs =
-    let m = c .before .before in
-    let f = m .before .before .before .before .before .before .before .before .before .before .before .pre .1 .0 .core-fits in
-    (omega (arith, f .held, f .small-window), m .words-before .ensures)
+    let f = c .before .before .before .before .before .before .before .before .before .before .before .before .before .pre .1 .core-fits in
+    (omega (arith, f .held, f .small-window), c .before .before .words-before .ensures)
 
 numbers-of-requires : tie.Need-numbers-of-requires
 numbers-of-requires c κs = search needs

@@ -5,89 +5,73 @@ use native.Mathlib.Omega.{arith}
 use borrow.Author.Needs.{needs}
 use Rattle.planes.specs.Planes.{wordsBefore}
 use Rattle.nearest.specs.Found.{heardAs}
-use Rattle.machine.proofs.CodeTaken.{many, full, short, done, few, ways-are, state-below}
+use Rattle.machine.proofs.CodeTaken.{full, short, done, few, ways-are, state-below}
 use Rattle.machine.proofs.take_symbol.Statement.{statement}
 use Rattle.machine.proofs.take_symbol.Tie as tie
 
-refused-requires : tie.Need-refused-requires
-refused-requires c κs = search needs
-
-returns : tie.Need-returns
-returns c =
-    let a = c .before .before .before .before .before .args in
-    many (a .core) (a .sums .now) (a .planes .now) (a .picks .now) (heardAs (a .first) (a .second)) (a .out .now) (c .refused .result) (c .refused .ensures) (c .before .if1 .taken)
-
-fresh : (e : tie.Else1) → e .before .before .before .before .args .core .taken < 4294967295
-fresh e = omega (arith, e .if1 .left)
-
 look-ahead-requires : tie.Need-look-ahead-requires
-look-ahead-requires c κs =
-    let p = c .before .before .before .before .before .before .pre in
-    (p .0, (p .1 .0, fresh (c .before .before)))
+look-ahead-requires c κs = let p = c .before .before .before .before .pre in (p .0, p .1 .0)
 
 add-kept : tie.Need-add-kept
 add-kept c = search needs
 
 -- the way back, from a place in the code to one that comes before it
 abbrev to-start : tie.After-look-ahead → tie.Start
-to-start c = c .before .before .before .before .before .before .before
+to-start c = c .before .before .before .before .before
 
-abbrev to-write-words : tie.After-struct-known4 → tie.After-write-words
-to-write-words c = c .before .before .before .before .before .before .before .before .before .before
+abbrev to-look-ahead : tie.After-struct-known3 → tie.After-look-ahead
+to-look-ahead c = c .before .before .before .before .before .before .before .before .before .before .before .before .before .before .before .before .before .before
 
-abbrev to-look-ahead : tie.After-write-words → tie.After-look-ahead
-to-look-ahead c = c .before .before .before .before .before .before .before .before
-
-few-agreed : (l : tie.After-look-ahead) → l .look-ahead .result .agreed ≤ l .before .before .before .before .before .before .before .args .core .pending
+few-agreed : (l : tie.After-look-ahead) → l .look-ahead .result .agreed ≤ l .before .before .before .before .before .args .core .pending
 few-agreed l = let a = to-start l .args in few (a .core) (a .sums .now) (a .planes .now) (a .picks .now) (heardAs (a .first) (a .second)) (a .out .now) (l .look-ahead .result) (l .look-ahead .ensures)
 
 low : (l : tie.After-look-ahead) → l .look-ahead .result .state < 16
 low l =
     let a = to-start l .args in state-below (a .core) (a .sums .now) (a .planes .now) (a .picks .now) (heardAs (a .first) (a .second)) (a .out .now) (l .look-ahead .result) (l .look-ahead .ensures)
 
-ways : (l : tie.After-look-ahead) → l .look-ahead .result .ways ≡ wordsBefore (l .before .before .before .before .before .before .before .args .planes .now) (l .look-ahead .result .steps) 0
+ways : (l : tie.After-look-ahead) → l .look-ahead .result .ways ≡ wordsBefore (l .before .before .before .before .before .args .planes .now) (l .look-ahead .result .steps) 0
 ways l = let a = to-start l .args in ways-are (a .core) (a .sums .now) (a .planes .now) (a .picks .now) (heardAs (a .first) (a .second)) (a .out .now) (l .look-ahead .result) (l .look-ahead .ensures)
 
 sub-kept : tie.Need-sub-kept
 sub-kept c = omega (arith, few-agreed (c .before))
+
+refused-requires : tie.Need-refused-requires
+refused-requires c κs = search needs
+
+returns : tie.Need-returns
+returns c =
+    let l = c .before .before .before .before in
+    let a = to-start l .args in
+    full (a .core) (a .sums .now) (a .planes .now) (a .picks .now) (heardAs (a .first) (a .second)) (a .out .now) (l .look-ahead .result) (l .look-ahead .ensures)
+    (c .refused .result) (c .refused .ensures) (c .before .if1 .taken)
 
 refused-requires-2 : tie.Need-refused-requires-2
 refused-requires-2 c κs = search needs
 
 returns-2 : tie.Need-returns-2
 returns-2 c =
-    let l = c .before .before .before .before in
-    let a = to-start l .args in
-    full (a .core) (a .sums .now) (a .planes .now) (a .picks .now) (heardAs (a .first) (a .second)) (a .out .now) (l .look-ahead .result) (l .look-ahead .ensures)
-    (l .before .before .before .if1 .left) (c .refused2 .result) (c .refused2 .ensures) (c .before .if2 .taken)
-
-refused-requires-3 : tie.Need-refused-requires-3
-refused-requires-3 c κs = search needs
-
-returns-3 : tie.Need-returns-3
-returns-3 c =
     let l = c .before .before .before .before .before in
     let a = to-start l .args in
     short (a .core) (a .sums .now) (a .planes .now) (a .picks .now) (heardAs (a .first) (a .second)) (a .out .now) (l .look-ahead .result) (l .look-ahead .ensures)
-    (l .before .before .before .if1 .left) (c .before .before .if2 .left) (c .refused3 .result) (c .refused3 .ensures) (c .before .if3 .taken)
+    (c .before .before .if1 .left) (c .refused2 .result) (c .refused2 .ensures) (c .before .if2 .taken)
 
 write-words-requires : tie.Need-write-words-requires
 write-words-requires c κs =
     let l = c .before .before .before .before .before .before .before in
-    let p = to-start (c .before .before .before .before .before .before .before) .pre in
-    (p .1 .0 .core-fits, low l, few-agreed l, c .before .before .before .if3 .left, p .1 .1)
+    let p = to-start l .pre in
+    (p .1 .0 .core-fits, low l, few-agreed l, c .before .before .before .if2 .left, p .1 .1)
 
 add-shift : tie.Need-add-shift
-add-shift c = let f = to-start (to-look-ahead (to-write-words c)) .pre .1 .0 .core-fits in record { fits = omega (arith, f .held, f .small-window) }
+add-shift c = let f = to-start (to-look-ahead c) .pre .1 .0 .core-fits in record { fits = omega (arith, f .held, f .small-window) }
 
 shift-requires : tie.Need-shift-requires
-shift-requires c κs = ways (to-look-ahead (to-write-words c))
+shift-requires c κs = ways (to-look-ahead c)
 
 keep-requires : tie.Need-keep-requires
-keep-requires c κs = let p = to-start (to-look-ahead (to-write-words (c .before .before))) .pre in (p .1 .0 .core-fits .slot-below, p .1 .1)
+keep-requires c κs = let p = to-start (to-look-ahead (c .before .before)) .pre in (p .1 .0 .core-fits .slot-below, p .1 .1)
 
 moved-on-requires : tie.Need-moved-on-requires
-moved-on-requires c κs = let e = to-look-ahead (to-write-words (c .before .before .before .before .before)) .before .before .before in (fresh e, e .before .before .before .before .pre .1 .0 .core-fits .slot-below)
+moved-on-requires c κs = to-start (to-look-ahead (c .before .before .before .before .before)) .pre .1 .0 .core-fits .slot-below
 
 same-length : tie.Need-same-length
 same-length c = search needs
@@ -95,8 +79,8 @@ same-length c = search needs
 same-length-2 : tie.Need-same-length-2
 same-length-2 c = search needs
 
-returns-4 : tie.Need-returns-4
-returns-4 c =
+returns-3 : tie.Need-returns-3
+returns-3 c =
     let k = c .before .before .before in
     let m = k .before .before in
     let w = m .before .before .before .before .before .before .before .before .before .before .before in
@@ -104,22 +88,20 @@ returns-4 c =
     let l = e .before .before .before .before in
     let a = to-start l .args in
     done (a .core) (a .sums .now) (a .planes .now) (a .picks .now) (heardAs (a .first) (a .second)) (a .out .now) (l .look-ahead .result) (l .look-ahead .ensures)
-    (l .before .before .before .if1 .left) (e .before .if2 .left) _ _ _ _ _ _ (e .if3 .left) (w .write-words .ensures .0) (w .write-words .ensures .1) refl
+    (e .before .if1 .left) _ _ _ _ _ _ (e .if2 .left) (w .write-words .ensures .0) (w .write-words .ensures .1) refl
     (m .shift .ensures) (k .keep .ensures) (c .moved-on .ensures)
 
 pub take-symbol-spec : {M : Type 1} → statement M
 take-symbol-spec =
     tie.close
     (tie.spec
-    refused-requires
-    returns
     look-ahead-requires
     add-kept
     sub-kept
+    refused-requires
+    returns
     refused-requires-2
     returns-2
-    refused-requires-3
-    returns-3
     write-words-requires
     add-shift
     shift-requires
@@ -127,4 +109,4 @@ take-symbol-spec =
     moved-on-requires
     same-length
     same-length-2
-    returns-4)
+    returns-3)

@@ -16,21 +16,12 @@ returns-2 c =
     let e = c .before .before in
     rw (not-false (e .before .args .live) (e .if1 .left), sym (c .before .core-fits .ensures) ∙ not-true _ (c .if2 .taken))
 
-cast-all-up-to : tie.Need-cast-all-up-to
-cast-all-up-to c = search needs
-
-mul-all-up-to : tie.Need-mul-all-up-to
-mul-all-up-to c = search needs
-
-add-all-up-to : tie.Need-add-all-up-to
-add-all-up-to c = search needs
-
 all-up-to-requires : tie.Need-all-up-to-requires
 all-up-to-requires c κs = search needs
 
 returns-3 : tie.Need-returns-3
 returns-3 c =
-    let f = c .before .before in
+    let f = c .before in
     let e = f .before .before in
     c .all-up-to .ensures ∙ rw (not-false (e .before .args .live) (e .if1 .left), sym (f .before .core-fits .ensures) ∙ not-false _ (f .if2 .left))
 
@@ -41,8 +32,5 @@ parts-fit-spec =
     returns
     core-fits-requires
     returns-2
-    cast-all-up-to
-    mul-all-up-to
-    add-all-up-to
     all-up-to-requires
     returns-3)

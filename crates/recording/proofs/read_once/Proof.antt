@@ -60,9 +60,11 @@ slice-aggregate-hear-chunk c = search needs
 hear-chunk-requires : tie.Need-hear-chunk-requires
 hear-chunk-requires c κs = search needs
 
--- the read before a chunk that was heard
+-- the read before a chunk that was heard, in two parts
 abbrev called : tie.After-slice-known16 → tie.After-read
-called c = c .before .before .before .before .before .before .before .before .before .before .before .before .before .before .before .before .before .before .before .before .before .before .before .before .before
+called c =
+    let half = c .before .before .before .before .before .before .before .before .before .before .before .before .before in
+    half .before .before .before .before .before .before .before .before .before .before .before .before
 
 same-length-9 : tie.Need-same-length-9
 same-length-9 c = called c .read .kept .1 .0

@@ -61,7 +61,7 @@ returns-2 c =
     let e = c .before .before .before .before .before .before .before .before in
     let front = c .before .before .before .before .before .before .before .load-front .ensures in
     let h = known e in
-    let k = part-loaded (now (e .before .before .before .args .words)) _ _ 71 72 (omega arith) (length-replicate {A = ℕ} 72 0) (c .before .copy .ensures) in
+    let k = part-loaded (now (e .before .before .before .args .words)) _ _ 62 72 (omega arith) (length-replicate {A = ℕ} 72 0) (c .before .copy .ensures) in
     rw (yes e) (λ i. record { live = true; core = front i .core; sums = front i .sums; planes = front i .planes; picks = k i })
 
 pub load-receiver-spec : {M : Type 1} → statement M

@@ -48,7 +48,7 @@ returns c =
     let l = now (s .args .words) in
     let n = sized s in
     let picks = all-copied (rx .picks) _ _ 72 (take-all 72 (rx .picks) (omega arith)) n (d .copy .ensures) in
-    front-stored rx l _ (c .before .before .store-front .ensures) n (rest-back l (rx .picks) 71 72 (omega (arith, s .pre)) picks)
+    front-stored rx l _ (c .before .before .store-front .ensures) n (rest-back l (rx .picks) 62 72 (omega (arith, s .pre)) picks)
 
 pub store-receiver-spec : {M : Type 1} → statement M
 store-receiver-spec =

@@ -5,16 +5,16 @@ use Prim.Native.Nat.{_-_, _≤_}
 use native.Mathlib.Omega.{arith}
 use lib.Dec.{ltb}
 use lib.ListN.{drop}
-use Rattle.sums.specs.Sums.{limit, allUpTo}
-use Rattle.sums.proofs.UpTo.{together, together-ends}
+use Rattle.sums.specs.Sums.{allUpTo}
+use Rattle.sums.proofs.UpTo.{high, together, together-ends}
 use Rattle.sums.proofs.all_reached.Statement.{statement}
 use Rattle.sums.proofs.all_reached.Tie as tie
 
 abbrev Inv-loop : tie.InvT-loop
-Inv-loop sums bits₀ s₀ bits s = (s ≤ 16) × (allUpTo (limit - 1) sums ≡ (ltb bits limit && allUpTo (limit - 1) (drop s sums)))
+Inv-loop keys bits₀ s₀ bits s = (s ≤ 16) × (allUpTo (high - 1) keys ≡ (ltb bits high && allUpTo (high - 1) (drop s keys)))
 
 abbrev μ-loop : tie.MeasureT-loop
-μ-loop sums bits₀ s₀ bits s = 16 - s
+μ-loop keys bits₀ s₀ bits s = 16 - s
 
 loop-holds : tie.Need-loop-holds Inv-loop μ-loop
 loop-holds c = (omega arith, refl)
@@ -34,12 +34,15 @@ loop-less c = omega arith
 loop-again : tie.Need-loop-again Inv-loop μ-loop
 loop-again c =
     let at = c .before .before in
-    (omega arith, at .loop .inv .1 ∙ together (at .before .before .args .sums .now) (at .loop .s) (at .loop .bits) (omega arith))
+    (omega arith, at .loop .inv .1 ∙ together (at .before .before .args .keys .now) (at .loop .s) (at .loop .bits) (omega arith))
+
+mul-result : tie.Need-mul-result Inv-loop μ-loop
+mul-result c = omega arith
 
 returns : tie.Need-returns Inv-loop μ-loop
 returns c =
     let at = c .before in
-    sym (at .loop .inv .1 ∙ together-ends (at .before .before .args .sums .now) (at .loop .s) (at .loop .bits) (omega arith))
+    sym (at .loop .inv .1 ∙ together-ends (at .before .before .args .keys .now) (at .loop .s) (at .loop .bits) (omega arith))
 
 pub all-reached-spec : {M : Type 1} → statement M
-all-reached-spec = tie.close (tie.spec Inv-loop μ-loop loop-holds mul-bits element-copy-out-bits add-s loop-less loop-again returns)
+all-reached-spec = tie.close (tie.spec Inv-loop μ-loop loop-holds mul-bits element-copy-out-bits add-s loop-less loop-again mul-result returns)

@@ -5,24 +5,30 @@ use mathlib.Core.List.{_++_}
 use native.Mathlib.Numerals.{add-one}
 use native.Mathlib.Omega.{arith}
 use lib.ListN.{length, drop}
-use Rattle.select.specs.Ways.{followedStep}
+use Rattle.select.specs.Ways.{sumsIn, stepsIn, followedStep}
 use Rattle.lists.specs.Tabled.{tabled}
 use Rattle.lists.proofs.Filled.{tabled-more}
-use Rattle.select.proofs.Followed.{followed-is}
+use Rattle.select.proofs.CodeSelect.{follows}
 use Rattle.select.proofs.follow.followers.Statement.{statement}
 use Rattle.select.proofs.follow.followers.Tie as tie
 
 abbrev Inv-loop : tie.InvT-loop
-Inv-loop sums steps head other all₀ s₀ all s = (s ≤ 16) × (length all₀ ≡ 16) × (all ≡ tabled (followedStep sums steps) s ++ drop s all₀)
+Inv-loop keys head other all₀ s₀ all s = (s ≤ 16) × (length all₀ ≡ 16) × (all ≡ tabled (followedStep (sumsIn keys) (stepsIn keys)) s ++ drop s all₀)
 
 abbrev μ-loop : tie.MeasureT-loop
-μ-loop sums steps head other all₀ s₀ all s = 16 - s
+μ-loop keys head other all₀ s₀ all s = 16 - s
 
 first-live-requires : tie.Need-first-live-requires Inv-loop μ-loop
 first-live-requires c κs = tt
 
+mul-other : tie.Need-mul-other Inv-loop μ-loop
+mul-other c = omega arith
+
 element-copy-out-other : tie.Need-element-copy-out-other Inv-loop μ-loop
 element-copy-out-other c = c .first-live .ensures .1
+
+cast-other : tie.Need-cast-other Inv-loop μ-loop
+cast-other c = record { fits = omega arith }
 
 loop-holds : tie.Need-loop-holds Inv-loop μ-loop
 unfolding tabled
@@ -33,9 +39,6 @@ mul-step-if-reached c = omega arith
 
 element-copy-out-step-if-reached : tie.Need-element-copy-out-step-if-reached Inv-loop μ-loop
 element-copy-out-step-if-reached c = omega arith
-
-element-copy-out-step-if-reached-2 : tie.Need-element-copy-out-step-if-reached-2 Inv-loop μ-loop
-element-copy-out-step-if-reached-2 c = omega arith
 
 step-if-reached-requires : tie.Need-step-if-reached-requires Inv-loop μ-loop
 step-if-reached-requires c κs = tt
@@ -51,11 +54,12 @@ loop-less c = omega arith
 
 loop-again : tie.Need-loop-again Inv-loop μ-loop
 loop-again c =
-    let at = c .before .before .before .before in
+    let at = c .before .before .before in
     let first = at .before .before in
-    let a = first .before .args in
-    let x = followed-is (a .sums .now) (a .steps .now) (at .loop .s) (first .first-live .result) (c .step-if-reached .result) (first .first-live .ensures .0) (c .step-if-reached .ensures) in
-    (omega arith, at .loop .inv .1, rw (at .loop .inv .2, x, add-one (at .loop .s)) (tabled-more (followedStep (a .sums .now) (a .steps .now)) (at .loop .s) _ (omega arith)))
+    let keys = first .before .args .keys .now in
+    let f = first .first-live in
+    let x = follows keys (at .loop .s) (c .before .before .loop-test .taken) (f .result) (c .step-if-reached .result) (f .ensures .0) (f .ensures .1) (c .step-if-reached .ensures) in
+    (omega arith, at .loop .inv .1, rw (at .loop .inv .2, x, add-one (at .loop .s)) (tabled-more (followedStep (sumsIn keys) (stepsIn keys)) (at .loop .s) _ (omega arith)))
 
 returns : tie.Need-returns Inv-loop μ-loop
 unfolding tabled
@@ -71,11 +75,12 @@ followers-spec =
     Inv-loop
     μ-loop
     first-live-requires
+    mul-other
     element-copy-out-other
+    cast-other
     loop-holds
     mul-step-if-reached
     element-copy-out-step-if-reached
-    element-copy-out-step-if-reached-2
     step-if-reached-requires
     array-write-all
     add-s

@@ -4,20 +4,20 @@ use Rattle.select.proofs.CodeSelect.{best}
 use Rattle.select.proofs.ways.best_into.Statement.{statement}
 use Rattle.select.proofs.ways.best_into.Tie as tie
 
-way-by-requires : tie.Need-way-by-requires
-way-by-requires c κs = search needs
+key-by-requires : tie.Need-key-by-requires
+key-by-requires c κs = search needs
 
-way-by-requires-2 : tie.Need-way-by-requires-2
-way-by-requires-2 c κs = search needs
+key-by-requires-2 : tie.Need-key-by-requires-2
+key-by-requires-2 c κs = search needs
 
 nearer-requires : tie.Need-nearer-requires
 nearer-requires c κs = search needs
 
-way-by-requires-3 : tie.Need-way-by-requires-3
-way-by-requires-3 c κs = search needs
+key-by-requires-3 : tie.Need-key-by-requires-3
+key-by-requires-3 c κs = search needs
 
-way-by-requires-4 : tie.Need-way-by-requires-4
-way-by-requires-4 c κs = search needs
+key-by-requires-4 : tie.Need-key-by-requires-4
+key-by-requires-4 c κs = search needs
 
 nearer-requires-2 : tie.Need-nearer-requires-2
 nearer-requires-2 c κs = search needs
@@ -34,18 +34,18 @@ returns c =
     let v₁ = low .before in
     let v₀ = v₁ .before in
     let a = v₀ .before .args in
-    best (a .sums .now) (a .costs .now) (a .t) _ _ _ _ _ _ _ (v₀ .way-by .ensures) (v₁ .way-by2 .ensures) (v₂ .way-by3 .ensures) (v₃ .way-by4 .ensures)
+    best (a .sums .now) (a .costs .now) (a .t) (v₀ .before .pre .1) _ _ _ _ _ _ _ (v₀ .key-by .ensures) (v₁ .key-by2 .ensures) (v₂ .key-by3 .ensures) (v₃ .key-by4 .ensures)
     (low .nearer .ensures) (high .nearer2 .ensures) (c .nearer3 .ensures)
 
 pub best-into-spec : {M : Type 1} → statement M
 best-into-spec =
     tie.close
     (tie.spec
-    way-by-requires
-    way-by-requires-2
+    key-by-requires
+    key-by-requires-2
     nearer-requires
-    way-by-requires-3
-    way-by-requires-4
+    key-by-requires-3
+    key-by-requires-4
     nearer-requires-2
     nearer-requires-3
     returns)

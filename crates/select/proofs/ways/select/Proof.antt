@@ -1,8 +1,8 @@
 -- `ways::select`.
+use mathlib.Core.Path.{refl}
 use native.Mathlib.Omega.{arith}
 use borrow.Author.Needs.{needs}
-use Rattle.select.specs.Ways.{wayAt}
-use Rattle.select.proofs.CodeSelect.{four-at, laid-out}
+use Rattle.select.proofs.Lists.{same-front}
 use Rattle.select.proofs.ways.select.Statement.{statement}
 use Rattle.select.proofs.ways.select.Tie as tie
 
@@ -36,54 +36,45 @@ best-into-requires-9 c κs = search needs
 best-into-requires-10 : tie.Need-best-into-requires-10
 best-into-requires-10 c κs = search needs
 
--- the way back over the calls, from the twelfth to the eighth and from there to the start
-abbrev to-eighth : tie.After-best-into12 → tie.After-best-into8
-to-eighth c = c .before .before .before .before
+best-into-requires-11 : tie.Need-best-into-requires-11
+best-into-requires-11 c κs = search needs
 
+best-into-requires-12 : tie.Need-best-into-requires-12
+best-into-requires-12 c κs = search needs
+
+best-into-requires-13 : tie.Need-best-into-requires-13
+best-into-requires-13 c κs = search needs
+
+best-into-requires-14 : tie.Need-best-into-requires-14
+best-into-requires-14 c κs = search needs
+
+best-into-requires-15 : tie.Need-best-into-requires-15
+best-into-requires-15 c κs = search needs
+
+-- the way back over the calls, eight at a time
 abbrev to-start : tie.After-best-into8 → tie.Start
 to-start c = c .before .before .before .before .before .before .before .before
 
-best-into-requires-11 : tie.Need-best-into-requires-11
-best-into-requires-11 c κs = (to-start (c .before .before) .pre, omega arith)
-
-best-into-requires-12 : tie.Need-best-into-requires-12
-best-into-requires-12 c κs = (to-start (c .before .before .before) .pre, omega arith)
-
-best-into-requires-13 : tie.Need-best-into-requires-13
-best-into-requires-13 c κs = (to-start (to-eighth c) .pre, omega arith)
-
-best-into-requires-14 : tie.Need-best-into-requires-14
-best-into-requires-14 c κs = (to-start (to-eighth (c .before)) .pre, omega arith)
-
-best-into-requires-15 : tie.Need-best-into-requires-15
-best-into-requires-15 c κs = (to-start (to-eighth (c .before .before)) .pre, omega arith)
+abbrev to-eighth : tie.After-best-into15 → tie.After-best-into8
+to-eighth c = c .before .before .before .before .before .before .before
 
 best-into-requires-16 : tie.Need-best-into-requires-16
-best-into-requires-16 c κs = (to-start (to-eighth (c .before .before .before)) .pre, omega arith)
-
-sums-of-requires : tie.Need-sums-of-requires
-sums-of-requires c κs = search needs
-
-steps-of-requires : tie.Need-steps-of-requires
-steps-of-requires c κs = search needs
+best-into-requires-16 c κs = (to-start (to-eighth c) .pre, omega arith)
 
 returns : tie.Need-returns
-unfolding wayAt
 returns c =
-    let sixteenth = c .before .before in
-    let twelfth = sixteenth .before .before .before .before in
-    let eighth = to-eighth twelfth in
-    let fourth = eighth .before .before .before .before in
-    let a = to-start eighth .args in
-    let f = wayAt (a .sums .now) (a .costs .now) in
-    laid-out f _ _ _ _ _ _
-    (four-at f 0 _ _ _ _ (fourth .before .before .before .best-into .ensures) (fourth .before .before .best-into2 .ensures) (fourth .before .best-into3 .ensures) (fourth .best-into4 .ensures))
-    (four-at f 4 _ _ _ _ (eighth .before .before .before .best-into5 .ensures) (eighth .before .before .best-into6 .ensures) (eighth .before .best-into7 .ensures) (eighth .best-into8 .ensures))
-    (four-at f 8 _ _ _ _ (twelfth .before .before .before .best-into9 .ensures) (twelfth .before .before .best-into10 .ensures) (twelfth .before .best-into11 .ensures) (twelfth .best-into12 .ensures))
-    (four-at f 12 _ _ _ _ (sixteenth .before .before .before .best-into13 .ensures) (sixteenth .before .before .best-into14 .ensures)
-    (sixteenth .before .best-into15 .ensures) (sixteenth .best-into16 .ensures))
-    (c .before .sums-of .ensures)
-    (c .steps-of .ensures)
+    let p = c .before in
+    let m = p .before .before .before in
+    let e = to-eighth p in
+    let d = e .before .before .before .before in
+    same-front (d .before .before .before .best-into .ensures) (same-front (d .before .before .best-into2 .ensures)
+    (same-front (d .before .best-into3 .ensures) (same-front (d .best-into4 .ensures)
+    (same-front (e .before .before .before .best-into5 .ensures) (same-front (e .before .before .best-into6 .ensures)
+    (same-front (e .before .best-into7 .ensures) (same-front (e .best-into8 .ensures)
+    (same-front (m .before .before .before .best-into9 .ensures) (same-front (m .before .before .best-into10 .ensures)
+    (same-front (m .before .best-into11 .ensures) (same-front (m .best-into12 .ensures)
+    (same-front (p .before .before .best-into13 .ensures) (same-front (p .before .best-into14 .ensures)
+    (same-front (p .best-into15 .ensures) (same-front (c .best-into16 .ensures) refl)))))))))))))))
 
 pub select-spec : {M : Type 1} → statement M
 select-spec =
@@ -105,6 +96,4 @@ select-spec =
     best-into-requires-14
     best-into-requires-15
     best-into-requires-16
-    sums-of-requires
-    steps-of-requires
     returns)

@@ -1,11 +1,11 @@
-//! The receiver written for speed in safe Rust: on the round map every point of every label is tried, and release is exact.
+//! The receiver written for speed in safe Rust, with exact release.
 //!
 //! `Receiver` is generic over how the nearest points are searched and how the undecided symbols are remembered, so that
 //! the table of `bench/run` can tell what each costs. It is no oracle: `tests/cross` holds it to the clear reference.
 //!
-//! - `Direct`: each squared distance as the scope words it. `Keyed`: the square multiplied out, distance and number in one
-//!   key, the two dot products of a point shared by its four turns; the compiler turns this loop into vector code. `Grid`: the
-//!   square map, each axis rounded and clamped alone.
+//! - `Keyed`: every point of every label is tried; the square multiplied out, distance and number in one key, the two dot
+//!   products of a point shared by its four turns; the compiler turns this loop into vector code. `Columns` (`columns.rs`): the
+//!   library's search on the round map. `Grid`: the square map, each axis rounded and clamped alone.
 //! - In both memories each state keeps the subsets of its own undecided symbols as bits, moved on with the state.
 //!   `Registers`: three words a state, three bits a symbol. Only the words that hold undecided symbols are moved: one for
 //!   up to 21. Of each symbol it keeps only what its word is put together from once it is released.
@@ -39,43 +39,15 @@ pub const A_POINTS: [(i32, i32); 256] = {
 pub type Near = [(u32, u32); 4];
 
 /// The most that the distance of one point counts for in a sum.
-const CAP: u32 = 262_144;
+pub const CAP: u32 = 262_144;
 
 pub trait Search {
     fn nearest(points: usize, x: i32, y: i32) -> Near;
 }
 
 /// A heard point turned back so that label l is searched among the A points.
-fn turned_back(x: i32, y: i32) -> [(i32, i32); 4] {
+pub fn turned_back(x: i32, y: i32) -> [(i32, i32); 4] {
     [(x, y), (-y, x), (-x, -y), (y, -x)]
-}
-
-pub struct Direct;
-
-static SCALED: [(i32, i32); 256] = {
-    let mut table = A_POINTS;
-    let mut w = 0;
-    while w < 256 {
-        table[w] = (128 * A_POINTS[w].0, 128 * A_POINTS[w].1);
-        w += 1;
-    }
-    table
-};
-
-impl Search for Direct {
-    #[inline(always)]
-    fn nearest(points: usize, x: i32, y: i32) -> Near {
-        let heard = turned_back(x, y);
-        // a distance is below 2^29: it and the number fit one key, and the least key has the smaller number of equals
-        let mut least = [u64::MAX; 4];
-        for (w, &(px, py)) in SCALED[..points].iter().enumerate() {
-            for l in 0..4 {
-                let (dx, dy) = (px - heard[l].0, py - heard[l].1);
-                least[l] = least[l].min(((dx * dx + dy * dy) as u64) << 8 | w as u64);
-            }
-        }
-        least.map(|key| (((key >> 8) as u32).min(CAP), key as u32 & 255))
-    }
 }
 
 pub struct Keyed;

@@ -4,15 +4,17 @@
 //! output; after a 6 it finishes and opens again, as the header advises. The words of all must be equal. Each is timed
 //! five times, in turn, by the processor time of the thread, and the best of the five counts.
 //!
-//! - `same`: the library's algorithm in plain Rust: every squared distance as the scope words it, the subsets of the
-//!   undecided symbols in up to three words a state, three bits a symbol, and a word put together when it is released.
-//!   In the search a key of distance and number has 64 bits; the library's has 32.
+//! - `same`: the library's algorithm in plain Rust: the search of `columns.rs`, the subsets of the undecided symbols in up to
+//!   three words a state, three bits a symbol, and a word put together when it is released.
 //! - `fastest`: the same results by the quickest means known that still try every point: see `fast.rs`.
 //!
-//! On the square map both search as the library does, by rounding and clamping each axis.
+//! On the square map both search as the library does, by rounding and clamping each axis. A far line has every point where
+//! the search has the most steps: four look-ups, none of which answers, and sixteen columns.
 //!
 //! Then sending: words singly through C, and in lists of 1000, beside plain Rust of the same algorithm (`sender.rs`).
 
+#[path = "columns.rs"]
+mod columns;
 #[path = "fast.rs"]
 #[allow(dead_code)]
 mod fast;
@@ -29,12 +31,15 @@ mod rng;
 #[path = "sender.rs"]
 mod sender;
 
-use fast::{Direct, Grid, Keyed, Memory, Planes, Registers, Search};
+use columns::Columns;
+use fast::{Grid, Keyed, Memory, Planes, Registers, Search};
 use reference::{Line, SQUARE};
 
 const WINDOW: u32 = 64;
 const LIST: usize = 1000;
 const NOISE: [(&str, f64); 2] = [("low", 20.0), ("high", 75.0)];
+/// Width, symbols, and the point.
+const FAR: [(u32, usize, (i32, i32)); 2] = [(6, 8_000, (4736, 4736)), (8, 8_000, (4736, 4736))];
 const PIECES: [usize; 3] = [1, 16, 1000];
 /// Width, and symbols on the line: a run takes some ten milliseconds.
 const WIDTHS: [(u32, usize); 3] = [(2, 40_000), (6, 20_000), (8, 8_000)];
@@ -197,9 +202,12 @@ fn main() {
         for (noise, deviation) in NOISE {
             let heard = received(Line::round(u), symbols, deviation);
             for piece in PIECES {
-                row::<Direct, Keyed>(Line::round(u), noise, &heard, piece, rounds);
+                row::<Columns, Keyed>(Line::round(u), noise, &heard, piece, rounds);
             }
         }
+    }
+    for (u, symbols, (x, y)) in FAR {
+        row::<Columns, Keyed>(Line::round(u), "far", &[x, y, x, y].repeat(symbols), LIST, rounds);
     }
     println!("\nThe square map:\n\n{head}");
     for (u, symbols) in WIDTHS {

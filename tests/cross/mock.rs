@@ -4,6 +4,9 @@
 //! (`mutants/*.edit`) must be caught; and running the test on it shows that the receivers that the bench measures equal
 //! the clear reference: `fastest`, or with `--cfg registers` `same`. It is never linked into anything that is handed out.
 
+#[path = "../../bench/columns.rs"]
+#[allow(dead_code)]
+mod columns;
 #[path = "../../bench/fast.rs"]
 #[allow(dead_code)]
 mod fast;
@@ -46,7 +49,7 @@ mod planes {
 #[cfg(registers)]
 mod registers {
     use crate::fast::*;
-    pub type Round = Receiver<Direct, Registers>;
+    pub type Round = Receiver<crate::columns::Columns, Registers>;
     pub type Square = Receiver<Grid, Registers>;
     pub const MEMORY_WORDS: usize = 48 + 8 + 64;
 

@@ -9,10 +9,9 @@
 --   pickedFrom        the symbol of a subset, read off the rows of I3' and of the numbers
 use Prim.Native.Nat.{ℕ}
 use mathlib.Core.List.{List}
-use lib.IntN.{ℤ}
 use lib.ListN.{getD}
 use Rattle.points.specs.declared.Accord.{Accord}
-use Rattle.points.specs.Points.{coordinates}
+use Rattle.places.specs.Places.{listed}
 use Rattle.wei.specs.Label.{turnOf, secondLabel}
 use Rattle.wei.specs.State.{subsetOf}
 use Rattle.wei.specs.Symbol.{Symbol}
@@ -30,9 +29,9 @@ use Rattle.nearest.specs.Line.{lineDistance}
 abbrev pub heardAs : Received → Received → Two Received
 heardAs g h = record { first = g; second = h }
 
--- what a search needs, made once and lent to every search: the A points
-unfoldable pub chartOf : Accord → List ℤ
-chartOf k = coordinates
+-- what a search needs, made once and lent to every search: the A points, by place
+unfoldable pub chartOf : Accord → List ℕ
+chartOf k = listed
 
 unfoldable pub nearestOf : Accord → Received → Nearest
 nearestOf k h =

@@ -16,7 +16,7 @@ use spots::Spot;
 ghost use mathlib.Core.Path.{_≡_};
 ghost use mathlib.Core.Bool.{true};
 ghost use Rattle.points.specs.Agreed.{hasWidth, isAccord};
-ghost use Rattle.points.specs.Points.{coordinates};
+ghost use Rattle.places.specs.Places.{listed};
 ghost use Rattle.trellis.specs.Measure.{counted};
 ghost use Rattle.spots.specs.Distance.{SpotInRange};
 ghost use Rattle.spots.specs.Found.{foundBy};
@@ -49,12 +49,12 @@ pub struct Weighed {
 }
 
 // What a search needs, made once by `chart` and lent to every search: nobody else looks into it.
-pub type Chart = [i8; 512];
+pub type Chart = [u8; 521];
 
 pub fn chart(k: Accord) -> Chart
     ensures { λ r. ⌜ r ≡ chartOf k ⌝ }
 {
-    points::table::a_points()
+    places::table()
 }
 
 // Whether x is a received coordinate: from -8192 to 8192, both included.
@@ -73,7 +73,7 @@ fn counted_of(d: u32) -> u32
 
 // The nearest number below 2^u of each label and its distance, on either map: only the round map reads the table.
 fn search_on(t: &Chart, map: Map, u: u32, h: Spot) -> Found
-    requires { ⌜ (now t ≡ coordinates) × (hasWidth map u ≡ true) × SpotInRange h ⌝ }
+    requires { ⌜ (now t ≡ listed) × (hasWidth map u ≡ true) × SpotInRange h ⌝ }
     ensures { λ r. ⌜ r ≡ foundBy u (mapDistance map u) h ⌝ }
 {
     match map {

@@ -1,12 +1,11 @@
--- The squared distance of a received point from a point: how large it is, what it leaves modulo 256, and that turning the
+-- The squared distance of a received point from a point: how large it is, and that turning the
 -- received point back does what turning the point does.
 --   distance-below   the distance of a received point in range from a point of the table
---   same-rest        all distances from one received point leave the same remainder modulo 256
 --   back             the distance from a turned point is that of the received point turned back
 --   back-in-range    a received point turned back is in range
 --   key-fits         a distance plus a number of the table
 use mathlib.Core.Path.{_≡_, refl, sym, ap, _∙_}
-use Prim.Native.Nat.{ℕ, zero, suc, _+_, _*_, _%_, _^_, _<_}
+use Prim.Native.Nat.{ℕ, zero, suc, _+_, _*_, _^_, _<_}
 use native.Mathlib.Omega.{arith}
 use lib.IntN.{ℤ, pos, negsuc, negℤ, natAbs, _+ℤ_, _*ℤ_, negℤ-negℤ, negℤ-+ℤ}
 use mir.Syntax.{w32}
@@ -15,20 +14,13 @@ use Rattle.points.specs.declared.Point.{Point}
 use Rattle.points.specs.Turn.{turned, Small}
 use Rattle.points.proofs.Signed.{natAbs-neg}
 use Rattle.spots.specs.declared.Spot.{Spot}
-use Rattle.spots.specs.Distance.{SpotInRange, difference, square, distance}
+use Rattle.spots.specs.Distance.{SpotInRange, difference, distance}
 use Rattle.round_nearest.specs.Key.{turnedBack}
-use Rattle.round_nearest.proofs.Ints.{square-le, square-rest, spread}
+use Rattle.round_nearest.proofs.Ints.{square-le}
 
 pub distance-below : (h : Spot) (p : Point) → SpotInRange h → Small p → distance h p < 2 ^ 29
 unfolding distance
 distance-below h p a b = omega (arith, square-le (h .x) (p .x) (a .x-in) (b .x-small), square-le (h .y) (p .y) (a .y-in) (b .y-small))
-
-rest : (h : Spot) (p : Point) → distance h p % 256 ≡ (square (h .x) + square (h .y)) % 256
-unfolding distance
-rest h p = omega (arith, square-rest (natAbs (p .x)) (spread (h .x) (p .x)), square-rest (natAbs (p .y)) (spread (h .y) (p .y)))
-
-pub same-rest : (h : Spot) (p q : Point) → distance h p % 256 ≡ distance h q % 256
-same-rest h p q = rest h p ∙ sym (rest h q)
 
 pub back-in-range : (h : Spot) → SpotInRange h → SpotInRange (turnedBack h)
 unfolding turnedBack

@@ -20,7 +20,8 @@ use Rattle.trellis.specs.Pick.{keepN, least, near, gapOf}
 use Rattle.spots.specs.declared.Spot.{Spot}
 use Rattle.spots.specs.Distance.{distance}
 use Rattle.round_nearest.specs.Key.{roundDistance, turnedBack, lesserOf, lesserKeys, keyOf, keysOf, keysFrom, leastKeys, candidateOf}
-use Rattle.round_nearest.proofs.Distances.{same-rest, back}
+use Rattle.spots.proofs.Rests.{same-rest}
+use Rattle.round_nearest.proofs.Distances.{back}
 
 lesser-self : (x : ℕ) → lesserOf x x ≡ x
 lesser-self x = ap (λ (b : Bool). keepN b x x) (le-ltb x x (omega arith))

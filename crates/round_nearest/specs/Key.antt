@@ -15,7 +15,7 @@ use Rattle.points.specs.declared.Point.{Point}
 use Rattle.points.specs.Turn.{turns, pointOf}
 use Rattle.trellis.specs.Pick.{keepN, least}
 use Rattle.spots.specs.declared.Spot.{Spot}
-use Rattle.round_nearest.specs.declared.key.Keys.{Keys}
+use Rattle.columns.specs.declared.Keys.{Keys}
 use Rattle.round_nearest.specs.declared.key.Candidate.{Candidate}
 use Rattle.spots.specs.Distance.{distance}
 

@@ -4,23 +4,18 @@
 // leave the same remainder modulo 256. Numbers are below 256. So keys stand in the order of the distances, and of equal
 // distances in the order of the numbers: the least key is the nearest point with the tie rule in it, found by one comparison,
 // and distance and number can be read off it.
+//
+// At widths below 5 every candidate is tried, four labels at a time; from there on the columns find the same keys quicker (crate columns).
 use crate::line;
+use columns::Keys;
 use points::Point;
 use spots::Spot;
 ghost use mathlib.Core.Path.{_≡_};
-ghost use Prim.Native.Nat.{_≤_, _<_};
-ghost use Rattle.points.specs.Points.{coordinates};
+ghost use Prim.Native.Nat.{_≤_, _<_, _^_};
 ghost use Rattle.points.specs.Turn.{Small};
+ghost use Rattle.places.specs.Places.{listed};
 ghost use Rattle.spots.specs.Distance.{SpotInRange};
 ghost use Rattle.round_nearest.specs.Key.{keysFrom, lesserOf, lesserKeys, leastKeys, candidateOf};
-
-// A key of each label: A, C, B and D are 0, 1, 2 and 3.
-pub struct Keys {
-    pub a: u32,
-    pub c: u32,
-    pub b: u32,
-    pub d: u32,
-}
 
 // What a key is made of: a number and its distance.
 pub struct Candidate {
@@ -64,17 +59,28 @@ fn lesser_keys(x: Keys, y: Keys) -> Keys
 
 // The least keys of the numbers below n. The search begins with number 0 and meets it again, so that the loop runs over all
 // n numbers, a power of two, and the machine takes several at once.
-pub fn least_keys(t: &[i8; 512], h: Spot, n: usize) -> Keys
-    requires { ⌜ (now t ≡ coordinates) × SpotInRange h × (n ≤ 256) ⌝ }
+fn least_keys(t: &[u8; 521], h: Spot, n: usize) -> Keys
+    requires { ⌜ (now t ≡ listed) × SpotInRange h × (n ≤ 16) ⌝ }
     ensures { λ r. ⌜ r ≡ leastKeys h n ⌝ }
 {
-    let mut best = keys_from(h, points::a_point(t, 0), 0);
+    let mut best = keys_from(h, places::near_point(t, 0), 0);
     let mut k: usize = 0;
     while k < n {
-        best = lesser_keys(best, keys_from(h, points::a_point(t, k), k as u32));
+        best = lesser_keys(best, keys_from(h, places::near_point(t, k), k as u32));
         k += 1;
     }
     best
+}
+
+// The least keys of the numbers below 2^u.
+pub fn keys_below(t: &[u8; 521], u: u32, h: Spot) -> Keys
+    requires { ⌜ (now t ≡ listed) × (u ≤ 8) × SpotInRange h ⌝ }
+    ensures { λ r. ⌜ r ≡ leastKeys h (2 ^ u) ⌝ }
+{
+    if u < 5 {
+        return least_keys(t, h, 1usize << u);
+    }
+    columns::nearest_keys(t, u, h.x, h.y)
 }
 
 // The number and the distance of a key, where `rest` is the remainder that all distances leave.

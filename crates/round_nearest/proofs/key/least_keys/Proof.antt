@@ -22,19 +22,19 @@ abbrev μ-loop : tie.MeasureT-loop
 small-read : (p : Point) (k : ℕ) → p ≡ aPoint k → k < 256 → Small p
 small-read p k e h = subst Small (sym e) (small k h)
 
-a-point-requires : tie.Need-a-point-requires Inv-loop μ-loop
-a-point-requires c κs = search needs
+near-point-requires : tie.Need-near-point-requires Inv-loop μ-loop
+near-point-requires c κs = search needs
 
 keys-from-requires : tie.Need-keys-from-requires Inv-loop μ-loop
-keys-from-requires c κs = (c .before .pre .1, small-read (c .a-point .result) 0 (c .a-point .ensures) (omega arith), omega arith)
+keys-from-requires c κs = (c .before .pre .1, small-read (c .near-point .result) 0 (c .near-point .ensures) (omega arith), omega arith)
 
 loop-holds : tie.Need-loop-holds Inv-loop μ-loop
 loop-holds c =
     let h = c .before .before .args .h in
-    (omega arith, c .keys-from .ensures ∙ ap (λ (p : Point). keysFrom h p 0) (c .before .a-point .ensures) ∙ first-keys h)
+    (omega arith, c .keys-from .ensures ∙ ap (λ (p : Point). keysFrom h p 0) (c .before .near-point .ensures) ∙ first-keys h)
 
-a-point-requires-2 : tie.Need-a-point-requires-2 Inv-loop μ-loop
-a-point-requires-2 c κs = search needs
+near-point-requires-2 : tie.Need-near-point-requires-2 Inv-loop μ-loop
+near-point-requires-2 c κs = search needs
 
 cast-keys-from : tie.Need-cast-keys-from Inv-loop μ-loop
 cast-keys-from c = search needs
@@ -42,7 +42,7 @@ cast-keys-from c = search needs
 keys-from-requires-2 : tie.Need-keys-from-requires-2 Inv-loop μ-loop
 keys-from-requires-2 c κs =
     let k = c .before .before .loop .k in
-    (c .before .before .before .before .before .pre .1, small-read (c .a-point2 .result) k (c .a-point2 .ensures) (omega arith), omega arith)
+    (c .before .before .before .before .before .pre .1, small-read (c .near-point2 .result) k (c .near-point2 .ensures) (omega arith), omega arith)
 
 lesser-keys-requires : tie.Need-lesser-keys-requires Inv-loop μ-loop
 lesser-keys-requires c κs = search needs
@@ -58,7 +58,7 @@ loop-again c =
     let l = c .before .before .before .before in
     let h = l .before .before .before .args .h in
     let k = l .loop .k in
-    let here = c .before .keys-from2 .ensures ∙ ap (λ (p : Point). keysFrom h p k) (c .before .before .a-point2 .ensures) in
+    let here = c .before .keys-from2 .ensures ∙ ap (λ (p : Point). keysFrom h p k) (c .before .before .near-point2 .ensures) in
     (search needs, c .lesser-keys .ensures ∙ ap₂ lesserKeys (l .loop .inv .1) here ∙ next-keys h k (omega arith))
 
 returns : tie.Need-returns Inv-loop μ-loop
@@ -73,10 +73,10 @@ least-keys-spec =
     (tie.spec
     Inv-loop
     μ-loop
-    a-point-requires
+    near-point-requires
     keys-from-requires
     loop-holds
-    a-point-requires-2
+    near-point-requires-2
     cast-keys-from
     keys-from-requires-2
     lesser-keys-requires

@@ -14,6 +14,7 @@ mod recorded;
 mod reference;
 mod rng;
 mod shrink;
+mod turned;
 mod vectors;
 mod years;
 
@@ -140,6 +141,11 @@ fn compare(o: &Options) -> Result<(), String> {
     let line = Instant::now();
     let back = years::check(o.seed, o.years)?;
     println!("one line of {back} symbols: no call refused, every word back, {:.0} s", line.elapsed().as_secs_f64());
+    let turned = turned::check(&map, o.seed)?;
+    println!(
+        "turned lines: no word differs ({} lines; {} more have several nearest sequences, and {} of these differ)",
+        turned.compared, turned.several, turned.differing
+    );
     let seen = run_sessions(&map, o);
     if let Some((index, failure)) = seen.failed {
         report(&map, o, index, failure);

@@ -68,7 +68,7 @@ pub record LeastWords (ac : Accord) (b : Start) (took : List (Two Received)) (ws
   pub only : (q : Path Symbol) → Answer (codeOf ac (startOf b)) (reverse took) q → q ≡ path
   pub words-are : ws ≡ wordsOf ac (startOf b) (symbols path)
 
-ended-fine : (ac : Accord) (w : ℕ) (b : Start) (took : List (Two Received)) (ws : List ℕ) → Ended ac w b took ws → Fine (toldOf ac w b took)
+pub ended-fine : (ac : Accord) (w : ℕ) (b : Start) (took : List (Two Received)) (ws : List ℕ) → Ended ac w b took ws → Fine (toldOf ac w b took)
 ended-fine ac w b took ws (ends {ws = vs} {rx = q} k out o r h z) = follows ac w b took vs q k .fine
 
 pub least : (ac : Accord) (w : ℕ) (b : Start) (took : List (Two Received)) (ws : List ℕ) → Ended ac w b took ws → LeastWords ac b took ws
@@ -106,7 +106,7 @@ module _ (ac : Accord) (w : ℕ) (b : Start) (z : StartsAtZero b) (sent : List �
       (speaks (toldOf ac w b (cleanly ac sent)) (f .fine) .within (reverse (cleanly ac sent))))
 
 -- a sender's run, heard 128 times
-sent-cleanly : (ac : Accord) (sent : List ℕ) (ps : List ℤ) (s : Sender) → sender.Talk ac sent ps s → symbolsOf (allOnLine ps) ≡ cleanly ac sent
+pub sent-cleanly : (ac : Accord) (sent : List ℕ) (ps : List ℤ) (s : Sender) → sender.Talk ac sent ps s → symbolsOf (allOnLine ps) ≡ cleanly ac sent
 sent-cleanly ac sent ps s k =
     let r = ran ac sent ps s k in
     ap (λ (l : List ℤ). symbolsOf (allOnLine l)) (r .written ∙ ap (sender.coordinatesOf ac) (r .are)) ∙ read-back ac (symbolsFrom (ac .u) 0 0 sent)

@@ -6,6 +6,7 @@ pub mod Meant
 pub mod Left
 pub mod Windows
 pub mod Missing
+pub mod QuarterTurn
 pub mod Library
 pub mod Lent
 -- what they lean on

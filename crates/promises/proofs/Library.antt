@@ -4,9 +4,10 @@
 --   numbers                demand 1: number, place and counts of a piece are those of 01's table
 --   exact, final, whole    demand 3
 --   round-trip             demand 2, from the library's sender to the library's receiver
+--   quarter-turn           a quarter turn does not matter
 use mathlib.Core.Path.{_≡_, refl, sym, ap, subst, _∙_}
 use mathlib.Core.Bool.{Bool, true, false, cond}
-use mathlib.Core.List.{List, [], _++_, reverse, IsPrefix}
+use mathlib.Core.List.{List, [], _++_, map, reverse, IsPrefix}
 use Prim.Native.Nat.{ℕ, _*_, _≤_, _<_}
 use native.Mathlib.Omega.{arith}
 use borrow.Author.Tests.{le-ltb, lt-ltb}
@@ -17,13 +18,14 @@ use Rattle.wei.specs.Symbol.{Symbol}
 use Rattle.points.specs.declared.Accord.{Accord}
 use Rattle.trellis.specs.Code.{Path, symbols}
 use Rattle.trellis.specs.Best.{Answer as IsAnswer, Longest}
-use Rattle.trellis.specs.Measure.{Two}
+use Rattle.trellis.specs.Measure.{free, Two}
 use Rattle.trellis.specs.Words.{asHeard}
 use Rattle.nearest.specs.declared.Received.{Received}
 use Rattle.reasons.specs.Reason.{givenOf}
 use Rattle.told.specs.Told.{codeOf, wordsOf}
 use Rattle.told.specs.Piece.{Piece, symbolsOf}
 use Rattle.openings.specs.declared.Start.{Start}
+use Rattle.openings.specs.declared.Start.the-variants.{Free}
 use Rattle.openings.specs.Given.{startOf}
 use Rattle.openings.specs.Opening.{opening}
 use Rattle.openings.proofs.Openings.{opening-opens}
@@ -45,6 +47,9 @@ use Rattle.stored.specs.State.{senderIn, wordsOfSender, receiverIn, wordsOfRece
 use Rattle.converted.specs.Counts.{toldOf}
 use Rattle.demfizagu.specs.Calls.{Call, callOf, senderOpening, sendCall, sendListCall, receiverOpening, hearCall, finishCall}
 use Rattle.demfizagu.specs.Promise as library
+use Rattle.turning.specs.Alone.{Alone}
+use Rattle.turning.specs.Turned.{turnedBy}
+use Rattle.turning.specs.Same.{SameWords}
 use Rattle.promises.specs.Talk as ends
 use Rattle.promises.specs.Table as table
 use Rattle.promises.specs.Library.{taken, written, LibraryHears, opens, hears, refuses, short, short-finish, copied, LibraryEnded}
@@ -53,6 +58,7 @@ use Rattle.promises.proofs.Follows as follows
 use Rattle.promises.proofs.Demand1 as demand1
 use Rattle.promises.proofs.Demand2 as demand2
 use Rattle.promises.proofs.Demand3 as demand3
+use Rattle.promises.proofs.QuarterTurn as turn
 use Rattle.promises.specs.Clean.{allOnLine, StartsAtZero}
 
 -- ---- what a call answers
@@ -253,3 +259,7 @@ module _ (k : Accord) (w : ℕ) (b : Start) (took : List (Two Received)) (ws : L
 pub round-trip : (k : Accord) (w : ℕ) (b : Start) → StartsAtZero b → (words : List ℕ) (ps : List ℤ) (state ws : List ℕ) → calls.LibrarySends k words ps state →
     LibraryEnded k w b (symbolsOf (allOnLine ps)) ws → ws ≡ asHeard (startOf b) words
 round-trip k w b z words ps state ws s e = demand2.round-trip k w b z words ps (senderIn state) (sent k words ps state s) ws (ended k w b (symbolsOf (allOnLine ps)) ws e)
+
+pub quarter-turn : (ac : Accord) (v w k : ℕ) (took : List (Two Received)) (ws vs : List ℕ) → Alone (codeOf ac free) (reverse took) →
+    LibraryEnded ac v Free took ws → LibraryEnded ac w Free (map (turnedBy k) took) vs → SameWords (ac .map) vs ws
+quarter-turn ac v w k took ws vs A d e = turn.quarter-turn ac v w k took ws vs A (ended ac v Free took ws d) (ended ac w Free (map (turnedBy k) took) vs e)

@@ -1,5 +1,7 @@
 -- On a clean line the answer is what was sent: an allowed sequence that every received symbol lies on has the sum 0, and where no
 -- received symbol lies on two symbols it is the only one.
+--   one-zero       two sequences of the sum 0 have the same symbols
+--   sent-zero      the symbols that were sent are those of a sequence of the sum 0
 --   clean-answer   the answer's symbols are those that were sent
 --   clean-words    the answer's words are theirs
 --   round-trip     words that a sender made into symbols come back
@@ -56,7 +58,7 @@ module _ (u : ℕ) (M : Measure) (b : Start) where
       let (r, z) = hits-last M (reverse ys) (symbols p) y c l (rw (reverse-cons y ys) at h) in
       omega (arith, sum-zero ys p (a .2) r, z)
 
-  one-zero : (ys : List Heard) → Every (Exact u M) ys → (p q : Path Symbol) → Allowed (weiCode u M b) ys p → Allowed (weiCode u M b) ys q →
+  pub one-zero : (ys : List Heard) → Every (Exact u M) ys → (p q : Path Symbol) → Allowed (weiCode u M b) ys p → Allowed (weiCode u M b) ys q →
       cost (weiCode u M b) ys p ≡ 0 → cost (weiCode u M b) ys q ≡ 0 → symbols p ≡ symbols q
   one-zero [] E (begin s) (begin t) a k e f = refl
   one-zero [] E (begin s) (step q d t) a k e f = absurd k
@@ -66,13 +68,18 @@ module _ (u : ℕ) (M : Measure) (b : Start) where
   one-zero (y ∷ ys) E (step p c s) (step q d t) a k e f =
       ap₂ (λ (l : List Symbol) (x : Symbol). l ++ (x ∷ [])) (one-zero ys (E .1) p q (a .2) (k .2) (omega arith) (omega arith)) (E .0 c d (a .1 .valid) (k .1 .valid) (omega arith) (omega arith))
 
+  pub sent-zero : (s : ℕ) → s < 16 → T (mayStart b s) → (xs : List Heard) (cs : List Symbol) → Hits M xs cs → AllowedFrom u s cs →
+      (p : Path Symbol) × Allowed (weiCode u M b) (reverse xs) p × (cost (weiCode u M b) (reverse xs) p ≡ 0) × (symbols p ≡ cs)
+  sent-zero s h t xs cs k a =
+      let d = from-drawn u M b s cs h t a (reverse xs) (length-reverse xs ∙ hits-length M xs cs k) in
+      (d .path, d .allowed, sum-zero (reverse xs) (d .path) (d .allowed) (rw (reverse-reverse, d .symbols-are) k), d .symbols-are)
+
   pub clean-answer : (s : ℕ) → s < 16 → T (mayStart b s) → (xs : List Heard) (cs : List Symbol) → Every (Exact u M) xs → Hits M xs cs → AllowedFrom u s cs →
       (p : Path Symbol) → Answer (weiCode u M b) (reverse xs) p → symbols p ≡ cs
   clean-answer s h t xs cs E k a p A =
-      let d = from-drawn u M b s cs h t a (reverse xs) (length-reverse xs ∙ hits-length M xs cs k) in
-      let z : cost (weiCode u M b) (reverse xs) (d .path) ≡ 0 = sum-zero (reverse xs) (d .path) (d .allowed) (rw (reverse-reverse, d .symbols-are) k) in
-      let w : cost (weiCode u M b) (reverse xs) p ≡ 0 = omega (arith, A .least (d .path) (d .allowed) .by-sum, z) in
-      one-zero (reverse xs) (every-reverse (Exact u M) xs E) p (d .path) (A .allowed) (d .allowed) w z ∙ d .symbols-are
+      let (q, c, z, e) = sent-zero s h t xs cs k a in
+      let w : cost (weiCode u M b) (reverse xs) p ≡ 0 = omega (arith, A .least q c .by-sum, z) in
+      one-zero (reverse xs) (every-reverse (Exact u M) xs E) p q (A .allowed) c w z ∙ e
 
 module _ (u : ℕ) (M : Measure) (H : Choice M) (C : Chooses u M H) (b : Start) (g : GoodStart b) (s : ℕ) (h : s < 16) (t : T (mayStart b s)) where
   open Measure M using (Heard)

@@ -31,8 +31,8 @@ use Rattle.receiver.specs.Doors.{Ran}
 use Rattle.receiver.specs.Promise.{Is}
 use Rattle.desk.specs.declared.Desk.{Desk}
 use Rattle.desk.specs.declared.Done.{Done}
-use Rattle.answers.specs.Answer.{firstFour, sentLine, listLine, heardLine, sampleLine, sampledLine}
-use Rattle.desk.specs.Room.{Long, Lent, Ready}
+use Rattle.answers.specs.Answer.{answerRoom, firstFour, sentLine, listLine, heardLine, sampleLine, sampledLine}
+use Rattle.desk.specs.Room.{Long, Ready}
 use Rattle.phrases.specs.Phrase.{decimal, whole, afterSpaces}
 use Rattle.desk.specs.Desk.{Result, says, withSender, sendGives, listGives, lent, Does, Acts}
 use Rattle.phrases.proofs.Phrases.{puts-as}
@@ -146,18 +146,8 @@ short n words h = rw length-take (omega arith)
 long-on : {l l' : Named} → Long l → length (l' .coordinates) ≡ length (l .coordinates) → length (l' .words) ≡ length (l .words) → length (l' .marks) ≡ length (l .marks) → Long l'
 long-on h a b c = record { coordinates-long = a ∙ h .coordinates-long; words-long = b ∙ h .words-long; marks-long = c ∙ h .marks-long }
 
--- a request that was read into the lists can be answered, where the page is filled to a quarter at most
-pub ready : {asked : Request} {page : List ℕ} {at : ℕ} (l : Named) {l' : Named} → Lent page l → at ≤ 32768
+-- a request that was read into the lists can be answered, where the page has room
+pub ready : {asked : Request} {page : List ℕ} {at : ℕ} (l : Named) {l' : Named} → Long l → at + answerRoom ≤ length page
     → length (l' .coordinates) ≡ length (l .coordinates) → length (l' .words) ≡ length (l .words) → length (l' .marks) ≡ length (l .marks)
     → Fit (length (l .coordinates)) asked → Ready asked page at l'
-ready {asked} l lent h a b c f =
-    record {
-      fit = subst (λ (n : ℕ). Fit n asked) (sym a) f;
-      room = omega (arith, lent .page-long);
-      long = long-on (lent .long) a b c;
-    }
-
--- buffers that keep their lengths stay lent
-pub lent-on : {page page' : List ℕ} {l l' : Named} → Lent page l → length page' ≡ length page
-    → length (l' .coordinates) ≡ length (l .coordinates) → length (l' .words) ≡ length (l .words) → length (l' .marks) ≡ length (l .marks) → Lent page' l'
-lent-on h p a b c = record { page-long = p ∙ h .page-long; long = long-on (h .long) a b c }
+ready {asked} l long h a b c f = record { fit = subst (λ (n : ℕ). Fit n asked) (sym a) f; room = h; long = long-on long a b c }

@@ -1,5 +1,5 @@
 -- The sizes of what is lent, so that no answer is ever cut short. Definitions only.
---   Lent ..         the buffers have their sizes: the page 131,072 bytes, coordinates and words 4096 each, marks 1024
+--   Long ..         the lists have their sizes: coordinates and words 4096 each, marks 1024
 --   Ready ..        a request can be answered: its sizes fit, outputs and coordinates have their sizes, and the page has room for any
 --                   answer
 use Prim.Native.Nat.{ℕ, _+_, _≤_}
@@ -11,15 +11,10 @@ use Rattle.requests.specs.Named.{Named}
 use Rattle.requests.specs.Verb.{Fit}
 use Rattle.answers.specs.Answer.{answerRoom}
 
--- the lists
 pub record Long (l : Named) : Type 0 where
   pub coordinates-long : length (l .coordinates) ≡ 4096
   pub words-long : length (l .words) ≡ 4096
   pub marks-long : length (l .marks) ≡ 1024
-
-pub record Lent (page : List ℕ) (l : Named) : Type 0 where
-  pub page-long : length page ≡ 131072
-  pub long : Long l
 
 pub record Ready (asked : Request) (page : List ℕ) (at : ℕ) (l : Named) : Type 0 where
   pub fit : Fit (length (l .coordinates)) asked

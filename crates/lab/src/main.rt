@@ -12,15 +12,5 @@ fn main() {
     let mut chunk = [0u8; 65536];
     let mut line = [0u8; 65536];
     let mut page = [0u8; 131072];
-    let mut coordinates = [0i32; 4096];
-    let mut words = [0u32; 4096];
-    let mut marks = [0u8; 1024];
-    stream::serve(
-        &mut chunk,
-        &mut line,
-        &mut page,
-        &mut coordinates,
-        &mut words,
-        &mut marks,
-    );
+    stream::serve(&mut chunk, &mut line, &mut page);
 }

@@ -4,6 +4,7 @@
 --   idles                      an answer alone
 --   ends-before, opens-first, opens-not   an opening: a further one, one that answered 0, one that is refused
 --   noted-as, .., other-noted  by the kind of the request
+--   noting-only                by what the request names
 --   long-noted, line-noted     by the line
 use Prim.Native.Nat.{ℕ, _+_, _-_, _≤_}
 use mathlib.Core.Path.{_≡_, refl, sym, ap, subst, _∙_}
@@ -37,15 +38,16 @@ use Rattle.answers.specs.Answer.{numberLine, heardLine, unreadLine}
 use Rattle.requests.specs.declared.Request.{Request}
 use Rattle.requests.specs.declared.Request.the-variants as request
 use Rattle.requests.proofs.Request.{the-type}
-use Rattle.requests.specs.Named.{Named, named}
+use Rattle.requests.specs.Named.{Named}
 use Rattle.requests.specs.Verb.{Fit}
-use Rattle.protocol.specs.Request.{requestOf, Reads}
+use Rattle.protocol.specs.Request.{requestOf}
 use Rattle.desk.specs.Room.{Long}
 use Rattle.lines.specs.declared.Part.{Part}
-use Rattle.lines.specs.Line.{Gathered}
+use Rattle.lines.specs.Line.{Gathered, namedBy}
+use Rattle.lines.proofs.Named.{cut}
 use Rattle.noting.specs.declared.Noted.{Noted}
-use Rattle.noting.specs.Note.{Note, stays, opens, taped, startNumber, noting, filledIn, notingLine, Notes}
-use Rattle.noting.specs.Room.{Lent, Ready}
+use Rattle.noting.specs.Note.{Note, stays, opens, taped, startNumber, noting, notingLine, Notes}
+use Rattle.noting.specs.Room.{pageRoom, Ready}
 
 -- what was put at the front of a list fits it
 pub front-few : (ws out o : List ℕ) → o ≡ ws ++ drop (length ws) out → length o ≡ length out → length ws ≤ length out
@@ -194,33 +196,45 @@ other-noted rx begun l room (request.Marked cap k n) h = absurd (subst T (sym (o
 -- ---- a line
 
 -- a request that was read into the lists can be answered
-pub ready : {asked : Request} (l : Named) {l' : Named} {page : List ℕ} → Lent l page
+pub ready : {asked : Request} (l : Named) {l' : Named} {page : List ℕ} → Long l → pageRoom ≤ length page
     → length (l' .coordinates) ≡ length (l .coordinates) → length (l' .words) ≡ length (l .words) → length (l' .marks) ≡ length (l .marks)
     → Fit (length (l .coordinates)) asked → Ready asked l' page
-ready {asked} l lent e g m f =
-    let long = lent .long in
+ready {asked} l long p e g m f =
     record {
-      lent =
-          record {
-            long = record { coordinates-long = e ∙ long .coordinates-long; words-long = g ∙ long .words-long; marks-long = m ∙ long .marks-long };
-            page-long = lent .page-long;
-          };
+      long = record { coordinates-long = e ∙ long .coordinates-long; words-long = g ∙ long .words-long; marks-long = m ∙ long .marks-long };
+      page-long = p;
       fit = subst (λ (n : ℕ). Fit n asked) (sym e) f;
     }
 
-module _ {line : List ℕ} {part : Part} {s : List ℕ} (g : Gathered line part s) (rx : Receiver) (begun : Bool) (l : Named) (room : ℕ) where
-  pub long-noted : part .long ≡ true → stays rx begun unreadLine ≡ notingLine (length line) rx begun s l room
+-- what a request does goes by what it names
+pub noting-only : (rx : Receiver) (begun : Bool) (room : ℕ) (k : Request) (l l' : Named) → cut k l ≡ cut k l' → noting rx begun k l room ≡ noting rx begun k l' room
+unfolding noting
+noting-only rx begun room (request.Piece cap n) l l' e = ap (λ (c : Named). taped begun (tapedHearing rx (pieceOf (c .coordinates)) cap room)) e
+noting-only rx begun room (request.Marked cap m n) l l' e = ap (λ (c : Named). taped begun (tapedHearing rx (markedPiece (c .marks) (c .coordinates)) cap room)) e
+noting-only rx begun room request.Nothing l l' e = refl
+noting-only rx begun room request.Unread l l' e = refl
+noting-only rx begun room (request.Sender k) l l' e = refl
+noting-only rx begun room (request.Send w cap) l l' e = refl
+noting-only rx begun room (request.Plain k) l l' e = refl
+noting-only rx begun room (request.Free k w) l l' e = refl
+noting-only rx begun room (request.At k w s) l l' e = refl
+noting-only rx begun room (request.Finish cap) l l' e = refl
+noting-only rx begun room (request.Sample x y) l l' e = refl
+noting-only rx begun room request.Pending l l' e = refl
+noting-only rx begun room (request.List cap n) l l' e = refl
+noting-only rx begun room request.Missing l l' e = refl
+
+module _ {line : List ℕ} {part : Part} {s : List ℕ} (g : Gathered line part s) (rx : Receiver) (begun : Bool) (room : ℕ) where
+  pub long-noted : part .long ≡ true → stays rx begun unreadLine ≡ notingLine (length line) rx begun s room
   unfolding notingLine
   long-noted e = sym (rw (lt-ltb (length line) (length s) (g .too-long e)))
 
-  pub line-noted : {l' : Named} {asked : Request} → part .long ≡ false → Long l → Reads (take (part .held) line) l asked l'
-      → noting rx begun asked l' room ≡ notingLine (length line) rx begun s l room
+  pub line-noted : part .long ≡ false
+      → noting rx begun (requestOf 4096 4096 1024 (take (part .held) line)) (namedBy (take (part .held) line)) room ≡ notingLine (length line) rx begun s room
   unfolding notingLine
-  line-noted {l'} {asked} f h r =
+  line-noted f =
       let few : length s ≤ length line = omega (arith, ap length (g .kept f), length-take (part .held) line) in
-      (λ i. noting rx begun (r .is i) (named (r .fills i) (r .puts i) (r .marks i)) room)
-      ∙ rw (g .kept f, le-ltb (length line) (length s) few)
-      (λ i. noting rx begun (requestOf (h .coordinates-long i) (h .words-long i) (h .marks-long i) s) (filledIn s l) room)
+      rw (g .kept f, le-ltb (length line) (length s) few)
 
 pub notes-same : {g g' : Note} {bytes page : List ℕ} {r : Noted} {b page' : List ℕ} → g ≡ g' → Notes g bytes page r b page' → Notes g' bytes page r b page'
 notes-same {bytes = bytes} {page = page} {r = r} {b = b} {page' = page'} e n = subst (λ (g : Note). Notes g bytes page r b page') e n

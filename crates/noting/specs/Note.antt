@@ -8,7 +8,6 @@
 --   startNumber s       the number in a record of the named state s: 16 is the free start there and no state, so 17 stands for it
 --   noting ..           what a request does, where the lists l start with what its line names and the bytes have so much room: "Each line is
 --                       answered as lab would, CAP being the room for words; unreadable lines and other verbs answer `?`"
---   filledIn s l        the lists after the line s has been read into them
 --   notingLine most ..  what a line does; most is as many bytes as a line may have
 --   Notes g ..          what was done is g: its records at the front of the bytes, its answer at the front of the page, all else unchanged
 use Prim.Native.Nat.{ℕ, _≤_}
@@ -31,8 +30,9 @@ use Rattle.recorder.specs.Doors.{tapedHearing, tapedFinishing}
 use Rattle.page.specs.Page.{Puts}
 use Rattle.requests.specs.declared.Request.{Request}
 use Rattle.requests.specs.declared.Request.the-variants as request
-use Rattle.requests.specs.Named.{Named, named}
-use Rattle.protocol.specs.Request.{requestOf, coordinatesOf, wordsOf, marksIn}
+use Rattle.requests.specs.Named.{Named}
+use Rattle.protocol.specs.Request.{requestOf}
+use Rattle.lines.specs.Line.{namedBy}
 use Rattle.answers.specs.Answer.{numberLine, heardLine, unreadLine}
 use Rattle.noting.specs.declared.Noted.{Noted}
 
@@ -80,13 +80,9 @@ noting rx begun request.Pending l room = stays rx begun unreadLine
 noting rx begun (request.List cap n) l room = stays rx begun unreadLine
 noting rx begun request.Missing l room = stays rx begun unreadLine
 
--- the lists after the line s has been read into them
-abbrev pub filledIn : List ℕ → Named → Named
-filledIn s l = named (coordinatesOf s (l .coordinates)) (wordsOf s (l .words)) (marksIn s (l .marks))
-
 -- "A line has at most 65,536 bytes before its newline; a longer one answers `?` once"
-unfoldable pub notingLine : ℕ → Receiver → Bool → List ℕ → Named → ℕ → Note
-notingLine most rx begun s l room = cond (ltb most (length s)) (stays rx begun unreadLine) (noting rx begun (requestOf 4096 4096 1024 s) (filledIn s l) room)
+unfoldable pub notingLine : ℕ → Receiver → Bool → List ℕ → ℕ → Note
+notingLine most rx begun s room = cond (ltb most (length s)) (stays rx begun unreadLine) (noting rx begun (requestOf 4096 4096 1024 s) (namedBy s) room)
 
 -- the last two parts follow from those before them; they are stated so that callers find them
 pub record Notes (g : Note) (bytes page : List ℕ) (r : Noted) (b page' : List ℕ) : Type 0 where

@@ -16,9 +16,10 @@ ghost use Rattle.taping.specs.Taping.{Ran};
 ghost use Rattle.recorder.specs.Doors.{tapedHearing, tapedFinishing};
 ghost use Rattle.requests.specs.Named.{named};
 ghost use Rattle.answers.specs.Answer.{unreadLine};
-ghost use Rattle.lines.specs.Line.{Gathered};
+ghost use Rattle.protocol.specs.Request.{requestOf};
+ghost use Rattle.lines.specs.Line.{Gathered, namedBy};
 ghost use Rattle.noting.specs.Note.{startNumber, stays, opens, taped, noting, notingLine, Notes};
-ghost use Rattle.noting.specs.Room.{pageRoom, Lent, Ready};
+ghost use Rattle.noting.specs.Room.{pageRoom, Ready};
 
 // What a line left: the receiver, whether an opening is recorded, how many bytes there are of records and of the answer, and whether the
 // recording ends here.
@@ -228,27 +229,45 @@ pub fn note(
     }
 }
 
+// What a line within its buffer does. The lists that it is read into last no longer than the line.
+fn obey(rx: Receiver, begun: bool, line: &[u8], bytes: &mut [u8], page: &mut [u8]) -> Noted
+    requires { ⌜ pageRoom ≤ length (now page) ⌝ }
+    ensures { λ r. ⌜ Notes (noting rx begun (requestOf 4096 4096 1024 (now (line .entry))) (namedBy (now (line .entry))) (length (now (bytes .entry))))
+        (now (bytes .entry)) (now (page .entry)) r (now (bytes .exit)) (now (page .exit)) ⌝ }
+{
+    let mut coordinates = [0i32; 4096];
+    let mut words = [0u32; 4096];
+    let mut marks = [0u8; 1024];
+    let asked = protocol::read(line, &mut coordinates, &mut words, &mut marks);
+    note(
+        rx,
+        begun,
+        asked,
+        &coordinates,
+        &mut words,
+        &marks,
+        bytes,
+        page,
+    )
+}
+
 // The line that has come to its end.
 pub fn line(
     rx: Receiver,
     begun: bool,
     part: Part,
     line: &[u8],
-    coordinates: &mut [i32],
-    words: &mut [u32],
-    marks: &mut [u8],
     bytes: &mut [u8],
     page: &mut [u8],
 ) -> Noted
-    requires { ⌜ Lent (named (now coordinates) (now words) (now marks)) (now page) × (part .held ≤ length (now line)) ⌝ }
+    requires { ⌜ (pageRoom ≤ length (now page)) × (part .held ≤ length (now line)) ⌝ }
     ensures { λ r. ⌜ ((s : List ℕ) → Gathered (now (line .entry)) part s
-        → Notes (notingLine (length (now (line .entry))) rx begun s (named (now (coordinates .entry)) (now (words .entry)) (now (marks .entry))) (length (now (bytes .entry))))
+        → Notes (notingLine (length (now (line .entry))) rx begun s (length (now (bytes .entry))))
         (now (bytes .entry)) (now (page .entry)) r (now (bytes .exit)) (now (page .exit))) ⌝ }
 {
     if part.long {
         return unread(rx, begun, bytes, page);
     }
     let held = part.held;
-    let asked = protocol::read(&line[..held], coordinates, words, marks);
-    note(rx, begun, asked, coordinates, words, marks, bytes, page)
+    obey(rx, begun, &line[..held], bytes, page)
 }

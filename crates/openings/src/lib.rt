@@ -119,10 +119,7 @@ pub fn open_receiver(accord: Accord, window: u32, start: Start) -> Opened
     if !points::is_accord(accord) {
         return not_opened(Why::BadWidth);
     }
-    if window < 1 {
-        return not_opened(Why::BadWindow);
-    }
-    if window > 64 {
+    if !((1 <= window) & (window <= 64)) {
         return not_opened(Why::BadWindow);
     }
     if !start_fits(start) {
@@ -155,35 +152,19 @@ fn core_fits(c: Core) -> bool
     ensures { λ r. ⌜ r ≡ soundCore c ⌝ }
 {
     let accord = c.accord;
-    if !points::is_accord(accord) {
-        return false;
-    }
-    if c.window < 1 {
-        return false;
-    }
-    if c.window > 64 {
-        return false;
-    }
-    if c.turn > 4 {
-        return false;
-    }
-    if c.slot > 63 {
-        return false;
-    }
-    c.pending <= c.window
+    points::is_accord(accord)
+        & (1 <= c.window)
+        & (c.window <= 64)
+        & (c.turn <= 4)
+        & (c.slot < 64)
+        & (c.pending <= c.window)
 }
 
 // Whether a receiver of these parts is open and in range: no state keeps more than one that nothing reaches.
 pub fn parts_fit(live: bool, c: Core, sums: &[u32; 16]) -> bool
     ensures { λ r. ⌜ r ≡ (live && (soundCore c && allUpTo limit (now (sums .entry)))) ⌝ }
 {
-    if !live {
-        return false;
-    }
-    if !core_fits(c) {
-        return false;
-    }
-    sums::all_up_to(sums, sums::LIMIT)
+    live & (core_fits(c) & sums::all_up_to(sums, sums::LIMIT))
 }
 
 // Whether the receiver is open and in range.

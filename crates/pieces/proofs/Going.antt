@@ -22,9 +22,10 @@ use Rattle.machine.specs.Machine.{Outcome, sound}
 use Rattle.reasons.specs.Reason.{reason, givenOf, isDone}
 use Rattle.told.specs.Piece.{symbolsWith}
 use Rattle.pieces.specs.Running.{symbolAt, Ran, running}
-use Rattle.pieces.specs.Lent.{symbolIn, RunsLent}
+use Rattle.inputs.specs.Looks.{symbolIn}
+use Rattle.pieces.specs.Lent.{RunsLent}
 use Rattle.machine.specs.Taken.{whole, TookIs}
-use Rattle.pieces.proofs.Marks.{mark-from, later-from}
+use Rattle.inputs.proofs.Marks.{mark-from, later-from}
 use Rattle.pieces.proofs.Kept.{symbol-refused, symbol-sound, symbol-accord}
 use Rattle.reasons.proofs.Apart.{done-given}
 use Rattle.pieces.proofs.Lent.{part, back-is, lent-fits, back-take, back-drop, back-length}

@@ -1,21 +1,13 @@
 -- What the code of a run is lent and what it leaves, in terms of `running`.
---   symbolIn m xs i   the symbol with the mark m whose four coordinates stand from the place i on
 --   RunsLent          a run's result, the lists that were lent to it and the output are those of `running`
-use Prim.Native.Nat.{ℕ, _+_}
+use Prim.Native.Nat.{ℕ}
 use mathlib.Core.Path.{_≡_}
 use mathlib.Core.List.{List}
-use lib.IntN.{ℤ, pos}
-use lib.ListN.{getD, length}
-use Rattle.trellis.specs.Measure.{Two}
-use Rattle.nearest.specs.declared.Received.{Received}
+use lib.ListN.{length}
 use Rattle.machine.specs.Taken.{whole}
 use Rattle.reasons.specs.Reason.{givenOf}
-use Rattle.told.specs.Piece.{markedSymbol}
 use Rattle.pieces.specs.declared.Heard.{Heard}
 use Rattle.pieces.specs.Running.{Ran, Written}
-
-abbrev pub symbolIn : ℕ → List ℤ → ℕ → Two Received
-symbolIn m xs i = markedSymbol m (getD xs i (pos 0)) (getD xs (i + 1) (pos 0)) (getD xs (i + 2) (pos 0)) (getD xs (i + 3) (pos 0))
 
 -- the result r of a run, where the receiver's lists were lent, and what stands in them and in the output after it
 pub record RunsLent (ran : Ran) (out : List ℕ) (r : Heard) (sums planes picks o : List ℕ) : Type 0 where

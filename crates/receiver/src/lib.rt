@@ -75,7 +75,7 @@ pub fn hear_piece_lent(
     if !lent_fit(live, core, sums, picks) {
         return nothing_heard(core, Why::Closed);
     }
-    if !pieces::fits(marked, marks, samples.len()) {
+    if !inputs::fits(marked, marks, samples.len()) {
         return nothing_heard(core, Why::Uneven);
     }
     pieces::hear_symbols(core, marked, marks, samples, sums, planes, picks, out)

@@ -73,7 +73,7 @@ pub fn hear_piece_lent(
     if !openings::parts_fit(live, core, sums) {
         return nothing_kept(core, Why::Closed);
     }
-    if !pieces::fits(marked, marks, samples.len()) {
+    if !inputs::fits(marked, marks, samples.len()) {
         return nothing_kept(core, Why::Uneven);
     }
     taping::record_symbols(

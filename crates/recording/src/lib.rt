@@ -6,6 +6,7 @@ use libc::STDOUT_FILENO;
 use lines::Part;
 use machine::Receiver;
 use noting::Noted;
+use text::token;
 ghost use mathlib.Core.Path.{_≡_};
 ghost use Prim.Native.Nat.{_≤_};
 ghost use lib.ListN.{length};
@@ -44,31 +45,13 @@ fn put_out(n: Noted, bytes: &[u8], page: &[u8]) -> bool {
 }
 
 // The line that has come to its end.
-fn end_line(
-    t: Turn,
-    line: &[u8],
-    coordinates: &mut [i32],
-    words: &mut [u32],
-    marks: &mut [u8],
-    bytes: &mut [u8],
-    page: &mut [u8],
-) -> Turn
-    requires { ⌜ (length (now coordinates) ≡ 4096) × (length (now words) ≡ 4096) × (length (now marks) ≡ 1024) × (length (now page) ≡ 98304) × (t .part .held ≤ length (now line)) ⌝ }
+fn end_line(t: Turn, line: &[u8], bytes: &mut [u8], page: &mut [u8]) -> Turn
+    requires { ⌜ (t .part .held ≤ length (now line)) × (length (now page) ≡ 98304) ⌝ }
     ensures { λ r. ⌜ r .part .held ≡ 0 ⌝ }
 {
     let part = t.part;
     let rx = t.receiver;
-    let n = noting::line(
-        rx,
-        t.begun,
-        part,
-        line,
-        coordinates,
-        words,
-        marks,
-        bytes,
-        page,
-    );
+    let n = noting::line(rx, t.begun, part, line, bytes, page);
     let after = n.receiver;
     let on = put_out(n, bytes, page);
     Turn {
@@ -79,54 +62,27 @@ fn end_line(
     }
 }
 
-// A byte of a line, or its end.
-fn byte(
-    t: Turn,
-    b: u8,
-    line: &mut [u8],
-    coordinates: &mut [i32],
-    words: &mut [u32],
-    marks: &mut [u8],
-    bytes: &mut [u8],
-    page: &mut [u8],
-) -> Turn
-    requires { ⌜ (length (now coordinates) ≡ 4096) × (length (now words) ≡ 4096) × (length (now marks) ≡ 1024) × (length (now page) ≡ 98304) × (t .part .held ≤ length (now line)) ⌝ }
+// Line by line; what stands after the last newline is kept. The bytes hold the records of any line: 10 at most for each of 1,024 symbols,
+// 5 for each of 4096 words. So no line is refused for want of them.
+fn hear_chunk(t: Turn, chunk: &[u8], line: &mut [u8]) -> Turn
+    requires { ⌜ t .part .held ≤ length (now line) ⌝ }
     ensures { λ r. ⌜ r .part .held ≤ length (now (line .entry)) ⌝ }
 {
-    if b == b'\n' {
-        return end_line(t, line, coordinates, words, marks, bytes, page);
-    }
-    let rx = t.receiver;
-    let part = t.part;
-    let one = [b; 1];
-    let grown = lines::gather(part, line, &one);
-    Turn {
-        receiver: rx,
-        begun: t.begun,
-        part: grown,
-        on: t.on,
-    }
-}
-
-fn hear_chunk(
-    t: Turn,
-    chunk: &[u8],
-    line: &mut [u8],
-    coordinates: &mut [i32],
-    words: &mut [u32],
-    marks: &mut [u8],
-    bytes: &mut [u8],
-    page: &mut [u8],
-) -> Turn
-    requires { ⌜ (length (now coordinates) ≡ 4096) × (length (now words) ≡ 4096) × (length (now marks) ≡ 1024) × (length (now page) ≡ 98304) × (t .part .held ≤ length (now line)) ⌝ }
-    ensures { λ r. ⌜ r .part .held ≤ length (now (line .entry)) ⌝ }
-{
+    let mut bytes = [0u8; 30720];
+    let mut page = [0u8; 98304];
     let mut now = t;
-    let mut i: usize = 0;
-    while i < chunk.len() && now.on {
-        let b = chunk[i];
-        i += 1;
-        now = byte(now, b, line, coordinates, words, marks, bytes, page);
+    let mut from: usize = 0;
+    while from < chunk.len() && now.on {
+        let n = token::before(&chunk[from..], b'\n');
+        let end = from + n;
+        let part = now.part;
+        let grown = lines::gather(part, line, &chunk[from..end]);
+        now.part = grown;
+        if end == chunk.len() {
+            return now;
+        }
+        now = end_line(now, line, &mut bytes, &mut page);
+        from = end + 1;
     }
     now
 }
@@ -140,37 +96,20 @@ fn stopped(t: Turn) -> Turn
 }
 
 // A last line that no newline follows counts as a line.
-fn at_end(
-    t: Turn,
-    line: &[u8],
-    coordinates: &mut [i32],
-    words: &mut [u32],
-    marks: &mut [u8],
-    bytes: &mut [u8],
-    page: &mut [u8],
-) -> Turn
-    requires { ⌜ (length (now coordinates) ≡ 4096) × (length (now words) ≡ 4096) × (length (now marks) ≡ 1024) × (length (now page) ≡ 98304) × (t .part .held ≤ length (now line)) ⌝ }
+fn at_end(t: Turn, line: &mut [u8]) -> Turn
+    requires { ⌜ t .part .held ≤ length (now line) ⌝ }
     ensures { λ r. ⌜ r .part .held ≤ length (now (line .entry)) ⌝ }
 {
     let part = t.part;
     if part.held == 0 && !part.long {
         return stopped(t);
     }
-    stopped(end_line(t, line, coordinates, words, marks, bytes, page))
+    stopped(hear_chunk(t, b"\n", line))
 }
 
 // One read. Where it fails, what was gathered is no line.
-fn read_once(
-    t: Turn,
-    chunk: &mut [u8],
-    line: &mut [u8],
-    coordinates: &mut [i32],
-    words: &mut [u32],
-    marks: &mut [u8],
-    bytes: &mut [u8],
-    page: &mut [u8],
-) -> Turn
-    requires { ⌜ (length (now coordinates) ≡ 4096) × (length (now words) ≡ 4096) × (length (now marks) ≡ 1024) × (length (now page) ≡ 98304) × (t .part .held ≤ length (now line)) ⌝ }
+fn read_once(t: Turn, chunk: &mut [u8], line: &mut [u8]) -> Turn
+    requires { ⌜ t .part .held ≤ length (now line) ⌝ }
     ensures { λ r. ⌜ r .part .held ≤ length (now (line .entry)) ⌝ }
 {
     let got = libc::read(STDIN_FILENO, chunk);
@@ -179,21 +118,15 @@ fn read_once(
         return stopped(t);
     }
     if got == 0 {
-        return at_end(t, line, coordinates, words, marks, bytes, page);
+        return at_end(t, line);
     }
     let n = io::count(got, chunk);
-    hear_chunk(t, &chunk[..n], line, coordinates, words, marks, bytes, page)
+    hear_chunk(t, &chunk[..n], line)
 }
 
-// The bytes hold the records of any line: 10 at most for each of 1,024 symbols, 5 for each of 4096 words. So no line is refused for want of them.
 pub fn run() {
     let mut chunk = [0u8; 65536];
     let mut line = [0u8; 65536];
-    let mut coordinates = [0i32; 4096];
-    let mut words = [0u32; 4096];
-    let mut marks = [0u8; 1024];
-    let mut bytes = [0u8; 30720];
-    let mut page = [0u8; 98304];
     let mut now = Turn {
         receiver: openings::closed_receiver(),
         begun: false,
@@ -203,15 +136,6 @@ pub fn run() {
     let mut turns = u64::MAX;
     while turns > 0 && now.on {
         turns -= 1;
-        now = read_once(
-            now,
-            &mut chunk,
-            &mut line,
-            &mut coordinates,
-            &mut words,
-            &mut marks,
-            &mut bytes,
-            &mut page,
-        );
+        now = read_once(now, &mut chunk, &mut line);
     }
 }

@@ -9,8 +9,6 @@ ghost use mathlib.Core.Path.{_≡_};
 ghost use mathlib.Core.Bool.{false};
 ghost use Prim.Native.Nat.{_≤_, _<_};
 ghost use lib.ListN.{length, take};
-ghost use Rattle.requests.specs.Named.{named};
-ghost use Rattle.desk.specs.Room.{Lent};
 ghost use Rattle.stream.specs.Stream.{streaming, lastLine, Moves, Turns, Reads, took as Stream·took};
 
 // What became of the lines so far, the place in the chunk up to which it is heard, how many bytes it holds, and whether the input has
@@ -46,16 +44,8 @@ fn flush(lab: Lab, page: &[u8]) -> Lab
 
 // Answers line by line, up to the chunk's end or until a quarter of the page is filled, and keeps what stands after the last newline.
 // An answer takes less than 98,304 bytes; so much is free whenever a line is answered.
-fn hear_chunk(
-    lab: Lab,
-    chunk: &[u8],
-    line: &mut [u8],
-    page: &mut [u8],
-    coordinates: &mut [i32],
-    words: &mut [u32],
-    marks: &mut [u8],
-) -> Heard
-    requires { ⌜ Lent (now page) (named (now coordinates) (now words) (now marks)) ⌝ }
+fn hear_chunk(lab: Lab, chunk: &[u8], line: &mut [u8], page: &mut [u8]) -> Heard
+    requires { ⌜ length (now page) ≡ 131072 ⌝ }
     requires { ⌜ (lab .at ≤ 32768) × (lab .part .held ≤ length (now line)) ⌝ }
     ensures { λ r. ⌜ (r .lab .at ≤ 131072) × (r .lab .part .held ≤ length (now (line .entry))) ⌝ }
     ensures { λ r. ⌜ (r .count ≤ length (now (chunk .entry))) × (0 < length (now (chunk .entry)) → 0 < r .count) ⌝ }
@@ -76,7 +66,7 @@ fn hear_chunk(
                 count: end,
             };
         }
-        now = lines::reply(now, line, page, coordinates, words, marks);
+        now = lines::reply(now, line, page);
         from = end + 1;
     }
     Heard {
@@ -86,15 +76,8 @@ fn hear_chunk(
 }
 
 // A last line that no newline follows counts as a line.
-fn hear_end(
-    lab: Lab,
-    line: &[u8],
-    page: &mut [u8],
-    coordinates: &mut [i32],
-    words: &mut [u32],
-    marks: &mut [u8],
-) -> Lab
-    requires { ⌜ Lent (now page) (named (now coordinates) (now words) (now marks)) ⌝ }
+fn hear_end(lab: Lab, line: &[u8], page: &mut [u8]) -> Lab
+    requires { ⌜ length (now page) ≡ 131072 ⌝ }
     requires { ⌜ (lab .at ≤ 32768) × (lab .part .held ≤ length (now line)) ⌝ }
     ensures { λ r. ⌜ (r .at ≤ 131072) × (r .part .held ≤ length (now (line .entry))) ⌝ }
     ensures { λ r. ⌜ Moves (lastLine (length (now (line .entry)))) (now (line .entry)) lab (now (page .entry)) (now (line .entry)) r (now (page .exit)) ⌝ }
@@ -103,20 +86,12 @@ fn hear_end(
     if part.held == 0 && !part.long {
         return lab;
     }
-    lines::reply(lab, line, page, coordinates, words, marks)
+    lines::reply(lab, line, page)
 }
 
 // One turn: a page begun anew, and at its end handed out.
-fn answer(
-    last: Turn,
-    chunk: &[u8],
-    line: &mut [u8],
-    page: &mut [u8],
-    coordinates: &mut [i32],
-    words: &mut [u32],
-    marks: &mut [u8],
-) -> Turn
-    requires { ⌜ Lent (now page) (named (now coordinates) (now words) (now marks)) ⌝ }
+fn answer(last: Turn, chunk: &[u8], line: &mut [u8], page: &mut [u8]) -> Turn
+    requires { ⌜ length (now page) ≡ 131072 ⌝ }
     requires { ⌜ (last .from ≤ last .to) × (last .to ≤ length (now chunk)) × (last .lab .part .held ≤ length (now line)) ⌝ }
     ensures { λ r. ⌜ (r .from ≤ r .to) × (r .to ≡ last .to) × (r .ends ≡ last .ends) × (r .lab .part .held ≤ length (now (line .entry))) ⌝ }
     ensures { λ r. ⌜ (last .ends ≡ false → last .from < last .to → last .from < r .from) ⌝ }
@@ -127,7 +102,7 @@ fn answer(
     let from = last.from;
     let to = last.to;
     if last.ends {
-        let ended = hear_end(lab, line, page, coordinates, words, marks);
+        let ended = hear_end(lab, line, page);
         return Turn {
             lab: flush(ended, page),
             from,
@@ -135,7 +110,7 @@ fn answer(
             ends: true,
         };
     }
-    let heard = hear_chunk(lab, &chunk[from..to], line, page, coordinates, words, marks);
+    let heard = hear_chunk(lab, &chunk[from..to], line, page);
     let next = heard.lab;
     let till = from + heard.count;
     Turn {
@@ -181,15 +156,8 @@ fn refill(last: Turn, chunk: &mut [u8]) -> Turn
 
 // A proved loop has to end, and nothing says that the input does. So the turns are counted down, from 2^64 - 1, a number that no
 // run uses up.
-pub fn serve(
-    chunk: &mut [u8],
-    line: &mut [u8],
-    page: &mut [u8],
-    coordinates: &mut [i32],
-    words: &mut [u32],
-    marks: &mut [u8],
-)
-    requires { ⌜ Lent (now page) (named (now coordinates) (now words) (now marks)) ⌝ }
+pub fn serve(chunk: &mut [u8], line: &mut [u8], page: &mut [u8])
+    requires { ⌜ length (now page) ≡ 131072 ⌝ }
 {
     let lab = Lab {
         desk: desk::closed(),
@@ -206,7 +174,7 @@ pub fn serve(
     let mut turns = u64::MAX;
     while turns > 0 {
         now = refill(now, chunk);
-        now = answer(now, chunk, line, page, coordinates, words, marks);
+        now = answer(now, chunk, line, page);
         if now.ends || !now.lab.on {
             return;
         }

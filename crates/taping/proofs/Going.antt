@@ -24,7 +24,7 @@ use Rattle.reasons.specs.declared.Why.the-variants.{Done}
 use Rattle.reasons.specs.Reason.{reason, givenOf, isDone}
 use Rattle.reasons.proofs.Apart.{done-given}
 use Rattle.told.specs.Piece.{symbolsWith, markOf, laterMarks}
-use Rattle.pieces.proofs.Marks.{mark-from, later-from}
+use Rattle.inputs.proofs.Marks.{mark-from, later-from}
 use Rattle.pieces.proofs.Lent.{part, lent-fits, back-is, back-take, back-drop, back-length}
 use Rattle.records.specs.Values.{Entry, bytesOf}
 use Rattle.tape.specs.Front.{symbolIn, symbolRecords, spaceOf}

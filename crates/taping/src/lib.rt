@@ -165,7 +165,7 @@ pub fn record_symbols(
     let mut i: usize = 0;
     while i < samples.len() {
         let next = i + 4;
-        let mark = pieces::mark_at(marked, marks, taken);
+        let mark = inputs::mark_at(marked, marks, taken);
         let t = record_symbol(
             core,
             mark,

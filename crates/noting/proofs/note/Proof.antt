@@ -57,19 +57,19 @@ slice-relend-prefix-hear : tie.Need-slice-relend-prefix-hear
 slice-relend-prefix-hear c =
     let start = c .before .before .before .before .before .before .before .before in
     let sizes = sizes-of _ (c .before .before .asked4 .given .1) (start .pre .fit) in
-    omega (arith, sizes .0, start .pre .lent .long .words-long)
+    omega (arith, sizes .0, start .pre .long .words-long)
 
 slice-aggregate-hear-2 : tie.Need-slice-aggregate-hear-2
 slice-aggregate-hear-2 c =
     let start = c .before .before .before .before .before .before .before .before .before in
     let sizes = sizes-of _ (c .before .before .before .asked4 .given .1) (start .pre .fit) in
-    sym (length-take-le _ _ (omega (arith, sizes .0, start .pre .lent .long .words-long)))
+    sym (length-take-le _ _ (omega (arith, sizes .0, start .pre .long .words-long)))
 
 hear-requires : tie.Need-hear-requires
 hear-requires c κs =
     let start = c .before .before .before .before .before .before .before .before .before .before .before in
     let sizes = sizes-of _ (c .before .before .before .before .before .asked4 .given .1) (start .pre .fit) in
-    (omega (arith, short _ (now (start .args .words)) (sizes .0)), start .pre .lent .page-long)
+    (omega (arith, short _ (now (start .args .words)) (sizes .0)), start .pre .page-long)
 
 enum-known-asked-5 : tie.Need-enum-known-asked-5
 enum-known-asked-5 c = search needs
@@ -81,19 +81,19 @@ slice-relend-prefix-finish : tie.Need-slice-relend-prefix-finish
 slice-relend-prefix-finish c =
     let start = c .before .before .before .before .before .before .before in
     let sizes = sizes-of _ (c .before .asked5 .given .1) (start .pre .fit) in
-    omega (arith, sizes, start .pre .lent .long .words-long)
+    omega (arith, sizes, start .pre .long .words-long)
 
 slice-aggregate-finish : tie.Need-slice-aggregate-finish
 slice-aggregate-finish c =
     let start = c .before .before .before .before .before .before .before .before in
     let sizes = sizes-of _ (c .before .before .asked5 .given .1) (start .pre .fit) in
-    sym (length-take-le _ _ (omega (arith, sizes, start .pre .lent .long .words-long)))
+    sym (length-take-le _ _ (omega (arith, sizes, start .pre .long .words-long)))
 
 finish-requires : tie.Need-finish-requires
 finish-requires c κs =
     let start = c .before .before .before .before .before .before .before .before .before .before in
     let sizes = sizes-of _ (c .before .before .before .before .asked5 .given .1) (start .pre .fit) in
-    (omega (arith, short _ (now (start .args .words)) sizes), start .pre .lent .page-long)
+    (omega (arith, short _ (now (start .args .words)) sizes), start .pre .page-long)
 
 enum-known-asked-6 : tie.Need-enum-known-asked-6
 enum-known-asked-6 c = search needs
@@ -108,7 +108,7 @@ slice-aggregate-hear-marked-2 : tie.Need-slice-aggregate-hear-marked-2
 slice-aggregate-hear-marked-2 c =
     let start = c .before .before .before .before .before .before .before .before .before in
     let sizes = sizes-of _ (c .before .before .before .asked6 .given .1) (start .pre .fit) in
-    sym (length-take-le _ _ (omega (arith, sizes .1, start .pre .lent .long .marks-long)))
+    sym (length-take-le _ _ (omega (arith, sizes .1, start .pre .long .marks-long)))
 
 cast-hear-marked : tie.Need-cast-hear-marked
 cast-hear-marked c = search needs
@@ -117,19 +117,19 @@ slice-relend-prefix-hear-marked : tie.Need-slice-relend-prefix-hear-marked
 slice-relend-prefix-hear-marked c =
     let start = c .before .before .before .before .before .before .before .before .before in
     let sizes = sizes-of _ (c .before .before .before .asked6 .given .1) (start .pre .fit) in
-    omega (arith, sizes .0, start .pre .lent .long .words-long)
+    omega (arith, sizes .0, start .pre .long .words-long)
 
 slice-aggregate-hear-marked-3 : tie.Need-slice-aggregate-hear-marked-3
 slice-aggregate-hear-marked-3 c =
     let start = c .before .before .before .before .before .before .before .before .before .before in
     let sizes = sizes-of _ (c .before .before .before .before .asked6 .given .1) (start .pre .fit) in
-    sym (length-take-le _ _ (omega (arith, sizes .0, start .pre .lent .long .words-long)))
+    sym (length-take-le _ _ (omega (arith, sizes .0, start .pre .long .words-long)))
 
 hear-marked-requires : tie.Need-hear-marked-requires
 hear-marked-requires c κs =
     let start = c .before .before .before .before .before .before .before .before .before .before .before .before in
     let sizes = sizes-of _ (c .before .before .before .before .before .before .asked6 .given .1) (start .pre .fit) in
-    (omega (arith, short _ (now (start .args .words)) (sizes .0)), start .pre .lent .page-long)
+    (omega (arith, short _ (now (start .args .words)) (sizes .0)), start .pre .page-long)
 
 unread-requires : tie.Need-unread-requires
 unread-requires c κs = search needs
@@ -200,7 +200,7 @@ returns-5 c =
     let a = start .args in
     let is = call .before .before .before .before .before .before .asked4 .given .1 in
     let sizes = sizes-of _ is (start .pre .fit) in
-    notes-same (piece-noted (a .rx) (a .begun) (lists start) _ is (omega (arith, sizes .0, start .pre .lent .long .words-long))) (call .hear .ensures)
+    notes-same (piece-noted (a .rx) (a .begun) (lists start) _ is (omega (arith, sizes .0, start .pre .long .words-long))) (call .hear .ensures)
 
 same-length-10 : tie.Need-same-length-10
 same-length-10 c = search needs
@@ -218,7 +218,7 @@ returns-6 c =
     let a = start .args in
     let is = call .before .before .before .before .before .asked5 .given .1 in
     let sizes = sizes-of _ is (start .pre .fit) in
-    notes-same (finish-noted (a .rx) (a .begun) (lists start) _ is (omega (arith, sizes, start .pre .lent .long .words-long))) (call .finish .ensures)
+    notes-same (finish-noted (a .rx) (a .begun) (lists start) _ is (omega (arith, sizes, start .pre .long .words-long))) (call .finish .ensures)
 
 same-length-13 : tie.Need-same-length-13
 same-length-13 c = search needs
@@ -236,7 +236,7 @@ returns-7 c =
     let a = start .args in
     let is = call .before .before .before .before .before .before .before .asked6 .given .1 in
     let sizes = sizes-of _ is (start .pre .fit) in
-    notes-same (marked-noted (a .rx) (a .begun) (lists start) _ is (omega (arith, sizes .0, start .pre .lent .long .words-long))) (call .hear-marked .ensures)
+    notes-same (marked-noted (a .rx) (a .begun) (lists start) _ is (omega (arith, sizes .0, start .pre .long .words-long))) (call .hear-marked .ensures)
 
 same-length-16 : tie.Need-same-length-16
 same-length-16 c = search needs

@@ -7,7 +7,7 @@ use Rattle.machine.specs.declared.Receiver.{Receiver}
 use Rattle.machine.specs.Machine.{sound}
 use Rattle.machine.proofs.Sound.{sound-live}
 use Rattle.told.specs.Piece.{Piece, pieceWith}
-use Rattle.pieces.proofs.Marks.{fits-even}
+use Rattle.inputs.proofs.Marks.{fits-even}
 use Rattle.receiver.specs.Promise.{partsOf, lentLive}
 use Rattle.receiver.proofs.Doors.{hear-closed, hear-uneven, hear-parts, lent-all}
 use Rattle.receiver.proofs.hear_piece_lent.Statement.{statement}

@@ -7,7 +7,7 @@ use Rattle.machine.specs.declared.Receiver.{Receiver}
 use Rattle.machine.specs.Machine.{sound}
 use Rattle.machine.proofs.Sound.{sound-live}
 use Rattle.told.specs.Piece.{Piece, pieceWith}
-use Rattle.pieces.proofs.Marks.{fits-even}
+use Rattle.inputs.proofs.Marks.{fits-even}
 use Rattle.receiver.specs.Promise.{partsOf}
 use Rattle.receiver.proofs.Doors.{lent-live, lent-none}
 use Rattle.recorder.specs.Promise.{asLent}

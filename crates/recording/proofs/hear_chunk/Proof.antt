@@ -1,80 +1,102 @@
--- `hear_chunk`: byte by byte, the line so far always in the list lent for it.
-use mathlib.Core.Path.{_≡_}
-use Prim.Native.Nat.{_≤_, _-_}
+-- `hear_chunk`: the bytes up to the next newline grow the line, the newline ends it, and what is held of it is always in the list lent for it.
+use Prim.Native.Nat.{_+_, _-_, _≤_, _<_}
+use mathlib.Core.Path.{_≡_, _∙_}
+use native.Mathlib.Omega.{arith}
 use lib.ListN.{length}
+use Rattle.text.proofs.Tokens.{token-end}
 use borrow.Author.Needs.{needs}
 use Rattle.recording.proofs.hear_chunk.Statement.{statement}
 use Rattle.recording.proofs.hear_chunk.Tie as tie
 
 abbrev Inv-loop : tie.InvT-loop
-Inv-loop chunk line₀ coordinates₀ words₀ marks₀ bytes₀ page₀ now₀ i₀ line coordinates words marks bytes page now i =
-    (i ≤ length chunk) × (now .part .held ≤ length line) × (length coordinates ≡ 4096) × (length words ≡ 4096) × (length marks ≡ 1024) × (length page ≡ 98304)
-    × ((length line ≡ length line₀) × (length coordinates ≡ length coordinates₀) × (length words ≡ length words₀) × (length marks ≡ length marks₀)
-    × (length bytes ≡ length bytes₀) × (length page ≡ length page₀))
+Inv-loop chunk line₀ bytes₀ page₀ now₀ from₀ line bytes page now from =
+    (from ≤ length chunk) × (now .part .held ≤ length line) × (length line ≡ length line₀) × (length bytes ≡ 30720) × (length page ≡ 98304)
 
 abbrev μ-loop : tie.MeasureT-loop
-μ-loop chunk line₀ coordinates₀ words₀ marks₀ bytes₀ page₀ now₀ i₀ line coordinates words marks bytes page now i =
-    length chunk - i
+μ-loop chunk line₀ bytes₀ page₀ now₀ from₀ line bytes page now from = length chunk - from
 
 loop-holds : tie.Need-loop-holds Inv-loop μ-loop
 loop-holds c = search needs
 
-shared-slice-read-b : tie.Need-shared-slice-read-b Inv-loop μ-loop
-shared-slice-read-b c = search needs
+sub-before : tie.Need-sub-before Inv-loop μ-loop
+sub-before c = search needs
 
-add-i : tie.Need-add-i Inv-loop μ-loop
-add-i c = search needs
+part-before-start : tie.Need-part-before-start Inv-loop μ-loop
+part-before-start c = search needs
 
-byte-requires : tie.Need-byte-requires Inv-loop μ-loop
-byte-requires c κs = search needs
+part-before-end : tie.Need-part-before-end Inv-loop μ-loop
+part-before-end c = search needs
 
-loop-less : tie.Need-loop-less Inv-loop μ-loop
-loop-less c = search needs
+before-requires : tie.Need-before-requires Inv-loop μ-loop
+before-requires c κs = search needs
 
-loop-again : tie.Need-loop-again Inv-loop μ-loop
-loop-again c = search needs
+add-end : tie.Need-add-end Inv-loop μ-loop
+add-end c = search needs
+
+sub-gather : tie.Need-sub-gather Inv-loop μ-loop
+sub-gather c = search needs
+
+part-gather-start : tie.Need-part-gather-start Inv-loop μ-loop
+part-gather-start c = search needs
+
+part-gather-end : tie.Need-part-gather-end Inv-loop μ-loop
+part-gather-end c = search needs
+
+gather-requires : tie.Need-gather-requires Inv-loop μ-loop
+gather-requires c κs = search needs
 
 same-length : tie.Need-same-length Inv-loop μ-loop
 same-length c = search needs
 
+returns : tie.Need-returns Inv-loop μ-loop
+returns c = search needs
+
+slice-aggregate-end-line : tie.Need-slice-aggregate-end-line Inv-loop μ-loop
+slice-aggregate-end-line c = search needs
+
+slice-aggregate-end-line-2 : tie.Need-slice-aggregate-end-line-2 Inv-loop μ-loop
+slice-aggregate-end-line-2 c = search needs
+
+end-line-requires : tie.Need-end-line-requires Inv-loop μ-loop
+end-line-requires c κs = search needs
+
+-- there is a newline in what is left of the chunk
+found : (c : tie.After-page2 Inv-loop μ-loop) →
+    let b = c .before .before .before .before .before .before .before .before .before .before .before .before .before in
+    let l = b .before .before .before .before in
+    l .loop .from + b .before2 .result < length (l .before .before .before .args .chunk .now)
+found c =
+    let b = c .before .before .before .before .before .before .before .before .before .before .before .before .before in
+    let l = b .before .before .before .before in
+    omega (
+      arith,
+      token-end (l .before .before .before .args .chunk .now) (l .loop .from) (l .loop .inv .0) (b .before2 .ensures),
+      c .before .before .before .before .before .before .if2 .left,
+    )
+
+add-from : tie.Need-add-from Inv-loop μ-loop
+add-from c = omega (arith, found c, c .before .before .before .before .before .before .before .before .before .before .before .before .before .before .before .before .before .before .before .before .good)
+
+loop-less : tie.Need-loop-less Inv-loop μ-loop
+loop-less c = omega (arith, found c)
+
+loop-again : tie.Need-loop-again Inv-loop μ-loop
+loop-again c =
+    let gathered = c .before .before .before .before .before .before .before .before .before in
+    let l = gathered .before .before .before .before .before .before .before .before in
+    (omega (arith, found c), search needs, gathered .gather .kept .1 .0 ∙ l .loop .inv .2, search needs, search needs)
+
 same-length-2 : tie.Need-same-length-2 Inv-loop μ-loop
 same-length-2 c = search needs
+
+returns-2 : tie.Need-returns-2 Inv-loop μ-loop
+returns-2 c = search needs
 
 same-length-3 : tie.Need-same-length-3 Inv-loop μ-loop
 same-length-3 c = search needs
 
-same-length-4 : tie.Need-same-length-4 Inv-loop μ-loop
-same-length-4 c = search needs
-
-same-length-5 : tie.Need-same-length-5 Inv-loop μ-loop
-same-length-5 c = search needs
-
-returns : tie.Need-returns Inv-loop μ-loop
-returns c = search needs
-
-same-length-6 : tie.Need-same-length-6 Inv-loop μ-loop
-same-length-6 c = search needs
-
-same-length-7 : tie.Need-same-length-7 Inv-loop μ-loop
-same-length-7 c = search needs
-
-same-length-8 : tie.Need-same-length-8 Inv-loop μ-loop
-same-length-8 c = search needs
-
-same-length-9 : tie.Need-same-length-9 Inv-loop μ-loop
-same-length-9 c = search needs
-
-same-length-10 : tie.Need-same-length-10 Inv-loop μ-loop
-same-length-10 c = search needs
-
-same-length-11 : tie.Need-same-length-11 Inv-loop μ-loop
-same-length-11 c = search needs
-
-same-length-12 : tie.Need-same-length-12 Inv-loop μ-loop
-same-length-12 c = search needs
-
-returns-2 : tie.Need-returns-2 Inv-loop μ-loop
-returns-2 c = search needs
+returns-3 : tie.Need-returns-3 Inv-loop μ-loop
+returns-3 c = search needs
 
 pub hear-chunk-spec : {M : Type 1} → statement M
 hear-chunk-spec =
@@ -83,22 +105,24 @@ hear-chunk-spec =
     Inv-loop
     μ-loop
     loop-holds
-    shared-slice-read-b
-    add-i
-    byte-requires
+    sub-before
+    part-before-start
+    part-before-end
+    before-requires
+    add-end
+    sub-gather
+    part-gather-start
+    part-gather-end
+    gather-requires
+    same-length
+    returns
+    slice-aggregate-end-line
+    slice-aggregate-end-line-2
+    end-line-requires
+    add-from
     loop-less
     loop-again
-    same-length
     same-length-2
+    returns-2
     same-length-3
-    same-length-4
-    same-length-5
-    same-length-6
-    returns
-    same-length-7
-    same-length-8
-    same-length-9
-    same-length-10
-    same-length-11
-    same-length-12
-    returns-2)
+    returns-3)

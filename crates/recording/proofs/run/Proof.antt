@@ -7,12 +7,11 @@ use Rattle.recording.proofs.run.Statement.{statement}
 use Rattle.recording.proofs.run.Tie as tie
 
 abbrev Inv-loop : tie.InvT-loop
-Inv-loop chunk₀ line₀ coordinates₀ words₀ marks₀ bytes₀ page₀ now₀ turns₀ chunk line coordinates words marks bytes page now turns =
-    (now .part .held ≤ 65536) × ((length chunk ≡ 65536) × (length line ≡ 65536) × (length coordinates ≡ 4096) × (length words ≡ 4096)
-    × (length marks ≡ 1024) × (length bytes ≡ 30720) × (length page ≡ 98304))
+Inv-loop chunk₀ line₀ now₀ turns₀ chunk line now turns =
+    (now .part .held ≤ 65536) × (length chunk ≡ 65536) × (length line ≡ 65536)
 
 abbrev μ-loop : tie.MeasureT-loop
-μ-loop chunk₀ line₀ coordinates₀ words₀ marks₀ bytes₀ page₀ now₀ turns₀ chunk line coordinates words marks bytes page now turns =
+μ-loop chunk₀ line₀ now₀ turns₀ chunk line now turns =
     turns
 
 closed-receiver-requires : tie.Need-closed-receiver-requires Inv-loop μ-loop
@@ -22,7 +21,7 @@ fresh-requires : tie.Need-fresh-requires Inv-loop μ-loop
 fresh-requires c κs = search needs
 
 loop-holds : tie.Need-loop-holds Inv-loop μ-loop
-loop-holds c = (search needs, (search needs, search needs, search needs, search needs, search needs, search needs, search needs))
+loop-holds c = (search needs, search needs, search needs)
 
 sub-turns : tie.Need-sub-turns Inv-loop μ-loop
 sub-turns c = search needs
@@ -32,21 +31,6 @@ slice-aggregate-read-once c = search needs
 
 slice-aggregate-read-once-2 : tie.Need-slice-aggregate-read-once-2 Inv-loop μ-loop
 slice-aggregate-read-once-2 c = search needs
-
-slice-aggregate-read-once-3 : tie.Need-slice-aggregate-read-once-3 Inv-loop μ-loop
-slice-aggregate-read-once-3 c = search needs
-
-slice-aggregate-read-once-4 : tie.Need-slice-aggregate-read-once-4 Inv-loop μ-loop
-slice-aggregate-read-once-4 c = search needs
-
-slice-aggregate-read-once-5 : tie.Need-slice-aggregate-read-once-5 Inv-loop μ-loop
-slice-aggregate-read-once-5 c = search needs
-
-slice-aggregate-read-once-6 : tie.Need-slice-aggregate-read-once-6 Inv-loop μ-loop
-slice-aggregate-read-once-6 c = search needs
-
-slice-aggregate-read-once-7 : tie.Need-slice-aggregate-read-once-7 Inv-loop μ-loop
-slice-aggregate-read-once-7 c = search needs
 
 read-once-requires : tie.Need-read-once-requires Inv-loop μ-loop
 read-once-requires c κs = search needs
@@ -75,11 +59,6 @@ run-spec =
     sub-turns
     slice-aggregate-read-once
     slice-aggregate-read-once-2
-    slice-aggregate-read-once-3
-    slice-aggregate-read-once-4
-    slice-aggregate-read-once-5
-    slice-aggregate-read-once-6
-    slice-aggregate-read-once-7
     read-once-requires
     loop-less
     loop-again

@@ -10,28 +10,28 @@ use Rattle.stream.proofs.answer.Tie as tie
 
 -- the way back, from a place in the code to one that comes before it
 abbrev to-else1 : tie.After-hear-chunk → tie.Else1
-to-else1 c = c .before .before .before .before .before .before .before
+to-else1 c = c .before .before .before .before
 
 abbrev to-start : tie.After-hear-chunk → tie.Start
-to-start c = to-else1 c .before .before .before .before .before .before .before
+to-start c = to-else1 c .before .before .before .before .before
 
 abbrev to-hear-end : tie.After-flush → tie.After-hear-end
-to-hear-end c = c .before .before .before .before .before .before .before .before .before
+to-hear-end c = c .before .before .before .before
 
 abbrev to-hear-chunk : tie.After-struct-known → tie.After-hear-chunk
-to-hear-chunk c = c .before .before .before .before .before .before .before .before .before .before .before
+to-hear-chunk c = c .before .before .before .before .before .before
 
 abbrev to-then1 : tie.After-hear-end → tie.Then1
-to-then1 c = c .before .before .before .before .before .before
+to-then1 c = c .before .before .before
 
 hear-end-requires : tie.Need-hear-end-requires
 hear-end-requires c κs = search needs
 
 flush-requires : tie.Need-flush-requires
 flush-requires c κs =
-    let at-hear-end = c .before .before .before .before .before .before .before .before in
-    let start = to-then1 at-hear-end .before .before .before .before .before .before .before in
-    omega (arith, at-hear-end .hear-end .ensures .0 .0, at-hear-end .hear-end .kept .1 .1 .0, start .pre .0 .page-long)
+    let at-hear-end = c .before .before .before in
+    let start = to-then1 at-hear-end .before .before .before .before .before in
+    omega (arith, at-hear-end .hear-end .ensures .0 .0, at-hear-end .hear-end .kept .1 .1 .0, start .pre .0)
 
 same-length : tie.Need-same-length
 same-length c = search needs
@@ -39,20 +39,11 @@ same-length c = search needs
 same-length-2 : tie.Need-same-length-2
 same-length-2 c = search needs
 
-same-length-3 : tie.Need-same-length-3
-same-length-3 c = search needs
-
-same-length-4 : tie.Need-same-length-4
-same-length-4 c = search needs
-
-same-length-5 : tie.Need-same-length-5
-same-length-5 c = search needs
-
 returns : tie.Need-returns
 returns c =
     let at-hear-end = to-hear-end c in
     let at-then1 = to-then1 at-hear-end in
-    let start = at-then1 .before .before .before .before .before .before .before in
+    let start = at-then1 .before .before .before .before .before in
     let heard = at-hear-end .hear-end .ensures in
     let ends = at-then1 .if1 .taken in (
       (start .pre .1 .0, refl, sym ends, omega (arith, ap (λ (p : Part). p .held) (c .flush .ensures .1), heard .0 .1)),
@@ -90,22 +81,13 @@ add-till c =
 flush-requires-2 : tie.Need-flush-requires-2
 flush-requires-2 c κs =
     let at-hear-chunk = to-hear-chunk (c .before) in
-    omega (arith, at-hear-chunk .hear-chunk .ensures .0 .0, at-hear-chunk .hear-chunk .kept .1 .1 .1 .0, to-start at-hear-chunk .pre .0 .page-long)
+    omega (arith, at-hear-chunk .hear-chunk .ensures .0 .0, at-hear-chunk .hear-chunk .kept .1 .1 .1 .0, to-start at-hear-chunk .pre .0)
 
-same-length-6 : tie.Need-same-length-6
-same-length-6 c = search needs
+same-length-3 : tie.Need-same-length-3
+same-length-3 c = search needs
 
-same-length-7 : tie.Need-same-length-7
-same-length-7 c = search needs
-
-same-length-8 : tie.Need-same-length-8
-same-length-8 c = search needs
-
-same-length-9 : tie.Need-same-length-9
-same-length-9 c = search needs
-
-same-length-10 : tie.Need-same-length-10
-same-length-10 c = search needs
+same-length-4 : tie.Need-same-length-4
+same-length-4 c = search needs
 
 returns-2 : tie.Need-returns-2
 returns-2 c =
@@ -130,9 +112,6 @@ answer-spec =
     flush-requires
     same-length
     same-length-2
-    same-length-3
-    same-length-4
-    same-length-5
     returns
     sub-hear-chunk
     part-hear-chunk-start
@@ -140,9 +119,6 @@ answer-spec =
     hear-chunk-requires
     add-till
     flush-requires-2
-    same-length-6
-    same-length-7
-    same-length-8
-    same-length-9
-    same-length-10
+    same-length-3
+    same-length-4
     returns-2)

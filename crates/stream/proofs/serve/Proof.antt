@@ -4,7 +4,6 @@ use Prim.Native.Nat.{_≤_}
 use mathlib.Core.Path.{_≡_, sym, ap, _∙_}
 use native.Mathlib.Omega.{arith}
 use lib.ListN.{length}
-use Rattle.desk.proofs.Desks.{lent-on}
 use Rattle.lines.specs.declared.Part.{Part}
 use Rattle.stream.proofs.Streams.{Served, none-served, served-as, served-on}
 use borrow.Author.Needs.{needs}
@@ -12,14 +11,13 @@ use Rattle.stream.proofs.serve.Statement.{statement}
 use Rattle.stream.proofs.serve.Tie as tie
 
 abbrev Inv-loop : tie.InvT-loop
-Inv-loop chunk₀ line₀ page₀ coordinates₀ words₀ marks₀ now₀ turns₀ chunk line page coordinates words marks now turns =
+Inv-loop chunk₀ line₀ page₀ now₀ turns₀ chunk line page now turns =
     ((length chunk ≡ length chunk₀) × (length line ≡ length line₀) × (length page ≡ length page₀))
-    × ((length coordinates ≡ length coordinates₀) × (length words ≡ length words₀) × (length marks ≡ length marks₀))
     × ((now .from ≤ now .to) × (now .to ≤ length chunk) × (now .lab .part .held ≤ length line))
     × Served (length line) line (now .lab)
 
 abbrev μ-loop : tie.MeasureT-loop
-μ-loop chunk₀ line₀ page₀ coordinates₀ words₀ marks₀ now₀ turns₀ chunk line page coordinates words marks now turns = turns
+μ-loop chunk₀ line₀ page₀ now₀ turns₀ chunk line page now turns = turns
 
 closed-requires : tie.Need-closed-requires Inv-loop μ-loop
 closed-requires c κs = search needs
@@ -28,7 +26,7 @@ fresh-requires : tie.Need-fresh-requires Inv-loop μ-loop
 fresh-requires c κs = search needs
 
 loop-holds : tie.Need-loop-holds Inv-loop μ-loop
-loop-holds c = (search needs, search needs, search needs, none-served _ (c .before .closed .ensures) (c .fresh .ensures .1))
+loop-holds c = (search needs, search needs, none-served _ (c .before .closed .ensures) (c .fresh .ensures .1))
 
 refill-requires : tie.Need-refill-requires Inv-loop μ-loop
 refill-requires c κs = search needs
@@ -37,26 +35,27 @@ refill-requires c κs = search needs
 abbrev to-loop : tie.After-refill Inv-loop μ-loop → tie.At-loop Inv-loop μ-loop
 to-loop c = c .before .before .before
 
-abbrev to-answer : tie.After-slice-known10 Inv-loop μ-loop → tie.After-answer Inv-loop μ-loop
-to-answer c = c .before .before .before .before .before .before .before .before .before
+abbrev to-answer : tie.After-slice-known6 Inv-loop μ-loop → tie.After-answer Inv-loop μ-loop
+to-answer c = c .before .before .before .before
 
 abbrev to-refill : tie.After-answer Inv-loop μ-loop → tie.After-refill Inv-loop μ-loop
-to-refill c = c .before .before .before .before .before .before .before .before .before
+to-refill c = c .before .before .before .before .before .before
 
 abbrev to-in-loop : tie.Else2 Inv-loop μ-loop → tie.In-loop Inv-loop μ-loop
 to-in-loop c = to-refill (to-answer (c .before .before .before)) .before .before
 
 answer-requires : tie.Need-answer-requires Inv-loop μ-loop
 answer-requires c κs =
-    let at-loop = to-loop (c .before .before .before .before .before .before .before .before) in
+    let at-refill = c .before .before .before .before .before in
+    let at-loop = to-loop at-refill in
     let l = at-loop .loop .inv in
-    let r = c .before .before .before .before .before .before .before .before .refill in (
-      lent-on (at-loop .before .before .before .before .before .before .before .before .pre) (l .0 .2) (l .1 .0) (l .1 .1) (l .1 .2),
-      (r .ensures .0 .0, omega (arith, r .ensures .0 .1, r .kept .1 .0), omega (arith, ap (λ (p : Part). p .held) (r .ensures .0 .3), l .2 .2)),
+    let r = at-refill .refill in (
+      l .0 .2 ∙ at-loop .before .before .before .before .before .before .pre,
+      (r .ensures .0 .0, omega (arith, r .ensures .0 .1, r .kept .1 .0), omega (arith, ap (λ (p : Part). p .held) (r .ensures .0 .3), l .1 .2)),
     )
 
 -- where the turn began
-abbrev to-turn : tie.After-slice-known10 Inv-loop μ-loop → tie.At-loop Inv-loop μ-loop
+abbrev to-turn : tie.After-slice-known6 Inv-loop μ-loop → tie.At-loop Inv-loop μ-loop
 to-turn c = to-loop (to-refill (to-answer c))
 
 same-length : tie.Need-same-length Inv-loop μ-loop
@@ -67,15 +66,6 @@ same-length-2 c = to-answer (c .before) .answer .kept .1 .1 .0 ∙ to-turn (c .b
 
 same-length-3 : tie.Need-same-length-3 Inv-loop μ-loop
 same-length-3 c = to-answer (c .before) .answer .kept .1 .1 .1 .0 ∙ to-turn (c .before) .loop .inv .0 .2
-
-same-length-4 : tie.Need-same-length-4 Inv-loop μ-loop
-same-length-4 c = to-answer (c .before) .answer .kept .1 .1 .1 .1 .0 ∙ to-turn (c .before) .loop .inv .1 .0
-
-same-length-5 : tie.Need-same-length-5 Inv-loop μ-loop
-same-length-5 c = to-answer (c .before) .answer .kept .1 .1 .1 .1 .1 .0 ∙ to-turn (c .before) .loop .inv .1 .1
-
-same-length-6 : tie.Need-same-length-6 Inv-loop μ-loop
-same-length-6 c = to-answer (c .before) .answer .kept .1 .1 .1 .1 .1 .1 .0 ∙ to-turn (c .before) .loop .inv .1 .2
 
 returns : tie.Need-returns Inv-loop μ-loop
 returns c = search needs
@@ -93,29 +83,19 @@ loop-again c =
     let r = to-refill at-answer .refill in
     let a = at-answer .answer in (
       (r .kept .1 .0 ∙ l .0 .0, a .kept .1 .1 .0 ∙ l .0 .1, a .kept .1 .1 .1 .0 ∙ l .0 .2),
-      (a .kept .1 .1 .1 .1 .0 ∙ l .1 .0, a .kept .1 .1 .1 .1 .1 .0 ∙ l .1 .1, a .kept .1 .1 .1 .1 .1 .1 .0 ∙ l .1 .2),
       (a .ensures .0 .0, omega (arith, a .ensures .0 .1, r .ensures .0 .1, r .kept .1 .0), omega (arith, a .ensures .0 .3, a .kept .1 .1 .0)),
       served-on (r .result) (r .last .1 .0) (a .result .from) (sym (a .ensures .0 .2) ∙ c .before .before .if1 .left) (a .kept .1 .1 .0)
-          (served-as (r .ensures .0 .2) (r .ensures .0 .3) (l .3)) (a .ensures .1 .1),
+          (served-as (r .ensures .0 .2) (r .ensures .0 .3) (l .2)) (a .ensures .1 .1),
     )
 
-same-length-7 : tie.Need-same-length-7 Inv-loop μ-loop
-same-length-7 c = search needs
+same-length-4 : tie.Need-same-length-4 Inv-loop μ-loop
+same-length-4 c = search needs
 
-same-length-8 : tie.Need-same-length-8 Inv-loop μ-loop
-same-length-8 c = search needs
+same-length-5 : tie.Need-same-length-5 Inv-loop μ-loop
+same-length-5 c = search needs
 
-same-length-9 : tie.Need-same-length-9 Inv-loop μ-loop
-same-length-9 c = search needs
-
-same-length-10 : tie.Need-same-length-10 Inv-loop μ-loop
-same-length-10 c = search needs
-
-same-length-11 : tie.Need-same-length-11 Inv-loop μ-loop
-same-length-11 c = search needs
-
-same-length-12 : tie.Need-same-length-12 Inv-loop μ-loop
-same-length-12 c = search needs
+same-length-6 : tie.Need-same-length-6 Inv-loop μ-loop
+same-length-6 c = search needs
 
 returns-2 : tie.Need-returns-2 Inv-loop μ-loop
 returns-2 c = search needs
@@ -134,17 +114,11 @@ serve-spec =
     same-length
     same-length-2
     same-length-3
-    same-length-4
-    same-length-5
-    same-length-6
     returns
     sub-turns
     loop-less
     loop-again
-    same-length-7
-    same-length-8
-    same-length-9
-    same-length-10
-    same-length-11
-    same-length-12
+    same-length-4
+    same-length-5
+    same-length-6
     returns-2)

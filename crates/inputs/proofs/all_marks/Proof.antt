@@ -5,9 +5,9 @@ use native.Mathlib.Omega.{arith}
 use borrow.Author.Needs.{needs}
 use lib.ListN.{length, drop}
 use Rattle.told.specs.Piece.{allMarks}
-use Rattle.pieces.proofs.Marks.{all-stop, all-on, all-end}
-use Rattle.pieces.proofs.all_marks.Statement.{statement}
-use Rattle.pieces.proofs.all_marks.Tie as tie
+use Rattle.inputs.proofs.Marks.{all-stop, all-on, all-end}
+use Rattle.inputs.proofs.all_marks.Statement.{statement}
+use Rattle.inputs.proofs.all_marks.Tie as tie
 
 abbrev Inv-loop : tie.InvT-loop
 Inv-loop marks j₀ j = (j ≤ length marks) × (allMarks marks ≡ allMarks (drop j marks))

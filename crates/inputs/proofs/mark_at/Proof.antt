@@ -2,9 +2,9 @@
 use mathlib.Core.Path.{sym}
 use borrow.Author.Needs.{needs}
 use borrow.Author.Tests.{not-true, not-false}
-use Rattle.pieces.proofs.Marks.{mark-past}
-use Rattle.pieces.proofs.mark_at.Statement.{statement}
-use Rattle.pieces.proofs.mark_at.Tie as tie
+use Rattle.inputs.proofs.Marks.{mark-past}
+use Rattle.inputs.proofs.mark_at.Statement.{statement}
+use Rattle.inputs.proofs.mark_at.Tie as tie
 
 returns : tie.Need-returns
 returns c = rw (not-true (c .before .args .marked) (c .if1 .taken))

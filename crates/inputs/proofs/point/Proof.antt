@@ -1,8 +1,8 @@
 -- `point`: missing, or heard where the numbers say.
 use borrow.Author.Needs.{needs}
 use mir.Facts.{toZ-ofZ}
-use Rattle.pieces.proofs.point.Statement.{statement}
-use Rattle.pieces.proofs.point.Tie as tie
+use Rattle.inputs.proofs.point.Statement.{statement}
+use Rattle.inputs.proofs.point.Tie as tie
 
 returns : tie.Need-returns
 returns c = search needs

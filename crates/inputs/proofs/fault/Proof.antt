@@ -4,8 +4,8 @@ use borrow.Author.Needs.{needs}
 use borrow.Author.Tests.{lt-ltb, le-ltb}
 use Rattle.told.specs.Told.{faultAt, faultOf}
 use Rattle.told.proofs.Telling.{fault-most}
-use Rattle.pieces.proofs.fault.Statement.{statement}
-use Rattle.pieces.proofs.fault.Tie as tie
+use Rattle.inputs.proofs.fault.Statement.{statement}
+use Rattle.inputs.proofs.fault.Tie as tie
 
 fault-at-requires : tie.Need-fault-at-requires
 fault-at-requires c κs = search needs

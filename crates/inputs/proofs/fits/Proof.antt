@@ -2,9 +2,9 @@
 use mathlib.Core.Path.{sym, _∙_}
 use borrow.Author.Needs.{needs}
 use borrow.Author.Tests.{not-true, not-false}
-use Rattle.pieces.proofs.Marks.{uneven, plain, another-count, one-each}
-use Rattle.pieces.proofs.fits.Statement.{statement}
-use Rattle.pieces.proofs.fits.Tie as tie
+use Rattle.inputs.proofs.Marks.{uneven, plain, another-count, one-each}
+use Rattle.inputs.proofs.fits.Statement.{statement}
+use Rattle.inputs.proofs.fits.Tie as tie
 
 returns : tie.Need-returns
 returns c = let a = c .before .before .args in sym (uneven (a .marks .now) (a .count) (a .marked) (c .if1 .taken))

@@ -12,8 +12,8 @@ use Rattle.nearest.specs.declared.Received.{Received}
 use Rattle.nearest.specs.declared.Received.the-variants.{Heard}
 use Rattle.nearest.specs.Line.{isCoordinate}
 use Rattle.told.specs.Told.{faultAt}
-use Rattle.pieces.proofs.fault_at.Statement.{statement}
-use Rattle.pieces.proofs.fault_at.Tie as tie
+use Rattle.inputs.proofs.fault_at.Statement.{statement}
+use Rattle.inputs.proofs.fault_at.Tie as tie
 
 -- a number goes to a call as its bits, and comes back
 back : (x : ℤ) → SFits w32 x → isCoordinate (toZ w32 (ofZ w32 x)) ≡ isCoordinate x

@@ -1,9 +1,11 @@
-// The program for captures: `capture record`, `capture replay [FILE]`, `capture show [FILE]`, `capture compare FIRST SECOND`, `capture help`. It
-// reads a file or standard input, as it comes, in constant memory. Here stands which word asks for what; each word's reading and writing is a
-// crate (`recording`, `replaying`, `showing`, `comparing`), and what is written is said in those below them.
+// The program for captures: `capture record`, `capture replay [FILE]`, `capture show [FILE]`, `capture compare FIRST SECOND`,
+// `capture salvage IN OUT`, `capture help`. It reads a file or standard input, as it comes, in constant memory. Here stands which word asks for
+// what; each word's reading and writing is a crate (`recording`, `replaying`, `showing`, `comparing`, `salvaging`), and what is written is said in
+// those below them.
 mod compare;
 mod help;
 mod input;
+mod salvage;
 
 use libc::STDERR_FILENO;
 use libc::STDOUT_FILENO;
@@ -29,7 +31,7 @@ fn unknown(i: usize) {
 fn nothing_asked() {
     io::write_all(
         STDERR_FILENO,
-        b"capture: it wants a word: record, replay, show, compare or help\n\n",
+        b"capture: it wants a word: record, replay, show, compare, salvage or help\n\n",
     );
     help::show(STDERR_FILENO);
 }
@@ -58,8 +60,16 @@ fn main() {
         nothing_asked();
         return;
     }
-    if is_word(1, b"compare") && count < 5 {
+    if count > 4 {
+        unknown(4);
+        return;
+    }
+    if is_word(1, b"compare") {
         compare::run();
+        return;
+    }
+    if is_word(1, b"salvage") {
+        salvage::run();
         return;
     }
     if count > 3 {

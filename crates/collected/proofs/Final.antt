@@ -15,7 +15,8 @@ use Rattle.records.specs.Frames.{pushed, pushedAt, entryOf}
 use Rattle.replay_step.specs.declared.Verdict.{Verdict}
 use Rattle.replay_step.specs.declared.Verdict.the-variants.{Agree, Differs, Extra, Missing, Refused, Malformed}
 use Rattle.replay_step.specs.Judging.{State, upon, took}
-use Rattle.replay.specs.Course.{Course, isWhole, isBad, agreed, settled, stepped, feedings, ended, found}
+use Rattle.replay.specs.Meaning.{agreed}
+use Rattle.replay.specs.Course.{Course, isWhole, isBad, settled, stepped, feedings, ended, found}
 use Rattle.replay.proofs.Feeds.{feedings-append}
 use Rattle.replay_line.specs.Says.{lineOf}
 use Rattle.collected.specs.Calls.{isFound, verdictNow, goneOn}

@@ -5,6 +5,7 @@
 --   advance-one         a byte that is pushed alone
 --   advance-body        the rest of a body
 --   run-some, run-most  a run has at least one byte, and no more than there are
+--   run-none            no record is whole before its last byte
 --   advances-settled    any two results are equal
 use mathlib.Core.Path.{_≡_, refl, sym, ap, _∙_}
 use mathlib.Core.Bool.{Bool, true, false, cond}
@@ -152,6 +153,28 @@ module _ (f : Frame) (bs : List ℕ) (h : 0 < length bs) where
       go : (b : Bool) → cond b (min (kindOf (f .kind) .size - f .have) (length bs)) 1 ≤ length bs
       go true = omega arith
       go false = omega arith
+
+-- fewer bytes of a body than are wanted
+body-none : (xs : List ℕ) (n : ℕ) (f : Frame) → length xs ≡ n → f .stage ≡ Part → eqb (f .kind) 5 ≡ false → f .have + n < kindOf (f .kind) .size
+    → following f xs .entries ≡ []
+unfolding following
+body-none [] n f e p q h = refl
+body-none (x ∷ xs) n f e p q h =
+    let g = gathered f n (x ∷ xs) in
+    let s : g .stage ≡ Part = rw (lt-ltb (f .have + n) (kindOf (f .kind) .size) h) in
+    ap (λ (r : Read). r .entries) (gathers-all (x ∷ xs) n f e (omega arith) p q (omega arith)) ∙ ap (λ (t : Stage). ended t g) s
+
+pub run-none : (f : Frame) (bs : List ℕ) (k : ℕ) → k < runOf f bs → following f (take k bs) .entries ≡ []
+unfolding runOf following
+run-none f bs k = go (inside f) refl
+  where
+    one : (j : ℕ) → j < 1 → following f (take j bs) .entries ≡ []
+    one zero l = refl
+    one (suc j) l = absurd (omega arith)
+
+    go : (b : Bool) → inside f ≡ b → k < cond b (min (kindOf (f .kind) .size - f .have) (length bs)) 1 → following f (take k bs) .entries ≡ []
+    go true e l = let i = inside-yes f e in body-none (take k bs) k f (omega (arith, length-take k bs)) (i .0) (i .2) (omega (arith, i .1))
+    go false e l = one k l
 
 pub advances-settled : (f : Frame) (bs : List ℕ) (g h : Frame) (n m : ℕ) → Advances f bs g n → Advances f bs h m → (g ≡ h) × (n ≡ m)
 advances-settled f bs g h n m a b =

@@ -36,14 +36,14 @@ fn is_inside(f: Frame) -> bool
     }
 }
 
-fn least(a: usize, b: usize) -> usize
+pub fn least(a: usize, b: usize) -> usize
     ensures { λ r. ⌜ r ≡ min a b ⌝ }
 {
     if a < b { a } else { b }
 }
 
 // Some more bytes fed. At the end of 64 bits the count stays where it is.
-fn fed_on(fed: u64, n: usize) -> u64
+pub fn fed_on(fed: u64, n: usize) -> u64
     ensures { λ r. ⌜ r ≡ capped (fed + n) ⌝ }
 {
     let more = n as u64;

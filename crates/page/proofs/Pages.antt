@@ -42,6 +42,10 @@ joined {page} {at} {s} {r} {p} {t} {r'} {p'} room a b =
     let rest : drop r' p ≡ drop r' page = rw (b .next, ← drop-drop (length t) r p, tail, drop-drop (length t) r page) in
     record { next = rw length-append (omega (arith, a .next, b .next)); said = b .said ∙ rw (head, rest, append-assoc (take at page) s t) }
 
+-- what is put at the front of a page stands there
+pub front-is : {page text : List ℕ} {r : ℕ} {page' : List ℕ} → Puts page 0 text r page' → take r page' ≡ text
+front-is {page} {text} {r} p = ap (take r) (p .said) ∙ take-at text (drop r page) r (omega (arith, p .next))
+
 -- no more digits than any number of them that holds n
 no-more : {n : ℕ} (j k : ℕ) → 1 ≤ j → n < 10 ^ j → Fewest 10 1 n k → k ≤ j
 no-more {n} j k h l f = by (leb k j) refl where

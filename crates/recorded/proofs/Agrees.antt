@@ -40,9 +40,10 @@ use Rattle.recorder.proofs.Opens.{open-space}
 use Rattle.replay_step.specs.declared.Verdict.the-variants.{Agree}
 use Rattle.replay.specs.Meaning.{Line, closed, told, Seen, nothingSeen, takings, closing, verdictOf}
 use Rattle.recorded.specs.Recording.{Recording, opens, hears, refuses, Ended, ends}
-use Rattle.recorded.proofs.Forms.{Formed, phaseAfter, well, formed-append, phase-append, Ready}
-use Rattle.recorded.proofs.Forms.{Runs, none-runs, runs-append, symbol-runs, open-runs, finish-formed}
-use Rattle.recorded.proofs.Seeing.{seen, takings-append, symbol-seen, open-seen, finish-seen}
+use Rattle.seen.proofs.Forms.{Formed, phaseAfter, well, formed-append, phase-append}
+use Rattle.seen.proofs.Words.{seen, takings-append}
+use Rattle.recorded.proofs.Forms.{Ready, Runs, none-runs, runs-append, symbol-runs, open-runs, finish-formed}
+use Rattle.recorded.proofs.Seeing.{symbol-seen, open-seen, finish-seen}
 
 -- ---- one piece
 

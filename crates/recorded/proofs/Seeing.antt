@@ -1,17 +1,14 @@
 -- What replay sees of a recorder's records: each symbol is taken again, and each word is the one that is due.
---   seen              what is seen, as long as no fault is found
---   words-seen, symbol-seen, open-seen, finish-seen    after some words, a symbol with its words, an open, a finish with its words
-use mathlib.Core.Path.{_≡_, refl, sym, ap, ap₂, _∙_}
+--   symbol-seen, open-seen, finish-seen    after a symbol with its words, an open, a finish with its words (seen/proofs/Words has the words)
+use mathlib.Core.Path.{_≡_, refl, sym, ap, _∙_}
 use mathlib.Core.Bool.{Bool, true, false, cond}
-use mathlib.Core.List.{List, [], _∷_, _++_, append-nil}
-use Prim.Native.Nat.{ℕ, _+_, _*_, _^_, _<_, _≤_}
-use native.Mathlib.Nat.{add-zero}
+use mathlib.Core.List.{List, [], _∷_, append-nil}
+use Prim.Native.Nat.{ℕ, _+_, _<_, _≤_}
 use native.Mathlib.Omega.{arith}
-use borrow.Author.Tests.{eq-eqb, eqb-true, le-ltb, le-leb, leb-true}
-use lib.Dec.{eqb, leb, ltb}
+use borrow.Author.Tests.{eqb-true, le-ltb, le-leb}
+use lib.Dec.{eqb, ltb}
 use lib.IntN.{ℤ, natAbs}
 use lib.ListN.{length}
-use lib.Pow.{pow-mono}
 use Rattle.calls.specs.Calls.{walk, fresh, rest}
 use Rattle.trellis.specs.Measure.{Two}
 use Rattle.trellis.specs.Lists.{Every}
@@ -22,7 +19,6 @@ use Rattle.nearest.specs.Line.{InRange}
 use Rattle.points.specs.declared.Accord.{Accord}
 use Rattle.points.specs.declared.Map.{Map}
 use Rattle.points.specs.declared.Map.the-variants.{Round, Square}
-use Rattle.points.proofs.Agreed.{accord-width}
 use Rattle.machine.proofs.Owed.{fresh-most, rest-most}
 use Rattle.reasons.specs.Reason.{Reason, reason}
 use Rattle.openings.specs.Given.{startAt}
@@ -34,33 +30,11 @@ use Rattle.told.specs.Owed.{Owed, pieceOwed, FinishOwed, finishOwed}
 use Rattle.told.proofs.Telling.{telling-judge}
 use Rattle.told.proofs.Speaks.{fresh-below, rest-below}
 use Rattle.records.specs.Kinds.{kindOf}
-use Rattle.records.specs.Values.{Entry, openEntry, symbolEntry, markedEntry, wordEntry, finishEntry, halfBytes, coordinatesFrom}
-use Rattle.records.proofs.Back.{word-back, coordinate-back}
+use Rattle.records.specs.Values.{openEntry, symbolEntry, markedEntry, finishEntry, halfBytes, coordinatesFrom}
+use Rattle.records.proofs.Back.{coordinate-back}
 use Rattle.tape.specs.Front.{spotOf, markFor, symbolRecord, wordEntries, symbolRecords, finishRecords}
-use Rattle.replay_step.specs.declared.Verdict.the-variants.{Agree}
-use Rattle.replay.specs.Meaning.{Line, closed, told, Seen, nothingSeen, answered, taking, takings}
-
-abbrev pub seen : Line → List ℕ → ℕ → ℕ → Seen
-seen l due m n = record { line = l; due = due; number = m; verdict = Agree n }
-
-pub takings-append : (s : Seen) (rs qs : List Entry) → takings s (rs ++ qs) ≡ takings (takings s rs) qs
-unfolding takings
-takings-append s [] qs = refl
-takings-append s (r ∷ rs) qs = takings-append (taking s r) rs qs
-
--- ---- words
-
-word-seen : (l : Line) (w : ℕ) (ws : List ℕ) (m n : ℕ) → w < 4294967296 → taking (seen l (w ∷ ws) m n) (wordEntry w) ≡ seen l ws (m + 1) (n + 1)
-unfolding taking kindOf
-word-seen l w ws m n h = rw (word-back w h, eq-eqb w w refl)
-
-pub words-seen : (l : Line) (ws : List ℕ) (m n : ℕ) → Every (λ w. w < 4294967296) ws → takings (seen l ws m n) (wordEntries ws) ≡ seen l [] (m + length ws) (n + length ws)
-unfolding takings
-words-seen l [] m n h = ap₂ (seen l []) (sym (add-zero m)) (sym (add-zero n))
-words-seen l (w ∷ ws) m n h =
-    ap (λ (s : Seen). takings s (wordEntries ws)) (word-seen l w ws m n (h .0))
-    ∙ words-seen l ws (m + 1) (n + 1) (h .1)
-    ∙ ap₂ (seen l []) (omega arith) (omega arith)
+use Rattle.replay.specs.Meaning.{closed, told, Seen, nothingSeen, answered, taking, takings}
+use Rattle.seen.proofs.Words.{seen, words-seen, all-small}
 
 -- ---- a symbol
 
@@ -102,17 +76,6 @@ symbol-back (Heard a) Missing = (refl, omega arith)
 symbol-back Missing (Heard b) = (refl, omega arith)
 symbol-back Missing Missing = (refl, omega arith)
 
--- words of a line fit 32 bits
-word-small : (u w : ℕ) → u ≤ 8 → w < 2 ^ (3 + 2 * u) → w < 4294967296
-word-small u w h k = let l : 3 + 2 * u ≤ 19 = omega arith in let e : 2 ^ (3 + 2 * u) ≤ 2 ^ 19 = pow-mono l in omega arith
-
-all-small : (u : ℕ) → u ≤ 8 → (ws : List ℕ) → Every (λ w. w < 2 ^ (3 + 2 * u)) ws → Every (λ w. w < 4294967296) ws
-all-small u h [] k = tt
-all-small u h (w ∷ ws) k = (word-small u w h (k .0), all-small u h ws (k .1))
-
-narrow : (t : Told) → Fine t → t .accord .u ≤ 8
-narrow t f = accord-width (t .accord) (f .agreed)
-
 module _ (t : Told) (ys : List (Two Received)) (f : Fine (withHeard t ys)) (y : Two Received) (g : Fine (withHeard t (y ∷ ys))) (room : ℕ) (z : judgeSymbol t ys y room .number ≡ 0) where
   abbrev ws : List ℕ
   ws = fresh (speakerOf t) ys y
@@ -121,7 +84,7 @@ module _ (t : Told) (ys : List (Two Received)) (f : Fine (withHeard t ys)) (y : 
   few = fresh-most (withHeard t ys) f y
 
   small : Every (λ w. w < 4294967296) ws
-  small = all-small (t .accord .u) (narrow (withHeard t ys) f) ws (fresh-below (withHeard t ys) f ys y)
+  small = all-small (withHeard t ys) f ws (fresh-below (withHeard t ys) f ys y)
 
   again : judgeSymbol (withHeard t ys) ys y 65 ≡ reason 0
   again = telling-judge t ys ys y 65 ∙ roomy t ys y room z (omega (arith, few))
@@ -195,4 +158,4 @@ unfolding takings
 finish-seen t f m n =
     let ws = rest (speakerOf t) (t .heard) in
     ap (λ (s : Seen). takings s (wordEntries ws)) (finish-taken t f m n)
-    ∙ words-seen closed ws (m + 1) n (all-small (t .accord .u) (narrow t f) ws (rest-below t f (t .heard)))
+    ∙ words-seen closed ws (m + 1) n (all-small t f ws (rest-below t f (t .heard)))

@@ -25,7 +25,8 @@ use Rattle.replay_step.specs.declared.Verdict.the-variants.{Missing, Malformed}
 use Rattle.replay_step.specs.declared.Judge.{Judge}
 use Rattle.replay_step.specs.declared.Due.the-variants.{None, Word as Next}
 use Rattle.replay_step.specs.Judging.{State, stateOf, left, firstDue, took}
-use Rattle.replay.specs.Course.{Course, courseOf, isWhole, isBad, agreed, settled, stepped, feedings, unlessLeft, ended, found}
+use Rattle.replay.specs.Meaning.{agreed}
+use Rattle.replay.specs.Course.{Course, courseOf, isWhole, isBad, settled, stepped, feedings, unlessLeft, ended, found}
 use Rattle.replay.proofs.Own.{took-own}
 
 module _ (s : State) where

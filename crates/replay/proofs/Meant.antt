@@ -44,9 +44,9 @@ use Rattle.replay_step.specs.declared.Verdict.the-variants.{Agree, Differs, Ext
 use Rattle.replay_step.specs.Judging as code
 use Rattle.replay_step.specs.Judging.{State, left, leftOf, took}
 use Rattle.replay.specs.declared.Replay.{Replay}
-use Rattle.replay.specs.Meaning.{Line, closed, told, Seen, nothingSeen, fault, went, answered, room, opened, opens, hears, ends}
+use Rattle.replay.specs.Meaning.{Line, closed, told, agreed, Seen, nothingSeen, fault, went, answered, room, opened, opens, hears, ends}
 use Rattle.replay.specs.Meaning.{unlessDue, says, byRole, upon, taking, takings, atEnd, closingAt, closing, verdictOf}
-use Rattle.replay.specs.Course.{Course, isWhole, agreed, feedings, ended, unlessLeft, replayOf, freshReplay, cappedVerdict}
+use Rattle.replay.specs.Course.{Course, isWhole, feedings, ended, unlessLeft, replayOf, freshReplay, cappedVerdict}
 use Rattle.replay.proofs.Feeds.{tooks, feedings-follow, feedings-append}
 
 -- ---- what a state shows

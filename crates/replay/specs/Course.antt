@@ -20,6 +20,7 @@ use Rattle.replay_step.specs.declared.Verdict.the-variants.{Agree, Differs, Ext
 use Rattle.replay_step.specs.declared.Judge.{Judge}
 use Rattle.replay_step.specs.Judging.{State, stateOf, left, took}
 use Rattle.replay.specs.declared.Replay.{Replay}
+use Rattle.replay.specs.Meaning.{agreed}
 
 pub record Course : Type 0 where
   pub frame : Frame
@@ -39,14 +40,6 @@ isBad Fresh = false
 isBad Part = false
 isBad Whole = false
 isBad Bad = true
-
-abbrev pub agreed : Verdict → Bool
-agreed (Agree n) = true
-agreed (Differs n g h) = false
-agreed (Extra n g) = false
-agreed (Missing n h) = false
-agreed (Refused n w) = false
-agreed (Malformed p) = false
 
 unfoldable pub settled : Bool → State → Entry → State
 settled b s r = cond b (took s r) s

@@ -1,13 +1,14 @@
 -- The verdict on a capture, in the words of 02, Wishes 2, 4 and 11, record by record: what a reader believes. The receiver stands here as what it has
 -- been told and what it owes for it (told/specs), not as a machine.
 --   Line            what the receiver has been told; closed before the open and after a finish
+--   agreed v        no fault is found so far
 --   Seen            the line, the words still due, the number of the next record, and the verdict so far: `Agree`, as long as no fault is found
 --   taking s r      what is seen after one record more; after a fault nothing is looked at
 --   takings s rs    after some records
 --   closing s e     the verdict where the capture ends, or is malformed
 --   verdictOf bs    THE VERDICT on a capture
 use Prim.Native.Nat.{ℕ, _+_}
-use mathlib.Core.Bool.{cond}
+use mathlib.Core.Bool.{Bool, true, false, cond}
 use mathlib.Core.List.{List, [], _∷_}
 use lib.Dec.{eqb}
 use Rattle.told.specs.Told.{Told}
@@ -27,6 +28,14 @@ use Rattle.replay_step.specs.declared.Verdict.the-variants.{Agree, Differs, Ext
 pub data Line : Type 0 where
   closed : Line
   told : Told → Line
+
+abbrev pub agreed : Verdict → Bool
+agreed (Agree n) = true
+agreed (Differs n g h) = false
+agreed (Extra n g) = false
+agreed (Missing n h) = false
+agreed (Refused n w) = false
+agreed (Malformed p) = false
 
 pub record Seen : Type 0 where
   pub line : Line

@@ -13,7 +13,8 @@ ghost use mathlib.Core.Path.{_≡_};
 ghost use mathlib.Core.Bool.{Bool};
 ghost use Rattle.records.specs.Frames.{entryOf};
 ghost use Rattle.replay_step.specs.Judging.{stateOf};
-ghost use Rattle.replay.specs.Course.{isWhole, isBad, agreed, settled, courseOf, feedings, ended, found as Course·found, replayOf, freshReplay};
+ghost use Rattle.replay.specs.Meaning.{agreed};
+ghost use Rattle.replay.specs.Course.{isWhole, isBad, settled, courseOf, feedings, ended, found as Course·found, replayOf, freshReplay};
 
 pub struct Fed {
     pub frame: Frame,
@@ -29,7 +30,7 @@ pub struct Replay {
     pub due: [u32; 65],
 }
 
-fn is_whole(stage: Stage) -> bool
+pub fn is_whole(stage: Stage) -> bool
     ensures { λ r. ⌜ r ≡ isWhole stage ⌝ }
 {
     match stage {
@@ -51,7 +52,7 @@ fn is_bad(stage: Stage) -> bool
     }
 }
 
-fn is_agreed(v: Verdict) -> bool
+pub fn is_agreed(v: Verdict) -> bool
     ensures { λ r. ⌜ r ≡ agreed v ⌝ }
 {
     match v {

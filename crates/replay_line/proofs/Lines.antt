@@ -2,7 +2,6 @@
 --   hex-few, hex-put    `io`'s digits of a word are the eight of `hex`
 --   head-near, word-near, expected-near   the place after a part
 --   line-short          no line is longer than 64 bytes
---   line-is             what is put at the front of a page stands there
 --   line-settled        any two lines that the promise allows say the same
 use Prim.Native.Nat.{ℕ, _+_, _-_, _^_, _≤_, _<_}
 use mathlib.Core.Path.{_≡_, refl, sym, ap, subst, _∙_}
@@ -12,8 +11,7 @@ use native.Mathlib.Omega.{arith}
 use native.Mathlib.Nat.{pow-le-pow-right}
 use borrow.Author.Tests.{leb-true, leb-false}
 use lib.Dec.{leb}
-use lib.ListN.{length, take, drop, length-append}
-use lib.Seq.{take-at}
+use lib.ListN.{length, take, length-append}
 use Rattle.io.specs.Digits.{digits, Fewest}
 use Rattle.page.specs.Page.{Puts}
 use Rattle.phrases.specs.Phrase.{decimal}
@@ -51,12 +49,6 @@ module _ {page : List ℕ} {r : ℕ} {page' : List ℕ} where
 
   pub expected-near : (n g : ℕ) (t : List ℕ) → Puts page 0 (recorded n g ++ t) r page' → r ≤ 41 + length t
   expected-near n g t p = omega (arith, simp length-append at (p .next), decimal-short n, hex-length g)
-
-  pub line-is : (t : List ℕ) → Puts page 0 t r page' → take r page' ≡ t
-  line-is t p = ap (λ (l : List ℕ). take r l) (p .said) ∙ take-at t (drop r page) r (sym (p .next ∙ zero-more (length t)))
-    where
-      zero-more : (n : ℕ) → 0 + n ≡ n
-      zero-more n = omega arith
 
 -- no line is longer than 64 bytes
 pub line-short : (v : Verdict) → length (lineOf v) ≤ 64

@@ -97,7 +97,7 @@ fn put_word(w: u32, bytes: &mut [u8])
     bytes[4] = (w / 16777216) as u8;
 }
 
-fn put_words(words: &[u32], bytes: &mut [u8])
+pub fn put_words(words: &[u32], bytes: &mut [u8])
     requires { ⌜ 5 * length (now words) ≤ length (now bytes) ⌝ }
     ensures { λ _. ⌜ Fronted (wordEntries (now (words .entry))) (now (bytes .entry)) (now (bytes .exit)) ⌝ }
 {

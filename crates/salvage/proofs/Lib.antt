@@ -1,0 +1,4 @@
+pub mod Feeds
+pub mod Putting
+pub mod Comes
+pub mod Meant

@@ -48,9 +48,9 @@
  *   - the words of a state are used by one thread at a time. Different states are independent: the library has no other
  *     memory;
  *   - the program is for the kind of machine that the archive was made for: it holds no other code;
- *   - the stack has room: demfizagu_hear and demfizagu_hear_marked take less than 3 kilobytes, any other call of an end less
- *     than 7, a replay's call less than 10, and the first call of a program some 3 more where the loader resolves memcpy at
- *     its first use;
+ *   - the stack has room: demfizagu_hear, demfizagu_hear_marked and demfizagu_check_card take less than 3 kilobytes, any other
+ *     call of an end less than 7, a replay's call less than 10, and the first call of a program some 3 more where the loader
+ *     resolves memcpy at its first use;
  *   - for the calls that convert floats, the thread's floating-point environment is the default one. They are exact only
  *     there: under another rounding mode they give other numbers, and where exceptions trap a call may raise the signal.
  *     Denormals that are flushed to zero make no difference.
@@ -346,6 +346,31 @@ uint32_t demfizagu_replay_feed(uint64_t *state, size_t state_len, const uint8_t 
  */
 uint32_t demfizagu_replay_end(uint64_t *state, size_t state_len, uint8_t *line, size_t line_len, uint64_t *told,
                               size_t told_len);
+
+/*
+ * CHECKING ANOTHER MAKER'S DECODER
+ *
+ * A signal card decodes a list of n symbols, 1 to 64, with a free start, and hands over what it chose. demfizagu_check_card
+ * answers 1 if it accepts that, else 0. It decodes nothing, keeps nothing and writes nothing.
+ *
+ *   coordinates   4n: what the card was given, for each symbol x1, y1, x2, y2, -8192 to 8192
+ *   states        n + 1: the state before the first symbol and after each, 0 to 15
+ *   symbols       6n: for each symbol Y0, I1, I2', I3', each 0 or 1, and w1, w2, below 2^u
+ *   numbers       16(n + 1): sixteen for the start and sixteen after each symbol, which the card says are the least sums
+ *                 into the states 0 to 15, of distances as the receiver counts them: at most 262,144 for a point
+ *
+ * Accepted is only a sequence that is allowed and of which none has a smaller sum, whatever the card sent. If the numbers are
+ * the true least sums and the sequence is allowed and nearest, it is accepted, however its ties fell. Never accepted are
+ * other lengths, a width that an opening refuses for that map (1), a number that is no map's, and a coordinate out of range
+ * (5). Numbers of any size do no harm. For a missing point a card has no place.
+ *
+ * A state is 8 W1 + 4 W2 + 2 W3 + W4. A symbol's Y0 is W4 of its state, and the state after it is W3, W4, W2 + I2',
+ * W1 + W3 + I1, sums modulo 2. Its points have the labels q = 2 I3' + I2' and q + Y0 + 2 I1 modulo 4, and the numbers w1 and
+ * w2. examples/card.c has a card.
+ */
+uint32_t demfizagu_check_card(uint32_t map, uint32_t u, const int32_t *coordinates, size_t coordinates_len,
+                              const uint32_t *states, size_t states_len, const uint32_t *symbols, size_t symbols_len,
+                              const uint64_t *numbers, size_t numbers_len);
 
 #ifdef __cplusplus
 }

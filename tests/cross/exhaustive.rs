@@ -69,13 +69,25 @@ fn words(u: u32, start: u32, symbols: &[Symbol]) -> Vec<u32> {
     symbols.iter().zip(before).map(|(s, b)| word_of(u, b, s)).collect()
 }
 
-/// What is owed for a list: the words of the longest common beginning, and the words of the answer.
-fn owed(map: &Map, line: Line, start: u32, heard: &[(Received, Received)]) -> (Vec<u32>, Vec<u32>) {
+/// For each state the first of all allowed sequences into it.
+fn bests(map: &Map, line: Line, start: u32, heard: &[(Received, Received)]) -> Vec<Option<Sequence>> {
     let mut best: Vec<Option<Sequence>> = vec![None; 16];
     for s in (0..16).filter(|&s| start == FREE || start == s) {
         let mut none = Sequence { sum: 0, states: vec![s], symbols: vec![], ties: vec![] };
         list_all(map, line, heard, &mut none, &mut best);
     }
+    best
+}
+
+/// The least sums into the sixteen states, with a free start.
+pub fn least_sums(map: &Map, line: Line, heard: &[(Point, Point)]) -> Vec<u64> {
+    let heard: Vec<(Received, Received)> = heard.iter().map(|&(a, b)| (Some(a), Some(b))).collect();
+    bests(map, line, FREE, &heard).iter().flatten().map(|s| s.sum).collect()
+}
+
+/// What is owed for a list: the words of the longest common beginning, and the words of the answer.
+fn owed(map: &Map, line: Line, start: u32, heard: &[(Received, Received)]) -> (Vec<u32>, Vec<u32>) {
+    let best = bests(map, line, start, heard);
     let live: Vec<&Sequence> = best.iter().flatten().collect();
     let mut answer = None;
     live.iter().for_each(|s| offer(&mut answer, s));

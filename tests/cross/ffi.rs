@@ -128,6 +128,18 @@ mod c {
             told: *mut u64,
             told_len: usize,
         ) -> u32;
+        pub fn demfizagu_check_card(
+            map: u32,
+            u: u32,
+            coordinates: *const i32,
+            coordinates_len: usize,
+            states: *const u32,
+            states_len: usize,
+            symbols: *const u32,
+            symbols_len: usize,
+            numbers: *const u64,
+            numbers_len: usize,
+        ) -> u32;
     }
 }
 
@@ -318,6 +330,23 @@ pub fn samples_marked(floats: &[f32], missing: &[u8], out: &mut [i32], told: &mu
             out.len(),
             told.as_mut_ptr(),
             told.len(),
+        )
+    }
+}
+
+pub fn check_card(map: u32, u: u32, coordinates: &[i32], states: &[u32], symbols: &[u32], numbers: &[u64]) -> u32 {
+    unsafe {
+        c::demfizagu_check_card(
+            map,
+            u,
+            coordinates.as_ptr(),
+            coordinates.len(),
+            states.as_ptr(),
+            states.len(),
+            symbols.as_ptr(),
+            symbols.len(),
+            numbers.as_ptr(),
+            numbers.len(),
         )
     }
 }

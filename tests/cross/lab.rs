@@ -52,6 +52,22 @@ fn marks_of(token: &str) -> Option<Vec<u8>> {
     good.then(|| token.bytes().map(|b| b - b'0').collect())
 }
 
+/// The lists of a card of n symbols, all tokens of a line (02, Wish 14).
+fn verdict(map: &Map, line: Line, n: usize, tokens: &[&str]) -> Option<bool> {
+    if n > 64 || tokens.len() != 27 * n + 17 {
+        return None;
+    }
+    let (coordinates, rest) = tokens.split_at(4 * n);
+    let (states, rest) = rest.split_at(n + 1);
+    let (symbols, numbers) = rest.split_at(6 * n);
+    let coordinates = coordinates.iter().map(|c| coordinate_of(c)).collect::<Option<Vec<i32>>>()?;
+    let states = states.iter().map(|s| u32_of(s)).collect::<Option<Vec<u32>>>()?;
+    let symbols = symbols.iter().map(|s| u32_of(s)).collect::<Option<Vec<u32>>>()?;
+    let numbers = numbers.iter().map(|k| whole(k, u64::MAX)).collect::<Option<Vec<u64>>>()?;
+    let card = Card { coordinates: &coordinates, states: &states, symbols: &symbols, numbers: &numbers };
+    Some(card.accepted(map, line))
+}
+
 fn bits_of(token: &str) -> Option<u32> {
     let good = token.len() == 8 && token.bytes().all(|b| b.is_ascii_hexdigit());
     if good {
@@ -146,6 +162,16 @@ impl Lab {
                     Ok((x, y)) => format!("{x} {y}"),
                     Err(place) => format!("5 place {place}"),
                 })
+            }
+            ["card", map, u, n, ref lists @ ..] => {
+                let map = match map {
+                    "round" => ROUND,
+                    "square" => SQUARE,
+                    _ => return None,
+                };
+                let line = Line { map, u: u32_of(u)? };
+                let accepted = verdict(&self.map, line, u32_of(n)? as usize, lists)?;
+                Some(if accepted { "accepted" } else { "refused" }.into())
             }
             ["pending"] => Some(self.receiver.pending().to_string()),
             _ => None,

@@ -4,6 +4,7 @@
 //! allowed sequence. Then seeded sessions are run on the reference and on the library, and everything that a call gives or
 //! leaves is compared. `cross lab` answers `lab`'s protocol from the reference.
 
+mod cards;
 mod exhaustive;
 mod ffi;
 mod generate;
@@ -146,6 +147,8 @@ fn compare(o: &Options) -> Result<(), String> {
         "turned lines: no word differs ({} lines; {} more have several nearest sequences, and {} of these differ)",
         turned.compared, turned.several, turned.differing
     );
+    let cards = cards::check(&map, o.seed)?;
+    println!("cards: no difference ({} cards, {} accepted, {} of these damaged)", cards.checked, cards.accepted, cards.damaged);
     let seen = run_sessions(&map, o);
     if let Some((index, failure)) = seen.failed {
         report(&map, o, index, failure);

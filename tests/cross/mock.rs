@@ -248,6 +248,71 @@ fn sample(x: f32, y: f32) -> Result<(i32, i32), u64> {
     Ok((x, y))
 }
 
+// ---- another maker's decoder
+
+/// Where a state leads.
+fn lead(state: u32, i1: u32, i2t: u32) -> u32 {
+    let (w1, w2, w3) = (state >> 3 & 1, state >> 2 & 1, state >> 1 & 1);
+    w3 << 3 | (state & 1) << 2 | (w2 ^ i2t) << 1 | (w1 ^ w3 ^ i1)
+}
+
+/// What a point of the map counts for where this was heard.
+fn counts(on: &Sender, heard: &[i32], label: u32, number: u32) -> u64 {
+    let (x, y) = point(on, label, number);
+    let (dx, dy) = (heard[0] as i64 - 128 * x as i64, heard[1] as i64 - 128 * y as i64);
+    ((dx * dx + dy * dy) as u64).min(262_144)
+}
+
+/// For each label the least that any of its points counts for.
+fn leasts(on: &Sender, heard: &[i32]) -> [u64; 4] {
+    std::array::from_fn(|l| (0..1 << on.u).map(|w| counts(on, heard, l as u32, w)).min().unwrap())
+}
+
+/// What the card's symbol counts for between two states, if it is one of the width and leads from the first to the second.
+fn chosen(on: &Sender, heard: &[i32], from: u32, to: u32, symbol: &[u32]) -> Option<u64> {
+    let [y0, i1, i2t, i3t, w1, w2] = symbol.try_into().unwrap();
+    let bits = (y0 | i1 | i2t | i3t) >> 1 == 0;
+    let fits = bits && w1 >> on.u == 0 && w2 >> on.u == 0;
+    if !fits || from > 15 || y0 != from & 1 || lead(from, i1, i2t) != to {
+        return None;
+    }
+    let turn = 2 * i3t + i2t;
+    Some(counts(on, &heard[..2], turn, w1) + counts(on, &heard[2..], (turn + y0 + 2 * i1) & 3, w2))
+}
+
+/// Whether no number of the second row is above a number of the first and what the step between counts for at least.
+fn rises(on: &Sender, heard: &[i32], before: &[u64], after: &[u64]) -> bool {
+    let (first, second) = (leasts(on, &heard[..2]), leasts(on, &heard[2..]));
+    let all = |s: u32, i1: u32, turn: u32| {
+        let away = first[turn as usize] + second[(turn + s % 2 + 2 * i1) as usize & 3];
+        after[lead(s, i1, turn % 2) as usize].saturating_sub(away) <= before[s as usize]
+    };
+    (0..128).all(|k| all(k >> 3, k >> 2 & 1, k & 3))
+}
+
+fn check_card(on: &Sender, coordinates: &[i32], states: &[u32], symbols: &[u32], numbers: &[u64]) -> bool {
+    let n = coordinates.len() / 4;
+    let long = [coordinates.len(), states.len(), symbols.len(), numbers.len()] == [4 * n, n + 1, 6 * n, 16 * n + 16];
+    if !long || n < 1 || n > 64 || coordinates.iter().any(|c| !(-8192..=8192).contains(c)) {
+        return false;
+    }
+    if numbers[..16].iter().any(|&k| k != 0) {
+        return false;
+    }
+    let mut sum = 0;
+    for i in 0..n {
+        let heard = &coordinates[4 * i..4 * i + 4];
+        let Some(far) = chosen(on, heard, states[i], states[i + 1], &symbols[6 * i..6 * i + 6]) else {
+            return false;
+        };
+        sum += far;
+        if !rises(on, heard, &numbers[16 * i..16 * i + 16], &numbers[16 * i + 16..16 * i + 32]) {
+            return false;
+        }
+    }
+    numbers[16 * n..].iter().all(|&k| sum <= k)
+}
+
 // ---- the C functions
 
 #[no_mangle]
@@ -597,6 +662,25 @@ pub unsafe extern "C" fn demfizagu_finish_recorded(
         store(&held, state);
     }
     answer(a, told)
+}
+
+#[no_mangle]
+pub unsafe extern "C" fn demfizagu_check_card(
+    map: u32,
+    u: u32,
+    coordinates: *const i32,
+    coordinates_len: usize,
+    states: *const u32,
+    states_len: usize,
+    symbols: *const u32,
+    symbols_len: usize,
+    numbers: *const u64,
+    numbers_len: usize,
+) -> u32 {
+    let (coordinates, states) = (from_raw_parts(coordinates, coordinates_len), from_raw_parts(states, states_len));
+    let (symbols, numbers) = (from_raw_parts(symbols, symbols_len), from_raw_parts(numbers, numbers_len));
+    let on = Sender { map, u, ..NO_SENDER };
+    (is_line(map as u64, u as u64) && check_card(&on, coordinates, states, symbols, numbers)) as u32
 }
 
 #[no_mangle]

@@ -559,3 +559,68 @@ impl Receiver {
         (answer, records.len() as u64)
     }
 }
+
+// ---- another maker's decoder (02, Wish 14)
+
+/// What a signal card hands over, and what it was given: four coordinates a symbol, a state more than symbols, for each symbol Y0, I1, I2',
+/// I3', w1 and w2, and sixteen numbers for the start and after each symbol.
+pub struct Card<'a> {
+    pub coordinates: &'a [i32],
+    pub states: &'a [u32],
+    pub symbols: &'a [u32],
+    pub numbers: &'a [u64],
+}
+
+impl Card<'_> {
+    /// Whether the lists are those of 1 to 64 symbols: how many, if so.
+    fn count(&self) -> Option<usize> {
+        let n = self.coordinates.len() / 4;
+        let long = [self.coordinates.len(), self.states.len(), self.symbols.len(), self.numbers.len()];
+        ((1..=64).contains(&n) && long == [4 * n, n + 1, 6 * n, 16 * (n + 1)]).then_some(n)
+    }
+
+    fn heard(&self, i: usize) -> (Point, Point) {
+        let c = &self.coordinates[4 * i..4 * i + 4];
+        ((c[0], c[1]), (c[2], c[3]))
+    }
+
+    /// What the i-th symbol of the card's sequence counts for, if it can be sent and carries its state to the next.
+    fn counts(&self, map: &Map, line: Line, i: usize) -> Option<u64> {
+        let [y0, i1, i2t, i3t, w1, w2] = self.symbols[6 * i..6 * i + 6].try_into().unwrap();
+        let (from, to) = (self.states[i], self.states[i + 1]);
+        let fits = [y0, i1, i2t, i3t].iter().all(|&bit| bit < 2) && w1 >> line.u == 0 && w2 >> line.u == 0;
+        if !fits || from > 15 || y0 != from & 1 || next_state(from, i1, i2t) != to {
+            return None;
+        }
+        let (first, second) = labels(2 * i3t + i2t, y0, i1);
+        let counted = |heard, label, w| distance(heard, map.point(line, label, w)).min(CAP);
+        Some(counted(self.heard(i).0, first, w1) + counted(self.heard(i).1, second, w2))
+    }
+
+    /// The sum of the card's sequence, where the lists fit, there is such a line, every coordinate is in range and the sequence is allowed.
+    pub fn sum(&self, map: &Map, line: Line) -> Option<u64> {
+        let n = self.count().filter(|_| line.exists())?;
+        let in_range = self.coordinates.iter().all(|&c| (-REACH..=REACH).contains(&(c as i64)));
+        (0..n).try_fold(0, |sum, i| Some(sum + self.counts(map, line, i)?)).filter(|_| in_range)
+    }
+
+    /// Whether the numbers and the sequence show that no allowed sequence has a smaller sum: the numbers are 0 at the start and rise by no
+    /// more than each step counts for at least, and none of the last is below the sum of the sequence.
+    pub fn accepted(&self, map: &Map, line: Line) -> bool {
+        let Some(sum) = self.sum(map, line) else {
+            return false;
+        };
+        let rises = |i: usize| {
+            let heard = self.heard(i);
+            let best = best_of_subsets(map, line, CAP, (Some(heard.0), Some(heard.1)));
+            let (before, after) = (&self.numbers[16 * i..16 * i + 16], &self.numbers[16 * i + 16..16 * i + 32]);
+            let step = |s: u32, i1: u32, i2t: u32| {
+                let least = best[(4 * (s & 1) + 2 * i1 + i2t) as usize].0;
+                after[next_state(s, i1, i2t) as usize] as u128 <= before[s as usize] as u128 + least as u128
+            };
+            (0..64).all(|k| step(k / 4, k / 2 % 2, k % 2))
+        };
+        let n = self.states.len() - 1;
+        self.numbers[..16].iter().all(|&k| k == 0) && (0..n).all(rises) && self.numbers[16 * n..].iter().all(|&k| sum <= k)
+    }
+}

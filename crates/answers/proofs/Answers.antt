@@ -18,7 +18,7 @@ use Rattle.samples.specs.Given.{GivenSample}
 use Rattle.reasons.specs.Reason.{Reason}
 use Rattle.phrases.specs.Phrase.{decimal, whole, afterSpaces}
 use Rattle.phrases.proofs.Phrases.{decimal-short, whole-short, reason-short, said-short, wholes-short, coordinates-short}
-use Rattle.answers.specs.Answer.{numberLine, sentLine, listLine, heardLine, pairLine, lineBy, sampleLine}
+use Rattle.answers.specs.Answer.{numberLine, cardLine, sentLine, listLine, heardLine, pairLine, lineBy, sampleLine}
 
 pub pair-back : (x y : ℤ) → SFits w32 x → SFits w32 y → pairLine (toZ w32 (ofZ w32 x)) (toZ w32 (ofZ w32 y)) ≡ pairLine x y
 pair-back x y f g = rw (toZ-ofZ w32 x f, toZ-ofZ w32 y g)
@@ -46,10 +46,17 @@ sample-short g = by (g .place) where
   by none = simp length-append (omega (arith, whole-short (g .x), whole-short (g .y)))
   by (some p) = simp length-append (omega (arith, decimal-short p))
 
+card-short : (b : Bool) → length (cardLine b) ≤ 9
+card-short true = omega arith
+card-short false = omega arith
+
 -- the place after each line
 module _ {page : List ℕ} {at : ℕ} {r : ℕ} {page' : List ℕ} where
   pub number-near : (n : ℕ) → Puts page at (numberLine n) r page' → r ≤ at + 21
   number-near n p = omega (arith, p .next, length-append (decimal n) (bytes "\n"), decimal-short n)
+
+  pub card-near : (b : Bool) → Puts page at (cardLine b) r page' → r ≤ at + 9
+  card-near b p = omega (arith, p .next, card-short b)
 
   pub sent-near : (n : ℕ) (out : List ℤ) → Puts page at (sentLine n out) r page' → r ≤ at + 109
   sent-near n out p = omega (arith, p .next, sent-short n out)

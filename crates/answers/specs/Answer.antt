@@ -7,11 +7,12 @@
 --   heardLine n r ws  "`TAKEN WRITTEN N`", the place and the words, which answers a piece and a finish
 --   pairLine x y, refusedLine p, sampleLine g   "`X Y`, or `5 place P`"
 --   missingLine       "`sample missing` answers `missing`"; sampledLine g, of a sample that may be missing
+--   cardLine b        "answers `accepted` or `refused`", which answers a card (02, Wish 14)
 --   unreadLine        "A line it cannot read answers `?`"
 --   answerRoom        what any answer takes at most: three numbers with the spaces between them, a place, an output of 4096
 --                     coordinates, a newline
 use Prim.Native.Nat.{ℕ, _+_, _*_}
-use mathlib.Core.Bool.{cond}
+use mathlib.Core.Bool.{Bool, cond}
 use mathlib.Core.List.{List, [], _++_, map}
 use mathlib.Core.Option.{Option, none, some}
 use lib.Dec.{eqb, leb}
@@ -56,6 +57,9 @@ missingLine = bytes "missing\n"
 
 abbrev pub sampledLine : GivenSampled → List ℕ
 sampledLine g = cond (g .missing) missingLine (sampleLine (g .given))
+
+abbrev pub cardLine : Bool → List ℕ
+cardLine accepted = cond accepted (bytes "accepted\n") (bytes "refused\n")
 
 abbrev pub unreadLine : List ℕ
 unreadLine = bytes "?\n"

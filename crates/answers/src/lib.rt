@@ -6,7 +6,7 @@ ghost use lib.ListN.{length};
 ghost use Rattle.page.specs.Page.{Puts};
 ghost use Rattle.reasons.specs.Reason.{givenOf};
 ghost use Rattle.phrases.specs.Phrase.{wordsRoom, wholesRoom};
-ghost use Rattle.answers.specs.Answer.{numberLine, sentLine, listLine, heardLine, pairLine, refusedLine, missingLine, unreadLine};
+ghost use Rattle.answers.specs.Answer.{numberLine, sentLine, listLine, heardLine, pairLine, refusedLine, missingLine, cardLine, unreadLine};
 
 pub fn unread(page: &mut [u8], at: usize) -> usize
     requires { ⌜ at + 2 ≤ length (now page) ⌝ }
@@ -21,6 +21,17 @@ pub fn missing(page: &mut [u8], at: usize) -> usize
     ensures { λ r. ⌜ Puts (now (page .entry)) at missingLine r (now (page .exit)) ⌝ }
 {
     page::put_text(page, at, b"missing\n")
+}
+
+// The answer to a card.
+pub fn card(page: &mut [u8], at: usize, accepted: bool) -> usize
+    requires { ⌜ at + 9 ≤ length (now page) ⌝ }
+    ensures { λ r. ⌜ Puts (now (page .entry)) at (cardLine accepted) r (now (page .exit)) ⌝ }
+{
+    if accepted {
+        return page::put_text(page, at, b"accepted\n");
+    }
+    page::put_text(page, at, b"refused\n")
 }
 
 pub fn number(page: &mut [u8], at: usize, n: u64) -> usize

@@ -36,7 +36,9 @@ use Rattle.layout.specs.Tagged.{holds}
 use Rattle.stored.specs.State.{senderIn, wordsOfSender, receiverIn, wordsOfReceiver, readSender, readReceiver, SenderStored, ReceiverStored}
 use Rattle.converted.specs.Counts.{toldOf}
 use Rattle.demfizagu.specs.Calls.{pendingIn, senderOpening, receiverOpening, sendCall, sendListCall, callOf, hearCall, finishCall}
-use Rattle.demfizagu.specs.Promise.{Opens, Sends, SendsList, Answers}
+use Rattle.card.specs.Card.{Card}
+use Rattle.card.specs.Promise.{Checks}
+use Rattle.demfizagu.specs.Promise.{Opens, Sends, SendsList, Answers, ChecksCard}
 use Rattle.taped.proofs.Around.{receiver-long, picksIn, around, long, picks-at, front-is, all-there}
 use Rattle.layout.proofs.Held.{held}
 use Rattle.layout.proofs.Lent.{part-back}
@@ -295,3 +297,12 @@ pending-small state = go (sound (receiverIn state)) refl where
   go : (b : Bool) → sound (receiverIn state) ≡ b → pendingIn state < 2 ^ 32
   go true h = let f = sound-core (receiverIn state) h in rw h (omega arith)
   go false h = rw h (omega arith)
+
+-- ---- the check of a card
+
+module _ {k k' : Accord} {c : Card} {r : Bool} (e : k ≡ k') where
+  pub card-one : r ≡ true → Checks k c r → ChecksCard k' c 1
+  card-one t p = record { one-or-none = omega arith; checks = subst (λ (a : Accord). Checks a c true) e (subst (Checks k c) t p) }
+
+  pub card-none : r ≡ false → Checks k c r → ChecksCard k' c 0
+  card-none t p = record { one-or-none = omega arith; checks = subst (λ (a : Accord). Checks a c false) e (subst (Checks k c) t p) }

@@ -25,7 +25,7 @@ ghost use Rattle.converted.specs.Counts.{toldOf};
 ghost use Rattle.converted.specs.Calls.{sampleCall, samplesCall, markedCall};
 ghost use Rattle.converted.specs.Promise.{Samples, Converts};
 ghost use Rattle.demfizagu.specs.Calls.{senderOpening, receiverOpening, sendCall, sendListCall, hearCall, finishCall, pendingIn, openIn};
-ghost use Rattle.demfizagu.specs.Promise.{Opens, OpensAs, Sends, SendsList, Answers};
+ghost use Rattle.demfizagu.specs.Promise.{Opens, OpensAs, Sends, SendsList, Answers, ChecksCard};
 ghost use Rattle.layout.specs.Layout.{senderLength, receiverLength};
 ghost use Rattle.recorder.specs.Promise.{OpenTaped};
 ghost use Rattle.taped.specs.Calls as taped;
@@ -34,6 +34,7 @@ ghost use Rattle.stored.specs.State.{senderIn, receiverIn};
 ghost use Rattle.course_layout.specs.Table.{replayLength};
 ghost use Rattle.collected.specs.Calls.{startCall, feedCall, endCall};
 ghost use Rattle.collected.specs.Promise.{Starts, Feeds, Ends};
+ghost use Rattle.card.specs.Promise.{cardOf};
 
 #[no_mangle]
 pub extern "C" fn demfizagu_version() -> u32
@@ -412,4 +413,23 @@ pub extern "C" fn demfizagu_replay_end(state: &mut [u64], line: &mut [u8], told:
     ensures { λ r. ⌜ Ends (endCall (now (state .entry)) (now (line .entry)) (now (told .entry))) r (now (state .exit)) (now (line .exit)) (now (told .exit)) ⌝ }
 {
     collected::end(state, line, told)
+}
+
+// The check of another maker's decoder, which chose a sequence for a list of symbols: 1 where it is accepted, else 0. No end is needed.
+#[no_mangle]
+pub extern "C" fn demfizagu_check_card(
+    map: u32,
+    u: u32,
+    coordinates: &[i32],
+    states: &[u32],
+    symbols: &[u32],
+    numbers: &[u64],
+) -> u32
+    ensures { λ r. ⌜ ChecksCard (lineOf map u) (cardOf (now (coordinates .entry)) (now (states .entry)) (now (symbols .entry)) (now (numbers .entry))) r ⌝ }
+{
+    let k = accords::line_of(map, u);
+    if card::check(k, coordinates, states, symbols, numbers) {
+        return 1;
+    }
+    0
 }

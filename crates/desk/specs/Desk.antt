@@ -32,7 +32,7 @@ use Rattle.told.specs.Piece.{pieceOf, markedPiece}
 use Rattle.receiver.specs.Doors as receiver
 use Rattle.desk.specs.declared.Desk.{Desk}
 use Rattle.desk.specs.declared.Done.{Done}
-use Rattle.answers.specs.Answer.{answerRoom, numberLine, sentLine, listLine, heardLine, sampleLine, missingLine, unreadLine}
+use Rattle.answers.specs.Answer.{answerRoom, numberLine, sentLine, listLine, heardLine, sampleLine, missingLine, cardLine, unreadLine}
 
 abbrev pub closedDesk : Desk
 closedDesk = record { sender = sender.shut; receiver = machine.shut }
@@ -86,6 +86,7 @@ acting d request.Pending l = says d (numberLine (pendingOf (d .receiver)))
 acting d (request.List cap n) l = listGives d (sendingList (d .sender) (take n (l .words)) (lent cap))
 acting d request.Missing l = says d missingLine
 acting d (request.Marked cap m n) l = ranGives d (receiver.hearing (d .receiver) (markedPiece (take m (l .marks)) (take n (l .coordinates))) cap)
+acting d (request.Card accepted) l = says d (cardLine accepted)
 
 -- the last part follows from the one before it; it is stated so that callers find it
 pub record Does (g : Result) (most : ℕ) (page : List ℕ) (at : ℕ) (r : Done) (page' : List ℕ) : Type 0 where

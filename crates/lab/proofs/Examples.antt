@@ -7,6 +7,7 @@ use lib.IntN.{pos, negsuc}
 use Rattle.text.specs.Bytes.{bytes}
 use Rattle.text.specs.Number.{digitOf, numberOf, wholeOf, hexOf}
 use Rattle.marks.specs.Row.{isMark, isRow, rowOf}
+use Rattle.card.specs.Check.{lengthsFit, accepts}
 use Rattle.protocol.specs.Request.{verbOf, requestOf}
 use Rattle.samples.specs.Given.{bothDone, refusedAt}
 use Rattle.samples.specs.Heard.{heardBits}
@@ -64,17 +65,18 @@ unfolding decimal whole sentLine listLine reasonText saidText saidWholes heardLi
 examples = refl
 
 -- a comment, an empty line, both openings of a sender, a word, a list whose last word is none, the square map and a word on it, an odd width and
--- another name of it, a sample that is missing, marks for a receiver that is closed, a row that is none, and a last line that no newline
--- follows and that lacks its CAP
+-- another name of it, a sample that is missing, marks for a receiver that is closed, a row that is none, a card of no symbols, one of too many
+-- and one of another map, and a last line that no newline follows and that lacks its CAP
 abbrev typed : List ℕ
 typed =
     bytes "# a comment\n\nsender 9\nsender 0\nsend 5 4\nlist 9 0 2 8\n"
     ++ bytes "sender 2 square\nsend 8 4\nreceiver 1 square\nreceiver 2 64 free squares\npending\n"
-    ++ bytes "sample 3F800000 7f800000\nsample missing\nmarked 4 31 0 0 0 0\nmarked 4 4\nsend 5"
+    ++ bytes "sample 3F800000 7f800000\nsample missing\nmarked 4 31 0 0 0 0\nmarked 4 4\n"
+    ++ bytes "card round 0 0 15 0 0 0 0 0 0 0 0 0 0 0 0 0 0 0 18446744073709551615\ncard round 0 0 15\ncard round 0 65\ncard cube 0 0\nsend 5"
 
 pub session : lastLine 65536 (streaming 65536 (record { desk = closedDesk; line = []; text = [] }) typed) .text
-    ≡ bytes "1\n0\n0 -1 -1 1 1\n2 4 : -1 -1 -1 1 -1 1 -1 1\n0\n0 1 -3 1 1\n1\n?\n0\n5 place 1\nmissing\n0 0 9\n?\n?\n"
+    ≡ bytes "1\n0\n0 -1 -1 1 1\n2 4 : -1 -1 -1 1 -1 1 -1 1\n0\n0 1 -3 1 1\n1\n?\n0\n5 place 1\nmissing\n0 0 9\n?\nrefused\n?\n?\n?\n?\n"
 unfolding answering acting requestOf verbOf numberOf wholeOf hexOf digitOf rowOf isRow isMark decimal whole sentLine listLine saidWholes sampleLine
     heardLine reasonText saidText hearing heardBits shut sound opening sending sendingAll sendingList symbolOf after four
-    firstAt secondAt lastLabel pointOf aPoint coordinates squareOf gridPoint unpacked nextState secondLabel openings.opening
+    firstAt secondAt lastLabel pointOf aPoint coordinates squareOf gridPoint unpacked nextState secondLabel openings.opening accepts lengthsFit
 session = refl

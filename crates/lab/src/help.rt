@@ -42,6 +42,9 @@ fn verbs(to: i32) -> bool {
   sample HEX HEX            a pair of floats by their bits, eight digits each. Answer: X Y, or `5 place P`
   sample missing            a sample that never came. Answer: missing
   pending                   how many symbols wait undecided
+  card MAP U N ..           another maker's decoder, MAP `round` or `square`: for N symbols, 0 to 64, 4N coordinates, N + 1 states, Y0, I1,
+                            I2', I3', w1, w2 of each symbol, and 16 numbers for the start and after each symbol, which it says are the
+                            least sums. Answer: accepted if that sequence is allowed and nearest, else refused
   an empty line, or # ..    answers nothing
 
 ",

@@ -36,7 +36,8 @@ use Rattle.requests.specs.declared.Request.the-variants as request
 use Rattle.requests.specs.Verb.{just, both, one, two, anyNumber, capNumber, atStart, filledBy, coordinateFills, markedFills, marksAfter, marksOf}
 use Rattle.requests.specs.Verb.{onMap, onNumber, senderOf, finishOf, sendOf, sampleOf, startOf, windowBy, openBy, openOf, receiverOf, heardOf, pieceOf, sentOf, listOf}
 use Rattle.requests.specs.Verb.{markedBy, markedAfter, markedOf}
-use Rattle.protocol.specs.Request.{senderVerb, receiverVerb, finishVerb, sampleVerb, sendVerb, pieceVerb, listVerb, verbOf, pendingAlone}
+use Rattle.verb_card.proofs.Lines.{either-way}
+use Rattle.protocol.specs.Request.{cardVerb, senderVerb, receiverVerb, finishVerb, sampleVerb, sendVerb, pieceVerb, listVerb, verbOf, pendingAlone}
 use Rattle.protocol.specs.Request.{lineOf, requestOf, pieceOnly, listCoordinates, listWords, lineFills, wordFills}
 use Rattle.protocol.specs.Request.{markFills as markFillsBy, coordinatesOf, wordsOf, marksIn, Reads}
 use Rattle.requests.specs.Named.{Named, named, noneNamed}
@@ -71,6 +72,7 @@ cut (request.Finish cap) l = noneNamed
 cut (request.Sample x y) l = noneNamed
 cut request.Pending l = noneNamed
 cut request.Missing l = noneNamed
+cut (request.Card accepted) l = noneNamed
 
 -- the request names nothing
 abbrev Same : Request → Type 0
@@ -191,8 +193,11 @@ list-named (number.Got c) ts words cs cs' ms ms' = by (manyOf numberIn (length w
     few true = rw (at-start numberIn ts words e)
     few false = refl
 
+card-verb : (v : List ℕ) (ts : List (List ℕ)) → Same (cardVerb v ts)
+card-verb v ts = cond-same (sameBytes v (bytes "card")) _ _ (either-way Same (λ b l l'. refl) unread-same ts) unread-same
+
 sender-verb : (v : List ℕ) (ts : List (List ℕ)) → Same (senderVerb v ts)
-sender-verb v ts = cond-same (sameBytes v (bytes "sender")) _ _ (sender-same ts) unread-same
+sender-verb v ts = cond-same (sameBytes v (bytes "sender")) _ _ (sender-same ts) (card-verb v ts)
 
 receiver-verb : (v : List ℕ) (ts : List (List ℕ)) → Same (receiverVerb v ts)
 receiver-verb v ts = cond-same (sameBytes v (bytes "receiver")) _ _ (receiver-same ts) (sender-verb v ts)
@@ -311,6 +316,7 @@ acting-only d (request.Finish cap) l l' e = refl
 acting-only d (request.Sample x y) l l' e = refl
 acting-only d request.Pending l l' e = refl
 acting-only d request.Missing l l' e = refl
+acting-only d (request.Card accepted) l l' e = refl
 
 pub obeyed : {g g' : Result} {most : ℕ} {page : List ℕ} {at : ℕ} {r : Done} {page' : List ℕ} → g ≡ g' → Does g most page at r page' → Does g' most page at r page'
 obeyed {most = most} {page = page} {at = at} {r = r} {page' = page'} e d = subst (λ (g : Result). Does g most page at r page') e d

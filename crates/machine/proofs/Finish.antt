@@ -24,7 +24,8 @@ use Rattle.machine.specs.declared.Receiver.{Receiver}
 use Rattle.select.specs.Select.{limit, rowOf}
 use Rattle.sums.specs.Sums.{endOf}
 use Rattle.machine.specs.Machine.{wayFrom, lastSymbols, lastWords}
-use Rattle.machine.proofs.Trellis.{searchOf, laws, onward, some-up}
+use Rattle.told.proofs.Search.{searchOf, laws, onward}
+use Rattle.machine.proofs.Trellis.{some-up}
 use Rattle.machine.proofs.Arrivals.{up-sealed, end-is}
 use Rattle.machine.proofs.Keeps.{Keeps}
 use Rattle.machine.proofs.Step.{saidOf}

@@ -26,7 +26,7 @@ use Rattle.machine.specs.declared.Receiver.{Receiver}
 use Rattle.select.specs.Select.{limit, rowOf}
 use Rattle.machine.specs.Machine.{core, freshSums, opened, wayFrom}
 use Rattle.select.proofs.Lists.{sixteen-at, sixteen-most}
-use Rattle.machine.proofs.Trellis.{searchOf, laws}
+use Rattle.told.proofs.Search.{searchOf, laws}
 use Rattle.machine.proofs.Arrivals.{sealed}
 use Rattle.machine.proofs.Bounds.{Lowest}
 use Rattle.points.specs.declared.Accord.{Accord}

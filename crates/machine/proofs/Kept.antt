@@ -23,7 +23,7 @@ use Rattle.nearest.proofs.Laws.{far-most}
 use Rattle.select.specs.Select.{limit, rowOf}
 use Rattle.told.specs.Told.{Told, codeOf, Fine}
 use Rattle.machine.specs.Machine.{machineOf}
-use Rattle.machine.proofs.Trellis.{searchOf, laws}
+use Rattle.told.proofs.Search.{searchOf, laws}
 use Rattle.machine.proofs.Bounds.{kept-most, zero-is}
 use Rattle.machine.proofs.Owes.{Owes, owes}
 

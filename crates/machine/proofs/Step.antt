@@ -42,7 +42,8 @@ use Rattle.select.specs.Select.{limit, fromAt, firstStep, followed, rowOf}
 use Rattle.told.specs.Told.{codeOf}
 use Rattle.picks.proofs.Kept.{kept-length}
 use Rattle.machine.specs.Machine.{costsOf, newSums, nextSums, nextSteps, numbersIn, wayFrom, agreedOf, keptOf, releasedOf, grown}
-use Rattle.machine.proofs.Trellis.{searchOf, laws, onward, some-up}
+use Rattle.told.proofs.Search.{searchOf, laws, onward}
+use Rattle.machine.proofs.Trellis.{some-up}
 use Rattle.machine.proofs.Arrivals.{Room, up-sealed, off-new, off-lowered}
 use Rattle.select.proofs.Followed.{followed-live, followed-below, followed-up}
 use Rattle.machine.proofs.Picked.{step-at, step-from, before-is, newSymbol, symbol-is}

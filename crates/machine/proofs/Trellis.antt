@@ -1,66 +1,35 @@
--- The code that the receiver of 01 decodes and the search that it makes, with what the theory asks of them; and what the rows of a
--- weighed symbol say of the search's picks.
---   searchOf ac b              the search of a line of the accord ac with the start b
---   pickOf ac y s t            the search's pick from s to t
---   laws, onward               the search obeys its laws, and every list has an allowed sequence
+-- What the search of a line (told/proofs/Search) leaves to a receiver, whatever it heard.
 --   some-up                    some state is always reached
 --   turn-below                 the turn after what is final is a label, or not known
---   cost-at                    the cost of a step's subset is the distance of the pick between its two states
 use mathlib.Core.Path.{_≡_, sym, ap, subst, _∙_}
 use mathlib.Core.List.{List, [], _∷_, _++_, IsPrefix}
 use Prim.Native.Nat.{ℕ, _≤_, _<_}
 use native.Mathlib.Omega.{arith}
 use lib.Dec.{T}
-use lib.ListN.{getD}
 use Rattle.trellis.specs.Lists.{Every}
-use Rattle.trellis.specs.Code.{symbols, Onward}
+use Rattle.trellis.specs.Code.{symbols}
 use Rattle.trellis.specs.Best.{Surv}
 use Rattle.trellis.specs.Choose.{up}
-use Rattle.trellis.specs.Search.{Search, Laws}
 use Rattle.trellis.specs.Common.{common}
 use Rattle.trellis.specs.Cells.{Off}
 use Rattle.trellis.specs.Measure.{Start, GoodStart, Two}
-use Rattle.trellis.specs.Same.{sameSymbol}
-use Rattle.trellis.specs.Pick.{weiSearch}
 use Rattle.trellis.specs.Speak.{after, carried}
 use Rattle.trellis.specs.Words.{turnAfter, firstTurn}
 use Rattle.trellis.proofs.Words.{first-turn}
 use Rattle.told.specs.Told.{codeOf}
+use Rattle.told.proofs.Search.{searchOf, laws, onward}
 use Rattle.trellis.proofs.Optimal.{best-below}
 use Rattle.trellis.proofs.Answer.{reached-best, best-surv}
 use Rattle.trellis.proofs.Off.{off-up}
 use Rattle.trellis.proofs.Final.{common-final}
 use Rattle.trellis.proofs.Common.{common-common}
 use Rattle.trellis.proofs.Onward.{some-reached, some-answer}
-use Rattle.trellis.proofs.WeiLaws.{wei-laws, wei-onward}
 use Rattle.trellis.proofs.Paths.{allowed-runs}
 use Rattle.trellis.proofs.IvEight.{allowed-valid}
-use Rattle.wei.specs.State.{bitW4, carryI1, carryI2, between}
 use Rattle.wei.specs.Symbol.{Symbol, firstLabel, Valid}
-use Rattle.wei.proofs.States.{carryI1-below, carryI2-below}
 use Rattle.nearest.specs.declared.Received.{Received}
-use Rattle.nearest.specs.Line.{lineMeasure, lineChoice}
-use Rattle.nearest.specs.Found.{weighedOf}
-use Rattle.nearest.proofs.Laws.{best-cost, costs-at, line-chooses}
+use Rattle.nearest.specs.Line.{lineMeasure}
 use Rattle.points.specs.declared.Accord.{Accord}
-
-abbrev pub searchOf : (ac : Accord) (b : Start) → Search (codeOf ac b)
-searchOf ac b = weiSearch (ac .u) (lineMeasure ac) (lineChoice ac) sameSymbol b
-
-pub laws : (ac : Accord) (b : Start) → Laws (searchOf ac b)
-laws ac b = wei-laws (ac .u) (lineMeasure ac) (lineChoice ac) (line-chooses ac) sameSymbol b
-
-pub onward : (ac : Accord) (b : Start) → GoodStart b → Onward (codeOf ac b)
-onward ac b g = wei-onward (ac .u) (lineMeasure ac) b g
-
-abbrev pub pickOf : Accord → Two Received → ℕ → ℕ → Symbol
-pickOf ac y s t = lineChoice ac y (bitW4 s) (carryI1 s t) (carryI2 s t)
-
-pub cost-at : (ac : Accord) (y : Two Received) (s t : ℕ) → lineMeasure ac .far y (pickOf ac y s t) ≡ getD (weighedOf ac y .costs) (between s t) 0
-unfolding between
-cost-at ac y s t =
-    best-cost ac y (bitW4 s) (carryI1 s t) (carryI2 s t)
-    ∙ sym (costs-at ac y (bitW4 s) (carryI1 s t) (carryI2 s t) (omega arith) (carryI1-below s t) (carryI2-below s t))
 
 module _ (ac : Accord) (b : Start) (g : GoodStart b) where
   pub some-up : (ys : List (Two Received)) (m : ℕ) (row : ℕ → Surv (Unit {0})) → Off (searchOf ac b) ys m row → (s : ℕ) × (s < 16) × T (up (row s))

@@ -65,7 +65,7 @@ pub fn is_coordinate(x: i32) -> bool
 }
 
 // What a squared distance counts for.
-fn counted_of(d: u32) -> u32
+pub fn counted_of(d: u32) -> u32
     ensures { λ r. ⌜ r ≡ counted d ⌝ }
 {
     if CAP < d { CAP } else { d }

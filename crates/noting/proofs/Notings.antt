@@ -163,9 +163,9 @@ module _ (rx : Receiver) (begun : Bool) (l : Named) (room : ℕ) where
 
 -- the verbs that are no receiver's, by their tags
 isOther : ℕ → Bool
-isOther n = eqb n 1 || (eqb n 2 || (eqb n 3 || (eqb n 9 || (eqb n 10 || (eqb n 11 || eqb n 12)))))
+isOther n = eqb n 1 || (eqb n 2 || (eqb n 3 || (eqb n 9 || (eqb n 10 || (eqb n 11 || (eqb n 12 || eqb n 14))))))
 
-other-tag : (n : ℕ) → OneOf (1 ∷ 2 ∷ 3 ∷ 9 ∷ 10 ∷ 11 ∷ 12 ∷ []) n → isOther n ≡ true
+other-tag : (n : ℕ) → OneOf (1 ∷ 2 ∷ 3 ∷ 9 ∷ 10 ∷ 11 ∷ 12 ∷ 14 ∷ []) n → isOther n ≡ true
 unfolding isOther
 other-tag n (inl e) = rw e
 other-tag n (inr (inl e)) = rw e
@@ -173,9 +173,10 @@ other-tag n (inr (inr (inl e))) = rw e
 other-tag n (inr (inr (inr (inl e)))) = rw e
 other-tag n (inr (inr (inr (inr (inl e))))) = rw e
 other-tag n (inr (inr (inr (inr (inr (inl e)))))) = rw e
-other-tag n (inr (inr (inr (inr (inr (inr e)))))) = rw e
+other-tag n (inr (inr (inr (inr (inr (inr (inl e))))))) = rw e
+other-tag n (inr (inr (inr (inr (inr (inr (inr e))))))) = rw e
 
-pub other-noted : (rx : Receiver) (begun : Bool) (l : Named) (room : ℕ) (asked : Request) → OneOf (1 ∷ 2 ∷ 3 ∷ 9 ∷ 10 ∷ 11 ∷ 12 ∷ []) (tagOf the-type asked)
+pub other-noted : (rx : Receiver) (begun : Bool) (l : Named) (room : ℕ) (asked : Request) → OneOf (1 ∷ 2 ∷ 3 ∷ 9 ∷ 10 ∷ 11 ∷ 12 ∷ 14 ∷ []) (tagOf the-type asked)
     → stays rx begun unreadLine ≡ noting rx begun asked l room
 unfolding noting isOther
 other-noted rx begun l room request.Nothing h = absurd (subst T (sym (other-tag 0 h)) tt)
@@ -192,6 +193,7 @@ other-noted rx begun l room request.Pending h = refl
 other-noted rx begun l room (request.List cap n) h = refl
 other-noted rx begun l room request.Missing h = refl
 other-noted rx begun l room (request.Marked cap k n) h = absurd (subst T (sym (other-tag 13 h)) tt)
+other-noted rx begun l room (request.Card accepted) h = refl
 
 -- ---- a line
 
@@ -223,6 +225,7 @@ noting-only rx begun room (request.Sample x y) l l' e = refl
 noting-only rx begun room request.Pending l l' e = refl
 noting-only rx begun room (request.List cap n) l l' e = refl
 noting-only rx begun room request.Missing l l' e = refl
+noting-only rx begun room (request.Card accepted) l l' e = refl
 
 module _ {line : List ℕ} {part : Part} {s : List ℕ} (g : Gathered line part s) (rx : Receiver) (begun : Bool) (room : ℕ) where
   pub long-noted : part .long ≡ true → stays rx begun unreadLine ≡ notingLine (length line) rx begun s room

@@ -79,6 +79,7 @@ noting rx begun (request.Sample x y) l room = stays rx begun unreadLine
 noting rx begun request.Pending l room = stays rx begun unreadLine
 noting rx begun (request.List cap n) l room = stays rx begun unreadLine
 noting rx begun request.Missing l room = stays rx begun unreadLine
+noting rx begun (request.Card accepted) l room = stays rx begun unreadLine
 
 -- "A line has at most 65,536 bytes before its newline; a longer one answers `?` once"
 unfoldable pub notingLine : ℕ → Receiver → Bool → List ℕ → ℕ → Note

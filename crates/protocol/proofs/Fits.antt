@@ -6,11 +6,15 @@ use Rattle.text.specs.Bytes.{bytes}
 use Rattle.text.specs.Token.{tokens, sameBytes}
 use Rattle.requests.specs.Verb.{Fit}
 use Rattle.requests.proofs.Fits.{fit-cond, fit-sender, fit-receiver, fit-finish, fit-sample, fit-send, fit-piece, fit-marked, fit-list}
-use Rattle.protocol.specs.Request.{senderVerb, receiverVerb, finishVerb, sampleVerb, sendVerb, pieceVerb, listVerb, verbOf, lineOf, requestOf}
+use Rattle.verb_card.proofs.Lines.{either-way}
+use Rattle.protocol.specs.Request.{cardVerb, senderVerb, receiverVerb, finishVerb, sampleVerb, sendVerb, pieceVerb, listVerb, verbOf, lineOf, requestOf}
 
 module _ (room : ℕ) where
+  card-verb : (v : List ℕ) (ts : List (List ℕ)) → Fit room (cardVerb v ts)
+  card-verb v ts = fit-cond room (sameBytes v (bytes "card")) (either-way (Fit room) (λ b. record { sizes = tt }) (record { sizes = tt }) ts) (record { sizes = tt })
+
   sender-verb : (v : List ℕ) (ts : List (List ℕ)) → Fit room (senderVerb v ts)
-  sender-verb v ts = fit-cond room (sameBytes v (bytes "sender")) (fit-sender room ts) (record { sizes = tt })
+  sender-verb v ts = fit-cond room (sameBytes v (bytes "sender")) (fit-sender room ts) (card-verb v ts)
 
   receiver-verb : (v : List ℕ) (ts : List (List ℕ)) → Fit room (receiverVerb v ts)
   receiver-verb v ts = fit-cond room (sameBytes v (bytes "receiver")) (fit-receiver room ts) (sender-verb v ts)

@@ -5,11 +5,13 @@
 //     sender U                  receiver U                  piece CAP C C C C ..      sample HEX HEX
 //     send W CAP                receiver U WINDOW free      finish CAP                pending
 //     list CAP W W ..           receiver U WINDOW at S      marked CAP MARKS C ..     sample missing
+//     card MAP U N ..
 //
 // ` square` at the end of `sender U` and of every `receiver ..` names the square map. An empty line, and one that starts with `#`, asks for
 // nothing. Any other line is unread. `read` gives the request of every
 // line, and specs/Request.antt says which it is. The verbs are tried one after the other, each in a file of its own that hands on
 // to the next; what the tokens after a verb ask for is the crate `requests`.
+mod card;
 mod finish;
 mod list;
 mod marked;

@@ -1,5 +1,5 @@
-// Whether the verb is `sender`; if not, it is none of the protocol's: a verb more is tried after this one. The tokens after it are
-// read by `requests`.
+// Whether the verb is `sender`; if not, it is handed on to the next. The tokens after it are read by `requests`.
+use crate::card;
 use requests::Request;
 use text::token;
 ghost use mathlib.Core.Path.{_≡_};
@@ -12,5 +12,5 @@ pub fn tried(word: &[u8], rest: &[u8]) -> Request
     if token::same(word, b"sender") {
         return requests::sender::read(rest);
     }
-    Request::Unread
+    card::tried(word, rest)
 }

@@ -199,6 +199,7 @@ Sizes room (request.Sample x y) = Unit {0}
 Sizes room request.Pending = Unit {0}
 Sizes room request.Missing = Unit {0}
 Sizes room (request.Marked c k n) = (c ≤ 4096) × (k ≤ 1024) × (n ≤ room)
+Sizes room (request.Card b) = Unit {0}
 
 pub record Fit (room : ℕ) (r : Request) : Type 0 where
   pub sizes : Sizes room r

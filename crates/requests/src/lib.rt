@@ -1,5 +1,6 @@
 // What the tokens after each verb of the laboratory's protocol ask for: a file for each verb, and the requests that they name. The verb
-// `receiver` has a crate of its own, `verb_receiver`, the marks of a piece theirs, `marks`, and the map of an opening its own, `map_names`.
+// `receiver` has a crate of its own, `verb_receiver`, and so has `card`, `verb_card`; the marks of a piece theirs, `marks`, and the map of
+// an opening its own, `map_names`.
 // A number is decimal digits and nothing else, zeros in front allowed; U, W, WINDOW, S and CAP are 0 to 4294967295, and a CAP is
 // 4096 at most. A coordinate C may have one `-` before it and has 32 bits. HEX is eight hexadecimal digits, small or large.
 // Other tokens are unread. specs/Verb.antt says what each verb asks for.
@@ -72,6 +73,10 @@ pub enum Request {
         cap: u32,
         marks: usize,
         count: usize,
+    },
+    // Whether the card of the line is accepted: its lists are looked at while the line is read.
+    Card {
+        accepted: bool,
     },
 }
 

@@ -4,7 +4,7 @@
 // `places::table` and lends it. The contract of `search` is an equation of the result with one definition, so any two
 // results that it allows are equal.
 mod key;
-mod line;
+pub mod line;
 
 use spots::Found;
 use spots::Spot;

@@ -16,7 +16,7 @@ pub enum Whole {
 }
 
 // The worth of a digit, 0 to 15, or 16 for any other byte.
-fn digit(b: u8) -> u64
+pub fn digit(b: u8) -> u64
     ensures { λ r. ⌜ r ≡ digitOf b ⌝ }
 {
     match b {

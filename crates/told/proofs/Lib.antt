@@ -1,3 +1,4 @@
+pub mod Search
 pub mod Telling
 pub mod Cases
 pub mod Speaks

@@ -112,6 +112,12 @@ hear-requires-2 c κs =
     let sizes = sizes-of _ (c .before .before .before .before .asked10 .given .1) (start k .pre .fit) in
     (omega (arith, sizes .0, start k .pre .long .words-long), sizes .0, omega (arith, sizes .1, start k .pre .long .marks-long), sizes .2, start k .pre .room)
 
+enum-known-asked-11 : tie.Need-enum-known-asked-11
+enum-known-asked-11 c = search needs
+
+card-requires : tie.Need-card-requires
+card-requires c κs = search needs
+
 returns : tie.Need-returns
 unfolding acting
 returns c =
@@ -259,6 +265,15 @@ returns-14 c =
     let k = c .before .before .before .before .before .before .before .before .before .before .before in
     acts (start k .args .desk) (lists k) (c .before .before .before .before .before .before .before .before .before .asked10 .given .1) (c .before .before .before .before .hear2 .ensures)
 
+same-length-22 : tie.Need-same-length-22
+same-length-22 c = search needs
+
+returns-15 : tie.Need-returns-15
+unfolding acting
+returns-15 c =
+    let k = c .before .before .before .before .before .before .before in
+    acts (start k .args .desk) (lists k) (c .before .before .before .before .before .asked11 .given .1) (c .before .before .card .ensures)
+
 pub act-spec : {M : Type 1} → statement M
 act-spec =
     tie.close
@@ -290,6 +305,8 @@ act-spec =
     missing-requires
     enum-known-asked-10
     hear-requires-2
+    enum-known-asked-11
+    card-requires
     returns
     same-length
     returns-2
@@ -324,4 +341,6 @@ act-spec =
     same-length-19
     same-length-20
     same-length-21
-    returns-14)
+    returns-14
+    same-length-22
+    returns-15)

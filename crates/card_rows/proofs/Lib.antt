@@ -1,0 +1,3 @@
+-- for callers
+pub mod Meant
+pub mod Every

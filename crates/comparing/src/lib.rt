@@ -159,7 +159,8 @@ fn read_form(r: Reading, chunk: &mut [u8]) -> Reading
 
 // The first reading of a file, to its end or its malformed place. A proved loop has to end, and nothing says that a file does: the turns are
 // counted down from a number that no run uses up.
-fn form_of(fd: i32, chunk: &mut [u8]) -> Shape {
+fn form_of(fd: i32) -> Shape {
+    let mut chunk = [0u8; 65536];
     let mut now = Reading {
         side: fresh(fd),
         phase: Phase::Start,
@@ -169,7 +170,7 @@ fn form_of(fd: i32, chunk: &mut [u8]) -> Shape {
     };
     let mut turns = u64::MAX;
     while turns > 0 && now.on {
-        now = read_form(now, chunk);
+        now = read_form(now, &mut chunk);
         turns -= 1;
     }
     let side = now.side;
@@ -344,9 +345,10 @@ fn turn(b: Both, one: &mut [u8], two: &mut [u8], page: &mut [u8]) -> Both
 }
 
 // The second reading: both files side by side.
-fn side_by_side(first: i32, second: i32, one: &mut [u8], two: &mut [u8], page: &mut [u8])
-    requires { ⌜ 40 ≤ length (now page) ⌝ }
-{
+fn side_by_side(first: i32, second: i32) {
+    let mut one = [0u8; 65536];
+    let mut two = [0u8; 65536];
+    let mut page = [0u8; 65536];
     let mut now = Both {
         pass: compared::start(),
         first: fresh(first),
@@ -359,7 +361,7 @@ fn side_by_side(first: i32, second: i32, one: &mut [u8], two: &mut [u8], page: &
     };
     let mut turns = u64::MAX;
     while turns > 0 && now.out.on {
-        now = turn(now, one, two, page);
+        now = turn(now, &mut one, &mut two, &mut page);
         turns -= 1;
     }
 }
@@ -374,8 +376,8 @@ fn rewind(fd: i32) -> bool {
 }
 
 // What a file is, with the file rewound; a failure is told.
-fn shape_of(fd: i32, chunk: &mut [u8]) -> Shape {
-    let shape = form_of(fd, chunk);
+fn shape_of(fd: i32) -> Shape {
+    let shape = form_of(fd);
     if is_unread(shape) {
         os::fail(b"capture: read");
         return shape;
@@ -386,41 +388,34 @@ fn shape_of(fd: i32, chunk: &mut [u8]) -> Shape {
     shape
 }
 
+// The only line.
+fn say_alone(line: Line) {
+    let mut page = [0u8; 40];
+    say(0, line, true, &mut page);
+}
+
 // `first malformed P`, `second malformed P`, or the second reading.
-fn judged(
-    a: Shape,
-    b: Shape,
-    first: i32,
-    second: i32,
-    one: &mut [u8],
-    two: &mut [u8],
-    page: &mut [u8],
-)
-    requires { ⌜ 40 ≤ length (now page) ⌝ }
-{
+fn judged(a: Shape, b: Shape, first: i32, second: i32) {
     if let Shape::Malformed(p) = a {
-        say(0, Line::FirstMalformed(p), true, page);
+        say_alone(Line::FirstMalformed(p));
         return;
     }
     if let Shape::Malformed(p) = b {
-        say(0, Line::SecondMalformed(p), true, page);
+        say_alone(Line::SecondMalformed(p));
         return;
     }
-    side_by_side(first, second, one, two, page);
+    side_by_side(first, second);
 }
 
 // Compares the captures behind two descriptors. Nothing is printed before both are read for their form and rewound.
 pub fn run(first: i32, second: i32) {
-    let mut one = [0u8; 65536];
-    let mut two = [0u8; 65536];
-    let mut page = [0u8; 65536];
-    let a = shape_of(first, &mut one);
+    let a = shape_of(first);
     if is_unread(a) {
         return;
     }
-    let b = shape_of(second, &mut two);
+    let b = shape_of(second);
     if is_unread(b) {
         return;
     }
-    judged(a, b, first, second, &mut one, &mut two, &mut page);
+    judged(a, b, first, second);
 }

@@ -1,3 +1,2 @@
-pub mod Gathering
 pub mod Named
 pub mod Settled

@@ -46,13 +46,14 @@ use Rattle.desk.specs.declared.Desk.{Desk}
 use Rattle.desk.specs.declared.Done.{Done}
 use Rattle.desk.specs.Room.{Long}
 use Rattle.lines.specs.declared.Lab.{Lab}
-use Rattle.lines.specs.declared.Part.{Part}
+use Rattle.line_so_far.specs.declared.Part.{Part}
+use Rattle.line_so_far.specs.Part.{Gathered, noPart}
 use Rattle.answers.specs.Answer.{unreadLine}
 use Rattle.told.specs.Piece as told
 use Rattle.receiver.specs.Doors.{hearing}
 use Rattle.sender.specs.SendList.{sendingList}
 use Rattle.desk.specs.Desk.{Result, says, lent, listGives, ranGives, acting, Does}
-use Rattle.lines.specs.Line.{Gathered, noPart, written, namedIn, namedBy, answering, Replies}
+use Rattle.lines.specs.Line.{written, namedIn, namedBy, answering, Replies}
 use Rattle.phrases.proofs.Phrases.{puts-as}
 
 -- ---- what a line names

@@ -1,19 +1,16 @@
--- Lines: the line so far, gathered from chunks of the input, and what a whole line does. Definitions only.
---   Gathered line part s   the buffer `line` and the record `part` stand for the bytes s since the last newline: all of them at the
---                          start of the buffer, or only that they are too many
---   noPart                 no bytes so far
+-- Lines: what a whole line does. Definitions only; the line so far is that of line_so_far/specs/Part.
 --   after s                how many tokens stand before the numbers that a line names: its verb and its cap, and the marks of a marked piece
 --   namedBy s              what a line names: its coordinates, its words, and the marks
 --   answering most d s     what the line s does to the desk d: "A line has at most 65,536 bytes before its newline; a longer one answers
 --                          `?` once (a comment too)"; most is as many as the buffer has
 --   Replies g ..           what was done is g: its desk, and its text put into the page; no bytes of the next line are there yet
-use Prim.Native.Nat.{ℕ, _<_}
+use Prim.Native.Nat.{ℕ}
 use mathlib.Core.Path.{_≡_}
-use mathlib.Core.Bool.{true, false, cond}
+use mathlib.Core.Bool.{cond}
 use mathlib.Core.List.{List, [], _∷_}
 use lib.Dec.{ltb}
 use mathlib.Core.Option.{Option, none, some}
-use lib.ListN.{length, getD, take, drop}
+use lib.ListN.{length, getD, drop}
 use Rattle.text.specs.Bytes.{bytes}
 use Rattle.text.specs.Token.{tokens, sameBytes}
 use Rattle.wholes.specs.Many.{wholeIn, numberIn, firstOf}
@@ -23,16 +20,9 @@ use Rattle.requests.specs.Named.{Named, named}
 use Rattle.protocol.specs.Request.{requestOf}
 use Rattle.desk.specs.declared.Desk.{Desk}
 use Rattle.lines.specs.declared.Lab.{Lab}
-use Rattle.lines.specs.declared.Part.{Part}
+use Rattle.line_so_far.specs.Part.{noPart}
 use Rattle.answers.specs.Answer.{unreadLine}
 use Rattle.desk.specs.Desk.{Result, says, acting}
-
-pub record Gathered (line : List ℕ) (part : Part) (s : List ℕ) : Type 0 where
-  pub too-long : part .long ≡ true → length line < length s
-  pub kept : part .long ≡ false → take (part .held) line ≡ s
-
-abbrev pub noPart : Part
-noPart = record { held = 0; long = false }
 
 abbrev pub after : List (List ℕ) → ℕ
 after [] = 2

@@ -1,21 +1,17 @@
-// Lines: the line so far, gathered from the pieces in which the input comes, and the answer to a line that has come to its end.
+// Lines: the answer to a line that has come to its end. The line so far is `line_so_far`'s.
 // What a line asks for is `protocol`'s, what it does is the `desk`'s; specs/Line.antt puts the two together.
 use desk::Desk;
 use desk::Done;
+use line_so_far::Part;
 ghost use mathlib.Core.Path.{_≡_};
-ghost use mathlib.Core.List.{List, _++_};
+ghost use mathlib.Core.List.{List};
 ghost use Prim.Native.Nat.{ℕ, _+_, _≤_};
 ghost use lib.ListN.{length};
 ghost use Rattle.answers.specs.Answer.{answerRoom};
 ghost use Rattle.protocol.specs.Request.{requestOf};
 ghost use Rattle.desk.specs.Desk.{Acts};
-ghost use Rattle.lines.specs.Line.{Gathered, noPart, namedBy, answering, Replies};
-
-// The line so far: how many bytes of it are in the buffer, or that it is too long and is skipped.
-pub struct Part {
-    pub held: usize,
-    pub long: bool,
-}
+ghost use Rattle.line_so_far.specs.Part.{Gathered};
+ghost use Rattle.lines.specs.Line.{namedBy, answering, Replies};
 
 // The desk, the line so far, how much of the page is filled, and whether the input is to be read on.
 pub struct Lab {
@@ -23,37 +19,6 @@ pub struct Lab {
     pub part: Part,
     pub at: usize,
     pub on: bool,
-}
-
-// The line so far with some bytes more. One byte too many, and it stays too long to its end.
-pub fn gather(part: Part, line: &mut [u8], bytes: &[u8]) -> Part
-    requires { ⌜ part .held ≤ length (now line) ⌝ }
-    ensures { λ r. ⌜ r .held ≤ length (now (line .entry)) ⌝ }
-    ensures { λ r. ⌜ ((s : List ℕ) → Gathered (now (line .entry)) part s → Gathered (now (line .exit)) r (s ++ now (bytes .entry))) ⌝ }
-{
-    if part.long {
-        return part;
-    }
-    let held = part.held;
-    if line.len() - held < bytes.len() {
-        return Part {
-            held: 0,
-            long: true,
-        };
-    }
-    Part {
-        held: page::put_text(line, held, bytes),
-        long: false,
-    }
-}
-
-pub fn fresh() -> Part
-    ensures { λ r. ⌜ (r .held ≡ 0) × (r ≡ noPart) ⌝ }
-{
-    Part {
-        held: 0,
-        long: false,
-    }
 }
 
 // What a line within its buffer asks for, done. The lists that it is read into last no longer than the line.
@@ -77,7 +42,7 @@ pub fn reply(lab: Lab, line: &[u8], page: &mut [u8]) -> Lab
     let at = lab.at;
     let desk = lab.desk;
     let part = lab.part;
-    let none = fresh();
+    let none = line_so_far::fresh();
     if part.long {
         return Lab {
             desk,

@@ -1,7 +1,7 @@
 -- How many of the oldest pending symbols the ways into the states before all live ones share: as many as the registers say. Two symbols
 -- read off one slot are one exactly if their subsets are, for a symbol has its subset in its bits.
 --   subset-of     a symbol's subset
---   agreed-most   the count
+--   agreed-most   the count; agreed-few, no more than is pending
 use mathlib.Core.Path.{_≡_, sym, ap, _∙_}
 use mathlib.Core.Bool.{Bool}
 use mathlib.Core.List.{List}
@@ -15,9 +15,12 @@ use Rattle.trellis.specs.Invariant.{Shares, Agreed}
 use Rattle.wei.specs.State.{subsetOf}
 use Rattle.wei.specs.Symbol.{Symbol}
 use Rattle.wei.proofs.Finite.{equal1}
+use Rattle.nearest.specs.declared.Received.{Received}
+use Rattle.trellis.specs.Measure.{Two}
 use Rattle.machine.specs.declared.Core.{Core}
+use Rattle.machine.specs.declared.Receiver.{Receiver}
 use Rattle.picks.specs.Picks.{symbolBy, symbolIn}
-use Rattle.machine.specs.Machine.{slotOf, ageOf, pendingAt, wayFrom}
+use Rattle.machine.specs.Machine.{slotOf, ageOf, pendingAt, wayFrom, nextSteps, agreedOf}
 use Rattle.machine.proofs.Way.{way-same, same-way}
 
 bits : (k : ℕ) → k < 8 → subsetOf (k / 4 % 2) (k / 2 % 2) (k % 2) ≡ k
@@ -69,3 +72,8 @@ module _ (c : Core) (planes picks steps : List ℕ) (live : ℕ → Bool) (from 
 
   pub agreed-most : Agreed 16 live (λ s. wayFrom c planes picks (from s)) (c .pending) (oldest (sameAt planes steps) (c .pending))
   agreed-most = record { few = oldest-le (sameAt planes steps) n; shared = shared; most = most }
+
+-- no more is agreed than is pending
+pub agreed-few : (rx : Receiver) (y : Two Received) → agreedOf rx y ≤ rx .core .pending
+unfolding agreedOf
+agreed-few rx y = oldest-le (sameAt (rx .planes) (nextSteps rx y)) (rx .core .pending)

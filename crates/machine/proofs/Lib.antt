@@ -1,6 +1,5 @@
 -- the code is the machine
 pub mod CodeWords
-pub mod CodeTaken
 -- the joins
 pub mod Trellis
 pub mod Arrivals

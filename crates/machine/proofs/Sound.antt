@@ -24,7 +24,7 @@ use Rattle.sums.proofs.UpTo.{and-both, up-to-all, all-up-to}
 use Rattle.select.specs.Select.{limit}
 use Rattle.picks.specs.Picks.{symbolBy}
 use Rattle.machine.specs.Machine.{newSums, soundCore, sound, pendingAt, wayFrom, keptOf, agreedOf, releasedOf, grown}
-use Rattle.machine.specs.Taken.{CoreFits, SumsFit, Ready}
+use Rattle.machine.specs.Parts.{CoreFits, SumsFit, Ready}
 use Rattle.machine.proofs.Bounds.{lowered-most}
 
 -- ---- what the test says

@@ -42,8 +42,9 @@ use Rattle.requests.specs.Named.{Named}
 use Rattle.requests.specs.Verb.{Fit}
 use Rattle.protocol.specs.Request.{requestOf}
 use Rattle.desk.specs.Room.{Long}
-use Rattle.lines.specs.declared.Part.{Part}
-use Rattle.lines.specs.Line.{Gathered, namedBy}
+use Rattle.line_so_far.specs.declared.Part.{Part}
+use Rattle.line_so_far.specs.Part.{Gathered}
+use Rattle.lines.specs.Line.{namedBy}
 use Rattle.lines.proofs.Named.{cut}
 use Rattle.noting.specs.declared.Noted.{Noted}
 use Rattle.noting.specs.Note.{Note, stays, opens, taped, startNumber, noting, notingLine, Notes}

@@ -1,7 +1,7 @@
 // A line of a recording: what it does to the receiver, the records that it leaves at the front of lent bytes, and its answer at the front
 // of a lent page. Lines are read by `protocol`, the calls are those of `recorder`, the answers those of `answers`; specs/Note has what is
 // written.
-use lines::Part;
+use line_so_far::Part;
 use machine::Receiver;
 use points::Accord;
 use recorder::Taped;
@@ -17,7 +17,8 @@ ghost use Rattle.recorder.specs.Doors.{tapedHearing, tapedFinishing};
 ghost use Rattle.requests.specs.Named.{named};
 ghost use Rattle.answers.specs.Answer.{unreadLine};
 ghost use Rattle.protocol.specs.Request.{requestOf};
-ghost use Rattle.lines.specs.Line.{Gathered, namedBy};
+ghost use Rattle.line_so_far.specs.Part.{Gathered};
+ghost use Rattle.lines.specs.Line.{namedBy};
 ghost use Rattle.noting.specs.Note.{startNumber, stays, opens, taped, noting, notingLine, Notes};
 ghost use Rattle.noting.specs.Room.{pageRoom, Ready};
 

@@ -15,7 +15,7 @@ use Rattle.trellis.specs.Measure.{Two}
 use Rattle.nearest.specs.declared.Received.{Received}
 use Rattle.machine.specs.declared.Core.{Core}
 use Rattle.machine.specs.declared.Receiver.{Receiver}
-use Rattle.machine.specs.declared.Took.{Took}
+use Rattle.one_symbol.specs.declared.Took.{Took}
 use Rattle.reasons.specs.declared.Why.{Why}
 use Rattle.reasons.specs.declared.Why.the-variants.{Done}
 use Rattle.machine.specs.Machine.{Outcome, sound}
@@ -24,7 +24,8 @@ use Rattle.told.specs.Piece.{symbolsWith}
 use Rattle.pieces.specs.Running.{symbolAt, Ran, running}
 use Rattle.inputs.specs.Looks.{symbolIn}
 use Rattle.pieces.specs.Lent.{RunsLent}
-use Rattle.machine.specs.Taken.{whole, TookIs}
+use Rattle.machine.specs.Parts.{whole}
+use Rattle.one_symbol.specs.Taken.{TookIs}
 use Rattle.inputs.proofs.Marks.{mark-from, later-from}
 use Rattle.pieces.proofs.Kept.{symbol-refused, symbol-sound, symbol-accord}
 use Rattle.reasons.proofs.Apart.{done-given}

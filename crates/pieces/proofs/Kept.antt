@@ -16,10 +16,11 @@ use Rattle.nearest.specs.declared.Received.{Received}
 use Rattle.nearest.specs.Line.{BothInRange}
 use Rattle.machine.specs.declared.Core.{Core}
 use Rattle.machine.specs.declared.Receiver.{Receiver}
-use Rattle.machine.specs.declared.Took.{Took}
+use Rattle.one_symbol.specs.declared.Took.{Took}
 use Rattle.reasons.specs.declared.Why.the-variants.{BadSample}
 use Rattle.machine.specs.Machine.{Outcome, taking, agreedOf, keptOf, grown, sound}
-use Rattle.machine.specs.Taken.{whole, TookIs}
+use Rattle.machine.specs.Parts.{whole}
+use Rattle.one_symbol.specs.Taken.{TookIs}
 use Rattle.reasons.specs.Reason.{isDone}
 use Rattle.told.specs.Told.{faultOf}
 use Rattle.machine.proofs.Sound.{grown-sound}

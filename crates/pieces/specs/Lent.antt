@@ -4,7 +4,7 @@ use Prim.Native.Nat.{ℕ}
 use mathlib.Core.Path.{_≡_}
 use mathlib.Core.List.{List}
 use lib.ListN.{length}
-use Rattle.machine.specs.Taken.{whole}
+use Rattle.machine.specs.Parts.{whole}
 use Rattle.reasons.specs.Reason.{givenOf}
 use Rattle.pieces.specs.declared.Heard.{Heard}
 use Rattle.pieces.specs.Running.{Ran, Written}

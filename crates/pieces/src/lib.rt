@@ -1,10 +1,10 @@
 // The symbols of a piece, heard by a receiver in its parts, whose arrays are lent: one symbol, and one after another up to the first that is
 // refused. A piece may come with marks, a number for each symbol that says which of its points are missing. The crate leans on `inputs`, which
-// has the symbol and its first fault, and on the machine, which takes a symbol that is in range; the doors of `receiver` test a record and
+// has the symbol and its first fault, and on `one_symbol`, which takes a symbol that is in range; the doors of `receiver` test a record and
 // whether a piece fits before they come here.
 use machine::Core;
-use machine::Took;
 use nearest::Chart;
+use one_symbol::Took;
 use reasons::Why;
 ghost use mathlib.Core.Path.{_≡_};
 ghost use mathlib.Core.Bool.{true};
@@ -13,7 +13,8 @@ ghost use Prim.Native.Nat.{_+_, _%_, _≤_};
 ghost use lib.ListN.{length};
 ghost use Rattle.nearest.specs.Found.{chartOf};
 ghost use Rattle.machine.specs.Machine.{sound};
-ghost use Rattle.machine.specs.Taken.{whole, TookIs};
+ghost use Rattle.machine.specs.Parts.{whole};
+ghost use Rattle.one_symbol.specs.Taken.{TookIs};
 ghost use Rattle.told.specs.Piece.{symbolsWith, marksOf};
 ghost use Rattle.inputs.specs.Looks.{symbolIn};
 ghost use Rattle.pieces.specs.Running.{symbolAt, running};
@@ -47,7 +48,7 @@ fn symbol(
     }
     let first = y.first;
     let second = y.second;
-    machine::take_symbol(t, core, sums, planes, picks, first, second, out)
+    one_symbol::take_symbol(t, core, sums, planes, picks, first, second, out)
 }
 
 // How a piece went, where the receiver's arrays are lent: the numbers of the receiver after it stand beside the answer.

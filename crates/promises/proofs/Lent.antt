@@ -1,4 +1,4 @@
--- A receiver may be kept in its parts, its lists lent to each call (`receiver::hear_lent`). Such a call is a call of a talk, so all that the
+-- A receiver may be kept in its parts, its lists lent to each call (`receiver::hear_piece_lent`). Such a call is a call of a talk, so all that the
 -- demands say of a talk holds of receivers kept so; the picks lent have to be the 72 that a receiver has.
 --   lent   a talk goes on by a piece heard in parts
 use Prim.Native.Nat.{ℕ}

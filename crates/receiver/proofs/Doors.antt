@@ -1,7 +1,7 @@
 -- What the doors owe: from what the machine does to a record, what the promises say for whatever the receiver has been told.
 --   hears      a result that is the machine's keeps the promise of `hear`
 --   finishes   and that of `finish`
---   lent-live, lent-none, lent-all, hears-lent   whether lent parts are live, and the promise of `hear` from that of `hear_lent`
+--   lent-live, lent-none, lent-all, hears-lent   whether lent parts are live, and the promise of `hear` from that of `hear_piece_lent`
 use mathlib.Core.Path.{_≡_, refl, sym, ap, ap₂, subst, _∙_}
 use mathlib.Core.Bool.{Bool, true, false, cond, _&&_}
 use mathlib.Core.List.{List, [], _++_}
@@ -17,7 +17,7 @@ use Rattle.machine.specs.declared.Core.{Core}
 use Rattle.machine.specs.declared.Receiver.{Receiver}
 use Rattle.reasons.specs.declared.Why.the-variants.{Done, NoRoom, Closed, Uneven}
 use Rattle.machine.specs.Machine.{shut, lastWords, sound, wayFrom, machineOf}
-use Rattle.machine.specs.Taken.{whole}
+use Rattle.machine.specs.Parts.{whole}
 use Rattle.sums.specs.Sums.{endOf}
 use Rattle.sums.proofs.UpTo.{and-both}
 use Rattle.told.specs.Told.{Told, speakerOf, Fine, withHeard}

@@ -81,23 +81,6 @@ pub fn hear_piece_lent(
     pieces::hear_symbols(core, marked, marks, samples, sums, planes, picks, out)
 }
 
-// The same of a piece without marks.
-pub fn hear_lent(
-    live: bool,
-    core: Core,
-    samples: &[i32],
-    sums: &mut [u32; 16],
-    planes: &mut [u64; 48],
-    picks: &mut [u64],
-    out: &mut [u32],
-) -> Heard
-    ensures { λ r. ⌜ HearsLent live core (now (sums .entry)) (now (planes .entry)) (now (picks .entry)) (pieceOf (now (samples .entry))) (now (out .entry))
-        r (now (sums .exit)) (now (planes .exit)) (now (picks .exit)) (now (out .exit)) ⌝ }
-{
-    let none = [0u8; 0];
-    hear_piece_lent(live, core, false, &none, samples, sums, planes, picks, out)
-}
-
 // A piece to a whole receiver: it is taken apart once, its arrays are lent to each symbol, and it is put together again at the end.
 fn hear_piece(rx: Receiver, marked: bool, marks: &[u8], samples: &[i32], out: &mut [u32]) -> Answer
     ensures { λ r. ⌜ Hears rx (pieceWith marked (now (marks .entry)) (now (samples .entry))) (now (out .entry)) r (now (out .exit)) ⌝ }

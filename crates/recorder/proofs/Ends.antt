@@ -1,7 +1,7 @@
--- The outcomes of `hear_lent`, `hear` and `finish`, one law each.
+-- The outcomes of `hear_piece_lent`, `hear` and `finish`, one law each.
 --   nothing rx w                          an answer that took, wrote and recorded nothing
 --   tape-closed, tape-uneven, tape-parts  a piece: refused as a whole, or its symbols
---   tapes-lent                            the promise of `hear` from that of `hear_lent`
+--   tapes-lent                            the promise of `hear` from that of `hear_piece_lent`
 --   finish-closed, finish-short, finish-refused, finish-written, finish-done   a finish
 use mathlib.Core.Path.{_≡_, refl, sym, ap, subst, _∙_}
 use mathlib.Core.Bool.{Bool, true, false, cond}
@@ -14,7 +14,7 @@ use lib.ListN.{length, take, drop}
 use lib.Seq.{take-append-seam}
 use Rattle.machine.specs.declared.Receiver.{Receiver}
 use Rattle.machine.specs.Machine.{shut, lastWords, sound}
-use Rattle.machine.specs.Taken.{whole}
+use Rattle.machine.specs.Parts.{whole}
 use Rattle.machine.proofs.Finish.{last-many}
 use Rattle.machine.proofs.Sound.{sound-live}
 use Rattle.reasons.specs.declared.Why.{Why}

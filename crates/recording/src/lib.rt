@@ -3,7 +3,7 @@
 use libc::STDERR_FILENO;
 use libc::STDIN_FILENO;
 use libc::STDOUT_FILENO;
-use lines::Part;
+use line_so_far::Part;
 use machine::Receiver;
 use noting::Noted;
 use text::token;
@@ -57,7 +57,7 @@ fn end_line(t: Turn, line: &[u8], bytes: &mut [u8], page: &mut [u8]) -> Turn
     Turn {
         receiver: after,
         begun: n.begun,
-        part: lines::fresh(),
+        part: line_so_far::fresh(),
         on,
     }
 }
@@ -76,7 +76,7 @@ fn hear_chunk(t: Turn, chunk: &[u8], line: &mut [u8]) -> Turn
         let n = token::before(&chunk[from..], b'\n');
         let end = from + n;
         let part = now.part;
-        let grown = lines::gather(part, line, &chunk[from..end]);
+        let grown = line_so_far::gather(part, line, &chunk[from..end]);
         now.part = grown;
         if end == chunk.len() {
             return now;
@@ -130,7 +130,7 @@ pub fn run() {
     let mut now = Turn {
         receiver: openings::closed_receiver(),
         begun: false,
-        part: lines::fresh(),
+        part: line_so_far::fresh(),
         on: true,
     };
     let mut turns = u64::MAX;

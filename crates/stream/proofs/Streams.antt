@@ -14,12 +14,13 @@ use Rattle.text.specs.Token.{lengthBefore, Cuts}
 use Rattle.text.proofs.Digits.{to-end}
 use Rattle.desk.specs.declared.Desk.{Desk}
 use Rattle.lines.specs.declared.Lab.{Lab}
-use Rattle.lines.specs.declared.Part.{Part}
+use Rattle.line_so_far.specs.declared.Part.{Part}
 use Rattle.desk.specs.Desk.{Result, closedDesk}
-use Rattle.lines.specs.Line.{Gathered, noPart, answering, Replies}
+use Rattle.line_so_far.specs.Part.{Gathered, noPart}
+use Rattle.lines.specs.Line.{answering, Replies}
 use Rattle.stream.specs.declared.Turn.{Turn}
 use Rattle.stream.specs.Stream.{Course, grown, ended, streaming, lastLine, Holds, Stands, heard, turned, Handed, bytesOf, textOf, Follow}
-use Rattle.lines.proofs.Gathering.{none-gathered}
+use Rattle.line_so_far.proofs.Gathering.{none-gathered}
 
 -- ---- bytes
 

@@ -28,7 +28,8 @@ use lib.ListN.{length, take, drop}
 use Rattle.io.specs.Counts.{clamped}
 use Rattle.desk.specs.declared.Desk.{Desk}
 use Rattle.lines.specs.declared.Lab.{Lab}
-use Rattle.lines.specs.Line.{Gathered, answering}
+use Rattle.line_so_far.specs.Part.{Gathered}
+use Rattle.lines.specs.Line.{answering}
 use Rattle.stream.specs.declared.Turn.{Turn}
 
 pub record Course : Type 0 where

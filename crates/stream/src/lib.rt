@@ -1,5 +1,5 @@
 // Lines from standard input, answers to standard output. Input comes in chunks, and a line may go on from one chunk to the next,
-// so the crate `lines` gathers it. Answers are gathered in a page. A turn hears what was read, or as much of it as fills the page well,
+// so `line_so_far` gathers it. Answers are gathered in a page. A turn hears what was read, or as much of it as fills the page well,
 // and hands the page to `write`: a person at a terminal sees each answer at once, and a file of many lines costs few writes.
 use libc::STDIN_FILENO;
 use libc::STDOUT_FILENO;
@@ -58,7 +58,7 @@ fn hear_chunk(lab: Lab, chunk: &[u8], line: &mut [u8], page: &mut [u8]) -> Heard
         let n = token::before(&chunk[from..], b'\n');
         let end = from + n;
         let part = now.part;
-        let grown = lines::gather(part, line, &chunk[from..end]);
+        let grown = line_so_far::gather(part, line, &chunk[from..end]);
         now.part = grown;
         if end == chunk.len() {
             return Heard {
@@ -161,7 +161,7 @@ pub fn serve(chunk: &mut [u8], line: &mut [u8], page: &mut [u8])
 {
     let lab = Lab {
         desk: desk::closed(),
-        part: lines::fresh(),
+        part: line_so_far::fresh(),
         at: 0,
         on: true,
     };

@@ -18,7 +18,7 @@ use Rattle.nearest.specs.declared.Received.{Received}
 use Rattle.machine.specs.declared.Core.{Core}
 use Rattle.machine.specs.declared.Receiver.{Receiver}
 use Rattle.machine.specs.Machine.{Outcome, sound}
-use Rattle.machine.specs.Taken.{whole}
+use Rattle.machine.specs.Parts.{whole}
 use Rattle.reasons.specs.declared.Why.{Why}
 use Rattle.reasons.specs.declared.Why.the-variants.{Done}
 use Rattle.reasons.specs.Reason.{reason, givenOf, isDone}

@@ -18,7 +18,7 @@ use Rattle.nearest.specs.declared.Received.{Received}
 use Rattle.select.specs.Select.{prevIn}
 use Rattle.machine.specs.declared.Receiver.{Receiver}
 use Rattle.machine.specs.Machine.{Outcome, refused, taking, nextSteps, wayFrom, agreedOf, keptOf, releasedOf, grown}
-use Rattle.machine.proofs.CodeTaken.{agreed-few}
+use Rattle.machine.proofs.Agree.{agreed-few}
 use Rattle.machine.proofs.Way.{way-length}
 use Rattle.reasons.specs.declared.Why.{Why}
 use Rattle.reasons.specs.declared.Why.the-variants.{Done, BadSample, Full, NoRoom}

@@ -12,7 +12,7 @@ use Rattle.trellis.specs.Measure.{Two}
 use Rattle.nearest.specs.declared.Received.{Received}
 use Rattle.machine.specs.declared.Receiver.{Receiver}
 use Rattle.machine.specs.Machine.{Outcome, refused}
-use Rattle.machine.specs.Taken.{whole}
+use Rattle.machine.specs.Parts.{whole}
 use Rattle.reasons.specs.declared.Why.{Why}
 use Rattle.reasons.specs.Reason.{givenOf, isDone}
 use Rattle.pieces.specs.Running.{Written}

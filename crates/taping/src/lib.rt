@@ -13,7 +13,7 @@ ghost use mathlib.Core.List.{[]};
 ghost use Prim.Native.Nat.{_/_, _%_, min};
 ghost use lib.ListN.{length};
 ghost use Rattle.machine.specs.Machine.{sound};
-ghost use Rattle.machine.specs.Taken.{whole};
+ghost use Rattle.machine.specs.Parts.{whole};
 ghost use Rattle.told.specs.Piece.{symbolsWith, marksOf};
 ghost use Rattle.tape.specs.Front.{symbolIn};
 ghost use Rattle.taping.specs.Taping.{taping};

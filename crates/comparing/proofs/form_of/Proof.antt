@@ -1,6 +1,6 @@
 -- `form_of`: what waits lies in the chunk.
 use Prim.Native.Nat.{_≤_}
-use mathlib.Core.Path.{_≡_, refl}
+use mathlib.Core.Path.{_≡_}
 use native.Mathlib.Omega.{arith}
 use borrow.Author.Needs.{needs}
 use lib.ListN.{length}
@@ -8,7 +8,7 @@ use Rattle.comparing.proofs.form_of.Statement.{statement}
 use Rattle.comparing.proofs.form_of.Tie as tie
 
 abbrev Inv-loop : tie.InvT-loop
-Inv-loop fd chunk₀ now₀ turns₀ chunk now turns = (now .side .from ≤ now .side .to) × (now .side .to ≤ length chunk) × (length chunk ≡ length chunk₀)
+Inv-loop fd chunk₀ now₀ turns₀ chunk now turns = (now .side .from ≤ now .side .to) × (now .side .to ≤ 65536) × (length chunk ≡ 65536)
 
 abbrev μ-loop : tie.MeasureT-loop
 μ-loop fd chunk₀ now₀ turns₀ chunk now turns = turns
@@ -17,7 +17,10 @@ fresh-requires : tie.Need-fresh-requires Inv-loop μ-loop
 fresh-requires c κs = search needs
 
 loop-holds : tie.Need-loop-holds Inv-loop μ-loop
-loop-holds c = (omega arith, omega arith, refl)
+loop-holds c = (omega arith, omega arith, search needs)
+
+slice-aggregate-read-form : tie.Need-slice-aggregate-read-form Inv-loop μ-loop
+slice-aggregate-read-form c = search needs
 
 read-form-requires : tie.Need-read-form-requires Inv-loop μ-loop
 read-form-requires c κs = (omega arith, omega arith)
@@ -31,31 +34,12 @@ loop-less c = search needs
 loop-again : tie.Need-loop-again Inv-loop μ-loop
 loop-again c = (omega arith, omega arith, omega arith)
 
-same-length : tie.Need-same-length Inv-loop μ-loop
-same-length c = omega arith
-
 returns : tie.Need-returns Inv-loop μ-loop
 returns c = search needs
-
-same-length-2 : tie.Need-same-length-2 Inv-loop μ-loop
-same-length-2 c = omega arith
 
 returns-2 : tie.Need-returns-2 Inv-loop μ-loop
 returns-2 c = search needs
 
 pub form-of-spec : {M : Type 1} → statement M
 form-of-spec =
-    tie.close
-    (tie.spec
-    Inv-loop
-    μ-loop
-    fresh-requires
-    loop-holds
-    read-form-requires
-    sub-turns
-    loop-less
-    loop-again
-    same-length
-    returns
-    same-length-2
-    returns-2)
+    tie.close (tie.spec Inv-loop μ-loop fresh-requires loop-holds slice-aggregate-read-form read-form-requires sub-turns loop-less loop-again returns returns-2)

@@ -1,6 +1,6 @@
 -- `side_by_side`: what waits lies in its chunk, and the page has room for a line.
 use Prim.Native.Nat.{_+_, _≤_}
-use mathlib.Core.Path.{_≡_, refl}
+use mathlib.Core.Path.{_≡_}
 use native.Mathlib.Omega.{arith}
 use borrow.Author.Needs.{needs}
 use lib.ListN.{length}
@@ -9,8 +9,8 @@ use Rattle.comparing.proofs.side_by_side.Tie as tie
 
 abbrev Inv-loop : tie.InvT-loop
 Inv-loop first second one₀ two₀ page₀ now₀ turns₀ one two page now turns =
-    ((now .first .from ≤ now .first .to) × (now .first .to ≤ length one) × (now .second .from ≤ now .second .to) × (now .second .to ≤ length two) × (now .out .at + 40 ≤ length page))
-    × ((length one ≡ length one₀) × (length two ≡ length two₀) × (length page ≡ length page₀))
+    ((now .first .from ≤ now .first .to) × (now .first .to ≤ 65536) × (now .second .from ≤ now .second .to) × (now .second .to ≤ 65536) × (now .out .at + 40 ≤ 65536))
+    × ((length one ≡ 65536) × (length two ≡ 65536) × (length page ≡ 65536))
 
 abbrev μ-loop : tie.MeasureT-loop
 μ-loop first second one₀ two₀ page₀ now₀ turns₀ one two page now turns = turns
@@ -25,7 +25,16 @@ fresh-requires-2 : tie.Need-fresh-requires-2 Inv-loop μ-loop
 fresh-requires-2 c κs = search needs
 
 loop-holds : tie.Need-loop-holds Inv-loop μ-loop
-loop-holds c = ((omega arith, omega arith, omega arith, omega arith, omega arith), (refl, refl, refl))
+loop-holds c = ((omega arith, omega arith, omega arith, omega arith, omega arith), (search needs, search needs, search needs))
+
+slice-aggregate-turn : tie.Need-slice-aggregate-turn Inv-loop μ-loop
+slice-aggregate-turn c = search needs
+
+slice-aggregate-turn-2 : tie.Need-slice-aggregate-turn-2 Inv-loop μ-loop
+slice-aggregate-turn-2 c = search needs
+
+slice-aggregate-turn-3 : tie.Need-slice-aggregate-turn-3 Inv-loop μ-loop
+slice-aggregate-turn-3 c = search needs
 
 turn-requires : tie.Need-turn-requires Inv-loop μ-loop
 turn-requires c κs = ((omega arith, omega arith), ((omega arith, omega arith), omega arith))
@@ -39,26 +48,8 @@ loop-less c = search needs
 loop-again : tie.Need-loop-again Inv-loop μ-loop
 loop-again c = ((omega arith, omega arith, omega arith, omega arith, omega arith), (omega arith, omega arith, omega arith))
 
-same-length : tie.Need-same-length Inv-loop μ-loop
-same-length c = omega arith
-
-same-length-2 : tie.Need-same-length-2 Inv-loop μ-loop
-same-length-2 c = omega arith
-
-same-length-3 : tie.Need-same-length-3 Inv-loop μ-loop
-same-length-3 c = omega arith
-
 returns : tie.Need-returns Inv-loop μ-loop
 returns c = search needs
-
-same-length-4 : tie.Need-same-length-4 Inv-loop μ-loop
-same-length-4 c = omega arith
-
-same-length-5 : tie.Need-same-length-5 Inv-loop μ-loop
-same-length-5 c = omega arith
-
-same-length-6 : tie.Need-same-length-6 Inv-loop μ-loop
-same-length-6 c = omega arith
 
 returns-2 : tie.Need-returns-2 Inv-loop μ-loop
 returns-2 c = search needs
@@ -73,15 +64,12 @@ side-by-side-spec =
     fresh-requires
     fresh-requires-2
     loop-holds
+    slice-aggregate-turn
+    slice-aggregate-turn-2
+    slice-aggregate-turn-3
     turn-requires
     sub-turns
     loop-less
     loop-again
-    same-length
-    same-length-2
-    same-length-3
     returns
-    same-length-4
-    same-length-5
-    same-length-6
     returns-2)

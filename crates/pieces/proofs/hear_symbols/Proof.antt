@@ -7,7 +7,7 @@ use borrow.Author.Tests.{not-true, not-false}
 use lib.ListN.{length}
 use Rattle.nearest.specs.Found.{chartOf}
 use Rattle.told.specs.Piece.{marksOf}
-use Rattle.machine.specs.Taken.{whole}
+use Rattle.machine.specs.Parts.{whole}
 use Rattle.pieces.proofs.Going.{Going, start, end, go-on, stop, more-fits, more-length, four-more}
 use Rattle.pieces.proofs.hear_symbols.Statement.{statement}
 use Rattle.pieces.proofs.hear_symbols.Tie as tie

@@ -2,7 +2,7 @@
 use mathlib.Core.Path.{sym, subst}
 use borrow.Author.Needs.{needs}
 use Rattle.nearest.specs.Line.{BothInRange}
-use Rattle.machine.specs.Taken.{whole}
+use Rattle.machine.specs.Parts.{whole}
 use Rattle.machine.proofs.Sound.{sound-ready}
 use Rattle.inputs.specs.Looks.{symbolIn}
 use Rattle.pieces.proofs.Kept.{faulty-took, good-taking, good-took}

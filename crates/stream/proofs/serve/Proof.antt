@@ -4,7 +4,7 @@ use Prim.Native.Nat.{_≤_}
 use mathlib.Core.Path.{_≡_, sym, ap, _∙_}
 use native.Mathlib.Omega.{arith}
 use lib.ListN.{length}
-use Rattle.lines.specs.declared.Part.{Part}
+use Rattle.line_so_far.specs.declared.Part.{Part}
 use Rattle.stream.proofs.Streams.{Served, none-served, served-as, served-on}
 use borrow.Author.Needs.{needs}
 use Rattle.stream.proofs.serve.Statement.{statement}

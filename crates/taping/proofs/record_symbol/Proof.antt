@@ -4,7 +4,7 @@ use native.Mathlib.Omega.{arith}
 use denote.Ref.{now}
 use lib.Seq.{length-take-le}
 use Rattle.machine.specs.declared.Receiver.{Receiver}
-use Rattle.machine.specs.Taken.{whole}
+use Rattle.machine.specs.Parts.{whole}
 use Rattle.taping.proofs.One.{Lends, step-short, step-refused, step-taken, small, space, lent-few, words-many, words-space}
 use borrow.Author.Needs.{needs}
 use Rattle.taping.proofs.record_symbol.Statement.{statement}

@@ -5,7 +5,7 @@ use native.Mathlib.Omega.{arith}
 use borrow.Author.Tests.{not-true, not-false}
 use denote.Ref.{now}
 use lib.ListN.{length}
-use Rattle.machine.specs.Taken.{whole}
+use Rattle.machine.specs.Parts.{whole}
 use Rattle.told.specs.Piece.{marksOf}
 use Rattle.taping.proofs.Going.{Given, Stand, Going, Turn, start, end, go-on, stop, four, four-long, more-fits, more-space, more-length, more-wide}
 use Rattle.taping.proofs.record_symbols.Statement.{statement}

@@ -8,7 +8,7 @@ use denote.Ref.{now}
 use lib.ListN.{length}
 use Rattle.machine.specs.declared.Receiver.{Receiver}
 use Rattle.machine.specs.Machine.{sound}
-use Rattle.machine.specs.Taken.{whole}
+use Rattle.machine.specs.Parts.{whole}
 use Rattle.reasons.specs.declared.Why.the-variants.{NoRoom}
 use Rattle.tape.specs.Front.{symbolIn}
 use Rattle.taping.specs.Lent.{Refuses}

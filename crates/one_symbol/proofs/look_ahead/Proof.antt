@@ -1,10 +1,10 @@
 -- `look_ahead`.
 use native.Mathlib.Omega.{arith}
 use Rattle.nearest.specs.Found.{heardAs}
-use Rattle.machine.proofs.CodeTaken.{summable, looked}
+use Rattle.one_symbol.proofs.CodeTaken.{summable, looked}
 use borrow.Author.Needs.{needs}
-use Rattle.machine.proofs.look_ahead.Statement.{statement}
-use Rattle.machine.proofs.look_ahead.Tie as tie
+use Rattle.one_symbol.proofs.look_ahead.Statement.{statement}
+use Rattle.one_symbol.proofs.look_ahead.Tie as tie
 
 weigh-requires : tie.Need-weigh-requires
 weigh-requires c κs = search needs

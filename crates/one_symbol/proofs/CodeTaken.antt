@@ -1,5 +1,4 @@
 -- One symbol, from what the code's functions give to the machine's outcome: the look ahead, the two refusals and the taking.
---   agreed-few           no more is agreed than is pending
 --   summable             sums and costs add up
 --   looked               what the look ahead puts together
 --   full, short          the refusals 6 and 8
@@ -22,25 +21,21 @@ use Rattle.nearest.specs.Line.{InRange}
 use Rattle.nearest.specs.Found.{heardAs, weighedOf}
 use Rattle.nearest.proofs.Laws.{costs-most}
 use Rattle.select.specs.declared.Selected.{Selected}
 use Rattle.machine.specs.declared.Core.{Core}
 use Rattle.machine.specs.declared.Receiver.{Receiver}
-use Rattle.machine.specs.declared.Outlook.{Outlook}
-use Rattle.machine.specs.declared.Took.{Took}
+use Rattle.one_symbol.specs.declared.Outlook.{Outlook}
+use Rattle.one_symbol.specs.declared.Took.{Took}
 use Rattle.reasons.specs.declared.Why.{Why}
 use Rattle.reasons.specs.declared.Why.the-variants.{Done, Full, NoRoom}
 use Rattle.planes.specs.Planes.{wordsBefore, movedOf, sameAt, oldest}
-use Rattle.planes.proofs.Oldest.{oldest-le}
+use Rattle.machine.proofs.Agree.{agreed-few}
 use Rattle.select.specs.Select.{sixteen, sumAt, lowered, stepAt, prevIn}
 use Rattle.picks.specs.Picks.{numbersOf, keptIn}
 use Rattle.machine.specs.Machine.{nextSums, nextSteps, numbersIn, wayFrom, agreedOf, releasedOf, grown, refused, taking}
-use Rattle.machine.specs.Taken.{Ready, whole, outlookOf, TookIs}
+use Rattle.machine.specs.Parts.{Ready, whole}
+use Rattle.one_symbol.specs.Taken.{outlookOf, TookIs}
 use Rattle.select.specs.Ways.{Summable}
 use Rattle.machine.proofs.Way.{way-length}
-
--- ---- how many are agreed
-pub agreed-few : (rx : Receiver) (y : Two Received) → agreedOf rx y ≤ rx .core .pending
-unfolding agreedOf
-agreed-few rx y = oldest-le (sameAt (rx .planes) (nextSteps rx y)) (rx .core .pending)
 
 -- ---- the look ahead
 pub summable : (core : Core) (sums : List ℕ) (g h : Received) (w : Weighed) → Ready core sums → InRange g → InRange h →

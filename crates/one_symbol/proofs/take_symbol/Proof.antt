@@ -5,9 +5,9 @@ use native.Mathlib.Omega.{arith}
 use borrow.Author.Needs.{needs}
 use Rattle.planes.specs.Planes.{wordsBefore}
 use Rattle.nearest.specs.Found.{heardAs}
-use Rattle.machine.proofs.CodeTaken.{full, short, done, few, ways-are, state-below}
-use Rattle.machine.proofs.take_symbol.Statement.{statement}
-use Rattle.machine.proofs.take_symbol.Tie as tie
+use Rattle.one_symbol.proofs.CodeTaken.{full, short, done, few, ways-are, state-below}
+use Rattle.one_symbol.proofs.take_symbol.Statement.{statement}
+use Rattle.one_symbol.proofs.take_symbol.Tie as tie
 
 look-ahead-requires : tie.Need-look-ahead-requires
 look-ahead-requires c κs = let p = c .before .before .before .before .pre in (p .0, p .1 .0)

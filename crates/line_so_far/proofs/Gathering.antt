@@ -7,8 +7,8 @@ use native.Mathlib.Omega.{arith}
 use lib.ListN.{length, take, drop, length-append, length-take}
 use lib.Seq.{take-at, length-take-le}
 use Rattle.page.specs.Page.{Puts}
-use Rattle.lines.specs.declared.Part.{Part}
-use Rattle.lines.specs.Line.{Gathered}
+use Rattle.line_so_far.specs.declared.Part.{Part}
+use Rattle.line_so_far.specs.Part.{Gathered}
 
 -- a Boolean is not both
 pub clash : {A : Type 0} (b : Bool) → b ≡ true → b ≡ false → A

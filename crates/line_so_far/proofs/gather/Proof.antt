@@ -1,9 +1,9 @@
--- `lines::gather`: by the laws of Gathering.
+-- `line_so_far::gather`: by the laws of Gathering.
 use native.Mathlib.Omega.{arith}
-use Rattle.lines.proofs.Gathering.{stays-long, grows-long, grows}
+use Rattle.line_so_far.proofs.Gathering.{stays-long, grows-long, grows}
 use borrow.Author.Needs.{needs}
-use Rattle.lines.proofs.gather.Statement.{statement}
-use Rattle.lines.proofs.gather.Tie as tie
+use Rattle.line_so_far.proofs.gather.Statement.{statement}
+use Rattle.line_so_far.proofs.gather.Tie as tie
 
 returns : tie.Need-returns
 returns c =

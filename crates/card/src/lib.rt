@@ -96,16 +96,16 @@ fn take_step(
     }
     let first = heard.first;
     let second = heard.second;
-    let chosen = card_symbol::chosen_at(symbols, 6 * i);
-    if !card_symbol::carries(k.u, states[i], states[i + 1], chosen) {
+    let chosen = chosen_symbol::chosen_at(symbols, 6 * i);
+    if !chosen_symbol::carries(k.u, states[i], states[i + 1], chosen) {
         return Step::Fails;
     }
     let weighed = nearest::weigh(chart, k, Received::Heard(first), Received::Heard(second));
     let costs = weighed.costs;
-    if !card_rows::holds(numbers, 16 * i, &costs) {
+    if !claimed_sums::holds(numbers, 16 * i, &costs) {
         return Step::Fails;
     }
-    Step::Counts(card_symbol::far(table, k, first, second, chosen))
+    Step::Counts(chosen_symbol::far(table, k, first, second, chosen))
 }
 
 // All n symbols, one after another, and the end: no number of the last row is below the sum.
@@ -141,7 +141,7 @@ fn follow(
         sum += far as u64;
         i += 1;
     }
-    card_rows::none_below(numbers, 16 * n, sum)
+    claimed_sums::none_below(numbers, 16 * n, sum)
 }
 
 // Whether the card's sequence is accepted.
@@ -167,7 +167,7 @@ pub fn check(
     if !points::is_accord(k) {
         return false;
     }
-    if !card_rows::starts_at_zero(numbers) {
+    if !claimed_sums::starts_at_zero(numbers) {
         return false;
     }
     follow(k, n, coordinates, states, symbols, numbers)

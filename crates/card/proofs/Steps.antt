@@ -20,7 +20,7 @@ use Rattle.trellis.proofs.Branches.{before-in, in-before}
 use Rattle.nearest.specs.Line.{BothInRange}
 use Rattle.nearest.specs.Found.{weighedOf}
 use Rattle.told.proofs.Search.{searchOf, laws, cost-at}
-use Rattle.sums.proofs.UpTo.{and-both}
+use Rattle.lists.proofs.UpTo.{and-both}
 use Rattle.claimed_sums.specs.Rows as rows
 use Rattle.claimed_sums.proofs.Meant.{Held, holds-is, is-held}
 use Rattle.chosen_symbol.specs.Chosen.{carries}

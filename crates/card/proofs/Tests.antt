@@ -10,7 +10,7 @@ use borrow.Author.Tests.{le-leb, leb-true, eq-eqb, eqb-true}
 use lib.Dec.{eqb, leb}
 use lib.IntN.{pos}
 use lib.ListN.{getD}
-use Rattle.sums.proofs.UpTo.{and-both}
+use Rattle.lists.proofs.UpTo.{and-both}
 use Rattle.nearest.specs.Line.{isCoordinate, BothInRange}
 use Rattle.chosen_symbol.proofs.Tests.{joined}
 use Rattle.card.specs.Card.{Card, countOf, heardAt}

@@ -15,7 +15,7 @@ use Rattle.trellis.specs.Code.{last, cost}
 use Rattle.trellis.specs.Measure.{free}
 use Rattle.trellis.proofs.Optimal.{allowed-below}
 use Rattle.told.proofs.Search.{searchOf, laws}
-use Rattle.sums.proofs.UpTo.{and-both}
+use Rattle.lists.proofs.UpTo.{and-both}
 use Rattle.claimed_sums.specs.Every.{everyBelow}
 use Rattle.claimed_sums.specs.Rows.{startsAtZero}
 use Rattle.claimed_sums.proofs.Every.{every-all, all-every}

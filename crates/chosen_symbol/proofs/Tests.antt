@@ -9,7 +9,7 @@ use borrow.Author.Tests.{lt-ltb, ltb-true, eq-eqb, eqb-true}
 use lib.Dec.{eqb, ltb}
 use Rattle.wei.specs.State.{bitW4, nextState}
 use Rattle.wei.specs.Symbol.{Symbol, Valid, Carries}
-use Rattle.sums.proofs.UpTo.{and-both}
+use Rattle.lists.proofs.UpTo.{and-both}
 use Rattle.chosen_symbol.specs.Chosen.{isValid, carries}
 
 pub joined : {a b : Bool} → a ≡ true → b ≡ true → (a && b) ≡ true

@@ -8,7 +8,7 @@ use Prim.Native.Nat.{ℕ, zero, suc, _+_, _<_}
 use native.Mathlib.Decide.{ℕ-discrete}
 use native.Mathlib.Numerals.{add-one}
 use native.Mathlib.Omega.{arith}
-use Rattle.sums.proofs.UpTo.{and-both}
+use Rattle.lists.proofs.UpTo.{and-both}
 use Rattle.claimed_sums.specs.Every.{everyBelow}
 
 module _ (f : ℕ → Bool) where

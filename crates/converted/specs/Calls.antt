@@ -6,13 +6,14 @@
 --   samplesWith ms fs          the samples of a list of floats, with the marks ms; sampleIn ms fs i, one of them
 --   SamplesCall, listCall      a list of samples, and what is told of it: samplesCall without marks, markedCall with a mark for each
 use Prim.Native.Nat.{ℕ, _+_, _*_, _/_, _%_}
-use mathlib.Core.Bool.{Bool, true, cond, _&&_}
+use mathlib.Core.Bool.{Bool, cond, _&&_}
 use mathlib.Core.List.{List, [], _∷_, _++_}
 use mathlib.Core.Option.{Option, none, some}
 use lib.Dec.{eqb, leb, ltb}
 use lib.Ieee.{Float, nan}
 use lib.IntN.{ℤ, pos}
 use lib.ListN.{getD, length, drop}
+use Rattle.lists.specs.UpTo.{allUpTo}
 use Rattle.samples.specs.declared.Sampled.{Sampled}
 use Rattle.samples.specs.declared.Sampled.the-variants.{Heard, Missing}
 use Rattle.samples.specs.Heard.{heardSample}
@@ -86,13 +87,9 @@ listCall fits samples out told =
 unfoldable pub samplesCall : List Float → List ℤ → List ℕ → SamplesCall
 samplesCall floats = listCall (eqb (length floats % 2) 0) (samplesWith [] floats)
 
-abbrev pub allFlags : List ℕ → Bool
-allFlags [] = true
-allFlags (m ∷ ms) = leb m 1 && allFlags ms
-
 -- one mark for each sample, and each is 0 or 1
 abbrev pub marksFit : List ℕ → ℕ → Bool
-marksFit missing n = eqb n (2 * length missing) && allFlags missing
+marksFit missing n = eqb n (2 * length missing) && allUpTo 1 missing
 
 unfoldable pub markedCall : List Float → List ℕ → List ℤ → List ℕ → SamplesCall
 markedCall floats missing = listCall (marksFit missing (length floats)) (samplesWith missing floats)

@@ -11,7 +11,7 @@ ghost use lib.IntN.{pos};
 ghost use lib.ListN.{length, set};
 ghost use Rattle.samples.specs.Sampled.{heardSampled};
 ghost use Rattle.converted.specs.Counts.{toldOf};
-ghost use Rattle.converted.specs.Calls.{sampleCall, samplesWith, sampleIn, converting, listCall, samplesCall, allFlags, marksFit, markedCall};
+ghost use Rattle.converted.specs.Calls.{sampleCall, samplesWith, sampleIn, converting, listCall, samplesCall, marksFit, markedCall};
 ghost use Rattle.converted.specs.Promise.{HeardIs, Samples, ConvertsTo, Converts};
 
 // The first three places of `told`.
@@ -176,20 +176,6 @@ pub fn convert_list(floats: &[f32], out: &mut [i32], told: &mut [u64]) -> u32
     convert_fitting(floats.len() % 2 == 0, floats, &none, out, told)
 }
 
-// Whether every mark is 0 or 1.
-fn all_flags(missing: &[u8]) -> bool
-    ensures { λ r. ⌜ r ≡ allFlags (now (missing .entry)) ⌝ }
-{
-    let mut j: usize = 0;
-    while j < missing.len() {
-        if 1 < missing[j] {
-            return false;
-        }
-        j += 1;
-    }
-    true
-}
-
 // Whether the marks fit so many floats: one for each sample, 0 or 1.
 fn marks_fit(missing: &[u8], count: usize) -> bool
     ensures { λ r. ⌜ r ≡ marksFit (now (missing .entry)) count ⌝ }
@@ -200,7 +186,7 @@ fn marks_fit(missing: &[u8], count: usize) -> bool
     if count / 2 != missing.len() {
         return false;
     }
-    all_flags(missing)
+    lists::bytes_up_to(missing, 1)
 }
 
 // The same of samples of which some are missing: a mark for each, 0 heard, 1 missing. Refused as a whole where the marks do not fit.

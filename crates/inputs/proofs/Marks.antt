@@ -1,32 +1,17 @@
--- The marks of a piece: all of them are tested one after the other, and what is said of so many coordinates with marks.
---   all-next          the marks from the place j on: the one there, and those after it
---   all-stop, all-on, all-end   one turn of the test, and its end
+-- The marks of a piece: what is said of so many coordinates with marks, and the mark of one symbol.
 --   uneven, plain, another-count, one-each   the four answers of `fits`; fits-even, what fits is of whole symbols
 --   mark-from, later-from, mark-past         the mark at a place, those after it, and none past the end
 use mathlib.Core.Path.{_≡_, refl, sym, ap, _∙_}
-use mathlib.Core.Bool.{Bool, true, false, _&&_}
+use mathlib.Core.Bool.{Bool, true, false}
 use mathlib.Core.List.{List, [], _∷_}
-use Prim.Native.Nat.{ℕ, zero, suc, _+_, _*_, _/_, _%_, _≤_, _<_}
+use Prim.Native.Nat.{ℕ, zero, suc, _+_, _*_, _/_, _%_, _≤_}
 use native.Mathlib.Omega.{arith}
-use borrow.Author.Tests.{lt-leb, le-leb, eqb-true, eq-eqb, ne-eqb}
-use lib.Dec.{eqb, leb}
+use borrow.Author.Tests.{eqb-true, eq-eqb, ne-eqb}
+use lib.Dec.{eqb}
 use lib.ListN.{getD, length, drop, drop-of-length-le}
-use lib.Seq.{drop-cons}
-use Rattle.sums.proofs.UpTo.{and-both}
-use Rattle.told.specs.Piece.{markOf, laterMarks, allMarks, fitsWith}
-
-module _ (ms : List ℕ) (j : ℕ) (h : j < length ms) where
-  all-next : allMarks (drop j ms) ≡ (leb (getD ms j 0) 3 && allMarks (drop (j + 1) ms))
-  all-next = let e : j + 1 ≡ suc j = omega arith in ap allMarks (drop-cons ms j 0 h) ∙ rw e
-
-  pub all-stop : allMarks ms ≡ allMarks (drop j ms) → 3 < getD ms j 0 → allMarks ms ≡ false
-  all-stop e g = e ∙ all-next ∙ rw (lt-leb (getD ms j 0) 3 g)
-
-  pub all-on : allMarks ms ≡ allMarks (drop j ms) → getD ms j 0 ≤ 3 → allMarks ms ≡ allMarks (drop (j + 1) ms)
-  all-on e g = e ∙ all-next ∙ rw (le-leb (getD ms j 0) 3 g)
-
-pub all-end : (ms : List ℕ) (j : ℕ) → length ms ≤ j → allMarks ms ≡ allMarks (drop j ms) → allMarks ms ≡ true
-all-end ms j h e = e ∙ ap allMarks (drop-of-length-le ms {i = j} h)
+use Rattle.lists.specs.UpTo.{allUpTo}
+use Rattle.lists.proofs.UpTo.{and-both}
+use Rattle.told.specs.Piece.{markOf, laterMarks, fitsWith}
 
 module _ (ms : List ℕ) (n : ℕ) where
   pub uneven : (marked : Bool) → (n % 4 ≡ 0 → ⊥) → fitsWith marked ms n ≡ false
@@ -39,12 +24,12 @@ module _ (ms : List ℕ) (n : ℕ) where
   pub another-count : n % 4 ≡ 0 → (n / 4 ≡ length ms → ⊥) → fitsWith true ms n ≡ false
   another-count h k = rw (ne-eqb n (4 * length ms) (λ e. k (omega (arith, e))))
 
-  pub one-each : n % 4 ≡ 0 → n / 4 ≡ length ms → fitsWith true ms n ≡ allMarks ms
+  pub one-each : n % 4 ≡ 0 → n / 4 ≡ length ms → fitsWith true ms n ≡ allUpTo 3 ms
   one-each h k = rw (eq-eqb n (4 * length ms) (omega (arith, h, k)))
 
   -- whatever fits is of whole symbols
   pub fits-even : (marked : Bool) → fitsWith marked ms n ≡ true → n % 4 ≡ 0
-  fits-even true e = omega (arith, eqb-true n (4 * length ms) (and-both (eqb n (4 * length ms)) (allMarks ms) e .0))
+  fits-even true e = omega (arith, eqb-true n (4 * length ms) (and-both (eqb n (4 * length ms)) (allUpTo 3 ms) e .0))
   fits-even false e = eqb-true (n % 4) 0 e
 
 -- ---- the mark of one symbol

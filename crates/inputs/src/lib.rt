@@ -7,22 +7,8 @@ ghost use Prim.Native.Nat.{_+_, _≤_};
 ghost use lib.ListN.{getD, length};
 ghost use Rattle.nearest.specs.Found.{heardAs};
 ghost use Rattle.told.specs.Told.{faultAt, faultOf};
-ghost use Rattle.told.specs.Piece.{pointFrom, allMarks, fitsWith, marksOf};
+ghost use Rattle.told.specs.Piece.{pointFrom, fitsWith, marksOf};
 ghost use Rattle.inputs.specs.Looks.{symbolIn, Looks};
-
-// Whether every mark is one of the four: 0 to 3.
-fn all_marks(marks: &[u8]) -> bool
-    ensures { λ r. ⌜ r ≡ allMarks (now (marks .entry)) ⌝ }
-{
-    let mut j: usize = 0;
-    while j < marks.len() {
-        if 3 < marks[j] {
-            return false;
-        }
-        j += 1;
-    }
-    true
-}
 
 // Whether so many coordinates make whole symbols, and the marks, where the piece has any, are one for each.
 pub fn fits(marked: bool, marks: &[u8], count: usize) -> bool
@@ -37,7 +23,7 @@ pub fn fits(marked: bool, marks: &[u8], count: usize) -> bool
     if count / 4 != marks.len() {
         return false;
     }
-    all_marks(marks)
+    lists::bytes_up_to(marks, 3)
 }
 
 // The mark of the symbol j: 0, nothing missing, where there is none.

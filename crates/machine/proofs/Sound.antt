@@ -20,7 +20,7 @@ use Rattle.wei.specs.Symbol.{Symbol, firstLabel}
 use Rattle.nearest.specs.declared.Received.{Received}
 use Rattle.machine.specs.declared.Core.{Core}
 use Rattle.machine.specs.declared.Receiver.{Receiver}
-use Rattle.sums.proofs.UpTo.{and-both, up-to-all, all-up-to}
+use Rattle.lists.proofs.UpTo.{and-both, up-to-all, all-up-to}
 use Rattle.select.specs.Select.{limit}
 use Rattle.picks.specs.Picks.{symbolBy}
 use Rattle.machine.specs.Machine.{newSums, soundCore, sound, pendingAt, wayFrom, keptOf, agreedOf, releasedOf, grown}

@@ -35,7 +35,8 @@ use Rattle.machine.specs.declared.Receiver.{Receiver}
 use Rattle.reasons.specs.declared.Why.{Why}
 use Rattle.reasons.specs.declared.Why.the-variants.{Done, Full, NoRoom}
 use Rattle.select.specs.Select.{limit, sixteen, sumAt, lowered, stepAt, prevIn}
-use Rattle.sums.specs.Sums.{endOf, allUpTo}
+use Rattle.lists.specs.UpTo.{allUpTo}
+use Rattle.sums.specs.Sums.{endOf}
 use Rattle.picks.specs.Picks.{numbersOf, symbolIn, keptIn}
 use Rattle.told.specs.Told.{Told}
 

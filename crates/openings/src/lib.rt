@@ -11,7 +11,8 @@ ghost use mathlib.Core.Path.{_≡_};
 ghost use mathlib.Core.Bool.{true, cond, _&&_};
 ghost use Rattle.trellis.specs.Words.{firstTurn};
 ghost use Rattle.machine.specs.Machine.{core, freshSums, shut, soundCore, sound};
-ghost use Rattle.sums.specs.Sums.{limit, allUpTo};
+ghost use Rattle.lists.specs.UpTo.{allUpTo};
+ghost use Rattle.sums.specs.Sums.{limit};
 ghost use Rattle.openings.specs.Given.{plainWindow, startOf, startFits, startAt};
 ghost use Rattle.openings.specs.Opening.{Opens};
 

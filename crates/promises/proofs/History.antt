@@ -10,6 +10,7 @@ use Prim.Native.Nat.{ℕ, _+_, _*_, _≤_}
 use native.Mathlib.Omega.{arith}
 use lib.IntN.{pos}
 use lib.ListN.{length, replicate, length-replicate}
+use Rattle.lists.specs.UpTo.{allUpTo}
 use Rattle.points.specs.declared.Accord.{Accord}
 use Rattle.calls.specs.Calls.{walk}
 use Rattle.trellis.specs.Measure.{Two}
@@ -51,6 +52,7 @@ spotOf Missing = record { x = pos 0; y = pos 0 }
 pub handed : (y : Two Received) →
     let a = spotOf (y .first) in
     let b = spotOf (y .second) in markedPiece ((missed (y .first) + 2 * missed (y .second)) ∷ []) (a .x ∷ a .y ∷ b .x ∷ b .y ∷ []) ≡ single y
+unfolding allUpTo
 handed y = go (y .first) (y .second)
   where
     go : (g h : Received) →

@@ -19,7 +19,7 @@ use Rattle.reasons.specs.declared.Why.the-variants.{Done, NoRoom, Closed, Uneve
 use Rattle.machine.specs.Machine.{shut, lastWords, sound, wayFrom, machineOf}
 use Rattle.machine.specs.Parts.{whole}
 use Rattle.sums.specs.Sums.{endOf}
-use Rattle.sums.proofs.UpTo.{and-both}
+use Rattle.lists.proofs.UpTo.{and-both}
 use Rattle.told.specs.Told.{Told, speakerOf, Fine, withHeard}
 use Rattle.reasons.specs.Reason.{reason, givenOf}
 use Rattle.machine.proofs.Owed.{machine-same, sound-told, last-told, rest-many}

@@ -12,7 +12,8 @@ use reasons::Why;
 ghost use mathlib.Core.Path.{_≡_};
 ghost use mathlib.Core.Bool.{_&&_};
 ghost use Rattle.machine.specs.Machine.{core, soundCore};
-ghost use Rattle.sums.specs.Sums.{limit, allUpTo};
+ghost use Rattle.lists.specs.UpTo.{allUpTo};
+ghost use Rattle.sums.specs.Sums.{limit};
 ghost use Rattle.told.specs.Piece.{pieceWith, markedPiece, pieceOf};
 ghost use Rattle.receiver.specs.Promise.{lentLive, HearsLent, Hears, Finishes};
 

@@ -9,6 +9,7 @@ use borrow.Author.Tests.{eqb-true, le-ltb, le-leb}
 use lib.Dec.{eqb, ltb}
 use lib.IntN.{ℤ, natAbs}
 use lib.ListN.{length}
+use Rattle.lists.specs.UpTo.{allUpTo}
 use Rattle.calls.specs.Calls.{walk, fresh, rest}
 use Rattle.trellis.specs.Measure.{Two}
 use Rattle.trellis.specs.Lists.{Every}
@@ -56,7 +57,7 @@ module _ (t : Told) (ys : List (Two Received)) (y : Two Received) where
 one-owed : (t : Told) (m : ℕ) (a b c d : ℤ) (y : Two Received) → markedSymbol m a b c d ≡ y → m ≤ 3 → judgeSymbol t (t .heard) y 65 ≡ reason 0 →
     pieceOwed t (markedPiece (m ∷ []) (a ∷ b ∷ c ∷ d ∷ [])) 65
     ≡ record { reason = reason 0; taken = 1; words = fresh (speakerOf t) (t .heard) y; told = withHeard t (y ∷ t .heard) }
-unfolding pieceOwed walk
+unfolding pieceOwed walk allUpTo
 one-owed t m a b c d y e few j = rw (le-leb m 3 few, e, j, append-nil (fresh (speakerOf t) (t .heard) y))
 
 -- ---- what the record of a symbol says

@@ -23,8 +23,9 @@ use Rattle.wei.proofs.States.{before-below, before-rises, between-below}
 use Rattle.select.specs.declared.Selected.{Selected}
 use Rattle.select.specs.Select.{limit, sixteen, arrive, winner, sumAt, firstStep, lowered, liveOf, headOf, followed, stepAt}
 use Rattle.select.specs.Ways.{stepBy, keyBy, keyAt, sumsIn, stepsIn, followedStep}
-use Rattle.sums.specs.Sums.{endOf, lowest, allUpTo}
-use Rattle.sums.proofs.UpTo.{up-to-all}
+use Rattle.lists.specs.UpTo.{allUpTo}
+use Rattle.sums.specs.Sums.{endOf, lowest}
+use Rattle.lists.proofs.UpTo.{up-to-all}
 use Rattle.sums.proofs.Least.{end-below, lowest-le}
 use Rattle.select.proofs.Lists.{sixteen-at, sixteen-same}
 use Rattle.select.proofs.Followed.{followed-live, followed-below, followed-is}

@@ -1,2 +1,2 @@
 pub mod Least
-pub mod UpTo
+pub mod Together

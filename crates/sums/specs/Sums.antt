@@ -3,11 +3,8 @@
 --   limit         what a state keeps that nothing reaches
 --   endOf sums    the state with the least sum, the smallest of equals
 --   lowest sums   the least sum
---   allUpTo m l   no number of l is above m
 use Prim.Native.Nat.{ℕ}
-use mathlib.Core.Bool.{Bool, true, _&&_}
-use mathlib.Core.List.{List, [], _∷_}
-use lib.Dec.{leb}
+use mathlib.Core.List.{List}
 use lib.ListN.{getD}
 use Rattle.trellis.specs.Pick.{least}
 
@@ -20,7 +17,3 @@ endOf sums = least (λ s. getD sums s 0) 15
 
 unfoldable pub lowest : List ℕ → ℕ
 lowest sums = getD sums (endOf sums) 0
-
-unfoldable pub allUpTo : ℕ → List ℕ → Bool
-allUpTo m [] = true
-allUpTo m (x ∷ l) = leb x m && allUpTo m l

@@ -3,7 +3,8 @@
 // that is handed in is asked for its sums. Each answer equals a definition of specs/Sums.
 ghost use mathlib.Core.Path.{_≡_};
 ghost use Prim.Native.Nat.{_<_};
-ghost use Rattle.sums.specs.Sums.{endOf, lowest, allUpTo};
+ghost use Rattle.lists.specs.UpTo.{allUpTo};
+ghost use Rattle.sums.specs.Sums.{endOf, lowest};
 
 // What a state keeps that nothing reaches: 2^21. The sums of reached states, and these with one more cost, stay below.
 pub const LIMIT: u32 = 2097152;

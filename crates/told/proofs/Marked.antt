@@ -10,9 +10,10 @@ use borrow.Author.Tests.{eq-eqb}
 use lib.Dec.{eqb}
 use lib.IntN.{ℤ}
 use lib.ListN.{length, replicate, length-replicate}
+use Rattle.lists.specs.UpTo.{allUpTo}
 use Rattle.trellis.specs.Measure.{Two}
 use Rattle.nearest.specs.declared.Received.{Received}
-use Rattle.told.specs.Piece.{markedSymbol, symbolsWith, allMarks, fitsWith, markedPiece, symbolFrom, symbolsOf, pieceOf}
+use Rattle.told.specs.Piece.{markedSymbol, symbolsWith, fitsWith, markedPiece, symbolFrom, symbolsOf, pieceOf}
 
 pub first-unseen : (a b a′ b′ c d : ℤ) → markedSymbol 1 a b c d ≡ markedSymbol 1 a′ b′ c d
 first-unseen a b a′ b′ c d = refl
@@ -32,7 +33,8 @@ zeros (suc n) (a ∷ b ∷ []) = refl
 zeros (suc n) (a ∷ []) = refl
 zeros (suc n) [] = refl
 
-all-zero : (n : ℕ) → allMarks (replicate n 0) ≡ true
+all-zero : (n : ℕ) → allUpTo 3 (replicate n 0) ≡ true
+unfolding allUpTo
 all-zero zero = refl
 all-zero (suc n) = all-zero n
 

@@ -11,6 +11,7 @@ use mathlib.Core.List.{List, [], _∷_}
 use lib.Dec.{eqb, leb}
 use lib.IntN.{ℤ}
 use lib.ListN.{length}
+use Rattle.lists.specs.UpTo.{allUpTo}
 use Rattle.trellis.specs.Measure.{Two}
 use Rattle.nearest.specs.declared.Received.{Received}
 use Rattle.nearest.specs.declared.Received.the-variants.{Heard, Missing}
@@ -49,14 +50,9 @@ symbolsWith ms (a ∷ b ∷ []) = []
 symbolsWith ms (a ∷ []) = []
 symbolsWith ms [] = []
 
--- every mark is one of the four
-abbrev pub allMarks : List ℕ → Bool
-allMarks [] = true
-allMarks (m ∷ ms) = leb m 3 && allMarks ms
-
--- "10: piece length not a multiple of 4"; a piece with marks has one for each symbol, and each is one of the four
+-- "10: piece length not a multiple of 4"; a piece with marks has one for each symbol, and each is one of the four, 0 to 3
 abbrev pub fitsWith : Bool → List ℕ → ℕ → Bool
-fitsWith marked ms n = cond marked (eqb n (4 * length ms) && allMarks ms) (eqb (n % 4) 0)
+fitsWith marked ms n = cond marked (eqb n (4 * length ms) && allUpTo 3 ms) (eqb (n % 4) 0)
 
 abbrev pub marksOf : Bool → List ℕ → List ℕ
 marksOf marked ms = cond marked ms []

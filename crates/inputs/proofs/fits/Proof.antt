@@ -19,15 +19,15 @@ returns-3 c =
     let a = c .before .before .before .before .args in
     rw (not-false (a .marked) (c .before .if2 .left)) (sym (another-count (a .marks .now) (a .count) (c .before .before .if1 .left) (c .if3 .taken)))
 
-all-marks-requires : tie.Need-all-marks-requires
-all-marks-requires c κs = search needs
+bytes-up-to-requires : tie.Need-bytes-up-to-requires
+bytes-up-to-requires c κs = search needs
 
 returns-4 : tie.Need-returns-4
 returns-4 c =
     let e = c .before in
     let a = e .before .before .before .before .args in
     rw (not-false (a .marked) (e .before .if2 .left))
-    (c .all-marks .ensures ∙ sym (one-each (a .marks .now) (a .count) (e .before .before .if1 .left) (e .if3 .left)))
+    (c .bytes-up-to .ensures ∙ sym (one-each (a .marks .now) (a .count) (e .before .before .if1 .left) (e .if3 .left)))
 
 pub fits-spec : {M : Type 1} → statement M
-fits-spec = tie.close (tie.spec returns returns-2 returns-3 all-marks-requires returns-4)
+fits-spec = tie.close (tie.spec returns returns-2 returns-3 bytes-up-to-requires returns-4)

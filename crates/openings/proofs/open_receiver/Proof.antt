@@ -9,7 +9,7 @@ use Rattle.reasons.specs.declared.Why.the-variants.{Done}
 use Rattle.machine.specs.Machine.{core, opened}
 use Rattle.points.specs.declared.Accord.{Accord}
 use Rattle.points.specs.Agreed.{isAccord}
-use Rattle.sums.proofs.UpTo.{and-both}
+use Rattle.lists.proofs.UpTo.{and-both}
 use Rattle.openings.specs.declared.Start.{Start}
 use Rattle.openings.specs.Given.{startFits}
 use Rattle.openings.proofs.Openings.{opens-wide, opens-window, opens-start, opens-done}

@@ -5,8 +5,8 @@ use Prim.Native.Nat.{_-_, _≤_}
 use native.Mathlib.Omega.{arith}
 use lib.Dec.{ltb}
 use lib.ListN.{drop}
-use Rattle.sums.specs.Sums.{allUpTo}
-use Rattle.sums.proofs.UpTo.{high, together, together-ends}
+use Rattle.lists.specs.UpTo.{allUpTo}
+use Rattle.sums.proofs.Together.{high, together, together-ends}
 use Rattle.sums.proofs.all_reached.Statement.{statement}
 use Rattle.sums.proofs.all_reached.Tie as tie
 

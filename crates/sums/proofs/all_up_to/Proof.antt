@@ -3,8 +3,8 @@ use mathlib.Core.Path.{_≡_, refl, sym, _∙_}
 use Prim.Native.Nat.{_-_, _≤_}
 use native.Mathlib.Omega.{arith}
 use lib.ListN.{drop}
-use Rattle.sums.specs.Sums.{allUpTo}
-use Rattle.sums.proofs.UpTo.{passes, fails, ends}
+use Rattle.lists.specs.UpTo.{allUpTo}
+use Rattle.lists.proofs.UpTo.{passes, fails, ends}
 use Rattle.sums.proofs.all_up_to.Statement.{statement}
 use Rattle.sums.proofs.all_up_to.Tie as tie
 

@@ -1,19 +1,19 @@
--- `all_flags`: the loop's invariant is that all marks are as those from the place j on.
-use mathlib.Core.Path.{_≡_, refl, sym}
+-- `bytes_up_to`: the whole list passes the test exactly if it does from the place j on.
+use mathlib.Core.Path.{_≡_, refl, sym, _∙_}
 use Prim.Native.Nat.{_-_, _≤_}
 use native.Mathlib.Omega.{arith}
 use borrow.Author.Needs.{needs}
 use lib.ListN.{length, drop}
-use Rattle.converted.specs.Calls.{allFlags}
-use Rattle.converted.proofs.Flags.{all-stop, all-on, all-end}
-use Rattle.converted.proofs.all_flags.Statement.{statement}
-use Rattle.converted.proofs.all_flags.Tie as tie
+use Rattle.lists.specs.UpTo.{allUpTo}
+use Rattle.lists.proofs.UpTo.{passes, fails, ends}
+use Rattle.lists.proofs.bytes_up_to.Statement.{statement}
+use Rattle.lists.proofs.bytes_up_to.Tie as tie
 
 abbrev Inv-loop : tie.InvT-loop
-Inv-loop missing j₀ j = (j ≤ length missing) × (allFlags missing ≡ allFlags (drop j missing))
+Inv-loop list most j₀ j = (j ≤ length list) × (allUpTo most list ≡ allUpTo most (drop j list))
 
 abbrev μ-loop : tie.MeasureT-loop
-μ-loop missing j₀ j = length missing - j
+μ-loop list most j₀ j = length list - j
 
 loop-holds : tie.Need-loop-holds Inv-loop μ-loop
 loop-holds c = (omega arith, refl)
@@ -24,7 +24,7 @@ shared-slice-read-if1 c = search needs
 returns : tie.Need-returns Inv-loop μ-loop
 returns c =
     let n = c .before .before in
-    sym (all-stop _ (n .before .loop .j) (n .loop-test .taken) (n .before .loop .inv .1) (c .if1 .taken))
+    sym (n .before .loop .inv .1 ∙ fails _ _ (n .before .loop .j) (n .loop-test .taken) (c .if1 .taken))
 
 add-j : tie.Need-add-j Inv-loop μ-loop
 add-j c = search needs
@@ -35,13 +35,13 @@ loop-less c = search needs
 loop-again : tie.Need-loop-again Inv-loop μ-loop
 loop-again c =
     let n = c .before .before in
-    (search needs, all-on _ (n .before .loop .j) (n .loop-test .taken) (n .before .loop .inv .1) (c .if1 .left))
+    (search needs, n .before .loop .inv .1 ∙ passes _ _ (n .before .loop .j) (n .loop-test .taken) (c .if1 .left))
 
 returns-2 : tie.Need-returns-2 Inv-loop μ-loop
-returns-2 c = sym (all-end _ (c .before .loop .j) (c .loop-test .left) (c .before .loop .inv .1))
+returns-2 c = sym (c .before .loop .inv .1 ∙ ends _ _ (c .before .loop .j) (c .loop-test .left))
 
-pub all-flags-spec : {M : Type 1} → statement M
-all-flags-spec =
+pub bytes-up-to-spec : {M : Type 1} → statement M
+bytes-up-to-spec =
     tie.close
     (tie.spec
     Inv-loop

@@ -3,6 +3,7 @@
 // written.
 use line_so_far::Part;
 use machine::Receiver;
+use openings::PLAIN_WINDOW;
 use points::Accord;
 use recorder::Taped;
 use requests::Request;
@@ -35,6 +36,19 @@ pub struct Noted {
 // The number of a free start.
 const FREE: u32 = 16;
 
+// Nothing is recorded, and nothing answered.
+fn idle(rx: Receiver, begun: bool, ends: bool) -> Noted
+    ensures { λ r. ⌜ r ≡ record { receiver = rx; begun = begun; recorded = 0; at = 0; ends = ends } ⌝ }
+{
+    Noted {
+        receiver: rx,
+        begun,
+        recorded: 0,
+        at: 0,
+        ends,
+    }
+}
+
 fn unread(rx: Receiver, begun: bool, bytes: &[u8], page: &mut [u8]) -> Noted
     requires { ⌜ pageRoom ≤ length (now page) ⌝ }
     ensures { λ r. ⌜ Notes (stays rx begun unreadLine) (now (bytes .entry)) (now (page .entry)) r (now (bytes .entry)) (now (page .exit)) ⌝ }
@@ -62,13 +76,7 @@ fn opening(
     ensures { λ r. ⌜ Notes (opens rx begun accord window start (length (now (bytes .entry)))) (now (bytes .entry)) (now (page .entry)) r (now (bytes .exit)) (now (page .exit)) ⌝ }
 {
     if begun {
-        return Noted {
-            receiver: rx,
-            begun,
-            recorded: 0,
-            at: 0,
-            ends: true,
-        };
+        return idle(rx, begun, true);
     }
     let n = recorder::record_open(accord, window, start, bytes);
     let o = openings::open_receiver(accord, window, openings::start_at(start));
@@ -180,22 +188,8 @@ pub fn note(
         (now (bytes .entry)) (now (page .entry)) r (now (bytes .exit)) (now (page .exit)) ⌝ }
 {
     match asked {
-        Request::Nothing => Noted {
-            receiver: rx,
-            begun,
-            recorded: 0,
-            at: 0,
-            ends: false,
-        },
-        Request::Plain { accord } => opening(
-            rx,
-            begun,
-            accord,
-            openings::PLAIN_WINDOW,
-            FREE,
-            bytes,
-            page,
-        ),
+        Request::Nothing => idle(rx, begun, false),
+        Request::Plain { accord } => opening(rx, begun, accord, PLAIN_WINDOW, FREE, bytes, page),
         Request::Free { accord, window } => {
             opening(rx, begun, accord, window, FREE, bytes, page)
         }

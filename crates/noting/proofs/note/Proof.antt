@@ -23,6 +23,9 @@ enum-told c = search needs
 enum-known-asked : tie.Need-enum-known-asked
 enum-known-asked c = search needs
 
+idle-requires : tie.Need-idle-requires
+idle-requires c κs = search needs
+
 opening-requires : tie.Need-opening-requires
 opening-requires c κs = search needs
 
@@ -137,9 +140,9 @@ unread-requires c κs = search needs
 returns : tie.Need-returns
 unfolding noting
 returns c =
-    let start = c .before .before .before .before .before .before in
+    let start = c .before .before .before .before .before .before .before in
     let a = start .args in
-    notes-same (noted-as (a .rx) (a .begun) (lists start) _ (c .enum-told .given .1)) (idles (a .rx) (a .begun) [] _ _ _ 0 (omega arith) (nothing-put _ 0))
+    notes-same (noted-as (a .rx) (a .begun) (lists start) _ (c .before .enum-told .given .1)) (rw (c .idle .ensures) (idles (a .rx) (a .begun) [] _ _ _ 0 (omega arith) (nothing-put _ 0)))
 
 same-length : tie.Need-same-length
 same-length c = search needs
@@ -256,6 +259,7 @@ note-spec =
     tie.close
     (tie.spec
     enum-told
+    idle-requires
     enum-known-asked
     opening-requires
     enum-known-asked-2

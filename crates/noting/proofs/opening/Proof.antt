@@ -10,10 +10,13 @@ use borrow.Author.Needs.{needs}
 use Rattle.noting.proofs.opening.Statement.{statement}
 use Rattle.noting.proofs.opening.Tie as tie
 
+idle-requires : tie.Need-idle-requires
+idle-requires c κs = search needs
+
 returns : tie.Need-returns
 returns c =
-    let a = c .before .before .before .args in
-    ends-before (a .rx) (a .begun) (a .accord) (a .window) (a .start) (now (a .bytes)) (now (a .page)) (c .if1 .taken)
+    let a = c .before .before .before .before .args in
+    rw (c .idle .ensures) (ends-before (a .rx) (a .begun) (a .accord) (a .window) (a .start) (now (a .bytes)) (now (a .page)) (c .before .if1 .taken))
 
 record-open-requires : tie.Need-record-open-requires
 record-open-requires c κs = search needs
@@ -76,6 +79,7 @@ pub opening-spec : {M : Type 1} → statement M
 opening-spec =
     tie.close
     (tie.spec
+    idle-requires
     returns
     record-open-requires
     start-at-requires

@@ -3,14 +3,14 @@
 ghost use Rattle.std.specs.Prelude.{◌+◌, ◌≤◌, length};
 ghost use Rattle.page.specs.Page.{Puts};
 ghost use Rattle.reasons.specs.Reason.{given_of};
-ghost use Rattle.phrases.specs.Phrase.{wordsRoom, wholesRoom};
-ghost use Rattle.answers.specs.Answer.{numberLine, sentLine, listLine, heardLine, pairLine, refusedLine, missingLine, cardLine, unreadLine};
+ghost use Rattle.phrases.specs.Phrase.{words_room, wholes_room};
+ghost use Rattle.answers.specs.Answer.{number_line, sent_line, list_line, heard_line, pair_line, refused_line, missing_line, card_line, unread_line};
 
 use reasons::Why;
 
 pub fn unread(page: &mut [u8], at: usize) -> usize
     requires { at + 2 ≤ length page.old }
-    ensures { Puts page.old at unreadLine result page.new }
+    ensures { Puts page.old at unread_line result page.new }
 {
     page::put_text(page, at, b"?\n")
 }
@@ -18,7 +18,7 @@ pub fn unread(page: &mut [u8], at: usize) -> usize
 // The answer to a sample that is missing.
 pub fn missing(page: &mut [u8], at: usize) -> usize
     requires { at + 8 ≤ length page.old }
-    ensures { Puts page.old at missingLine result page.new }
+    ensures { Puts page.old at missing_line result page.new }
 {
     page::put_text(page, at, b"missing\n")
 }
@@ -26,7 +26,7 @@ pub fn missing(page: &mut [u8], at: usize) -> usize
 // The answer to a card.
 pub fn card(page: &mut [u8], at: usize, accepted: bool) -> usize
     requires { at + 9 ≤ length page.old }
-    ensures { Puts page.old at (cardLine accepted) result page.new }
+    ensures { Puts page.old at (card_line accepted) result page.new }
 {
     if accepted {
         return page::put_text(page, at, b"accepted\n");
@@ -36,7 +36,7 @@ pub fn card(page: &mut [u8], at: usize, accepted: bool) -> usize
 
 pub fn number(page: &mut [u8], at: usize, n: u64) -> usize
     requires { at + 21 ≤ length page.old }
-    ensures { Puts page.old at (numberLine n) result page.new }
+    ensures { Puts page.old at (number_line n) result page.new }
 {
     let p = page::put_number(page, at, n);
     phrases::end(page, p)
@@ -45,7 +45,7 @@ pub fn number(page: &mut [u8], at: usize, n: u64) -> usize
 // The number, and the four coordinates where it is 0.
 pub fn sent(page: &mut [u8], at: usize, n: u32, out: &[i32]) -> usize
     requires { at + 109 ≤ length page.old }
-    ensures { Puts page.old at (sentLine n out.now) result page.new }
+    ensures { Puts page.old at (sent_line n out.now) result page.new }
 {
     let p = page::put_number(page, at, n as u64);
     if n != 0 {
@@ -61,8 +61,8 @@ pub fn sent(page: &mut [u8], at: usize, n: u32, out: &[i32]) -> usize
 
 // How many words of a list were sent, the number, and the coordinates that were written.
 pub fn list(page: &mut [u8], at: usize, sent: usize, n: u32, written: &[i32]) -> usize
-    requires { at + 44 + wholesRoom (length written.now) ≤ length page.old }
-    ensures { Puts page.old at (listLine sent n written.now) result page.new }
+    requires { at + 44 + wholes_room (length written.now) ≤ length page.old }
+    ensures { Puts page.old at (list_line sent n written.now) result page.new }
 {
     let p = page::put_number(page, at, sent as u64);
     let p = page::put_byte(page, p, b' ');
@@ -73,7 +73,7 @@ pub fn list(page: &mut [u8], at: usize, sent: usize, n: u32, written: &[i32]) ->
 
 pub fn pair(page: &mut [u8], at: usize, x: i32, y: i32) -> usize
     requires { at + 44 ≤ length page.old }
-    ensures { Puts page.old at (pairLine x y) result page.new }
+    ensures { Puts page.old at (pair_line x y) result page.new }
 {
     let p = page::put_whole(page, at, x);
     let p = phrases::next_whole(page, p, y);
@@ -82,7 +82,7 @@ pub fn pair(page: &mut [u8], at: usize, x: i32, y: i32) -> usize
 
 pub fn refused(page: &mut [u8], at: usize, k: u8) -> usize
     requires { at + 29 ≤ length page.old }
-    ensures { Puts page.old at (refusedLine k) result page.new }
+    ensures { Puts page.old at (refused_line k) result page.new }
 {
     let p = page::put_byte(page, at, b'5');
     let p = phrases::place(page, p, k as u64);
@@ -91,8 +91,8 @@ pub fn refused(page: &mut [u8], at: usize, k: u8) -> usize
 
 // The answer to a piece or a finish that wrote these words.
 pub fn heard(page: &mut [u8], at: usize, taken: usize, why: Why, written: &[u32]) -> usize
-    requires { at + 92 + wordsRoom (length written.now) ≤ length page.old }
-    ensures { Puts page.old at (heardLine taken (given_of why) written.now) result page.new }
+    requires { at + 92 + words_room (length written.now) ≤ length page.old }
+    ensures { Puts page.old at (heard_line taken (given_of why) written.now) result page.new }
 {
     let p = phrases::counts(page, at, taken, written.len());
     let p = phrases::reason(page, p, why);

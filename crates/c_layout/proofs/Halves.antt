@@ -12,7 +12,7 @@ use borrow.Author.Tests.{eqb-true, eqb-false}
 use lib.Dec.{eqb}
 use lib.ListN.{length, get_or, get_or-eq_default}
 use Rattle.lists.proofs.Filled.{tabled-length, tabled-at, tabled-same, all_listed}
-use Rattle.c_layout.specs.Halves.{halfAt, unpacked, pair_at, packed, AllHalves}
+use Rattle.c_layout.specs.Halves.{half_at, unpacked, pair_at, packed, AllHalves}
 
 pub packed-length : (xs : List ℕ) → length (packed xs) ≡ 8
 unfolding packed
@@ -23,7 +23,7 @@ module _ (xs : List ℕ) (small : AllHalves xs) where
   unfolding packed
   word_at j h = tabled-at (pair_at xs) 8 (j / 2) (omega arith)
 
-  half_back : (j : ℕ) → j < 16 → halfAt (packed xs) j ≡ get_or xs j 0
+  half_back : (j : ℕ) → j < 16 → half_at (packed xs) j ≡ get_or xs j 0
   half_back j h = ap (λ (w : ℕ). cond (eqb (j % 2) 1) (w / 4294967296) (w % 4294967296)) (word_at j h) ∙ go (eqb (j % 2) 1) refl
     where
       low : ℕ
@@ -44,7 +44,7 @@ module _ (xs : List ℕ) (small : AllHalves xs) where
 
   pub back : length xs ≡ 16 → unpacked (packed xs) ≡ xs
   unfolding unpacked
-  back n = tabled-same (halfAt (packed xs)) (λ j. get_or xs j 0) 16 half_back ∙ all_listed xs 16 n
+  back n = tabled-same (half_at (packed xs)) (λ j. get_or xs j 0) 16 half_back ∙ all_listed xs 16 n
 
 pub two-more : (xs : List ℕ) (i : ℕ) → ((k : ℕ) → k < 2 * i → get_or xs k 0 < 4294967296) → get_or xs (2 * i) 0 < 4294967296 → get_or xs (2 * i + 1) 0 < 4294967296 →
     (k : ℕ) → k < 2 * (i + 1) → get_or xs k 0 < 4294967296

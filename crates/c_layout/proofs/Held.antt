@@ -9,7 +9,7 @@ use borrow.Author.Tests.{le-leb, lt-leb, eq-eqb, ne_eqb}
 use lib.Dec.{T, eqb, leb, leb→le, ltb→lt}
 use lib.ListN.{get_or, length}
 use Rattle.wei.proofs.Finite.{and_left, and_right}
-use Rattle.c_layout.specs.Tagged.{isHalf, holds}
+use Rattle.c_layout.specs.Tagged.{is_half, holds}
 
 module _ (size tag : ℕ) (ws : List ℕ) where
   pub held-short : length ws < size → holds size tag ws ≡ false
@@ -20,7 +20,7 @@ module _ (size tag : ℕ) (ws : List ℕ) where
   unfolding holds
   held-other h e = rw (le-leb size (length ws) h, ne_eqb (get_or ws 0 0) tag e)
 
-  pub held_by : size ≤ length ws → get_or ws 0 0 ≡ tag → holds size tag ws ≡ isHalf (get_or ws 2 0)
+  pub held_by : size ≤ length ws → get_or ws 0 0 ≡ tag → holds size tag ws ≡ is_half (get_or ws 2 0)
   unfolding holds
   held_by h e = rw (le-leb size (length ws) h, eq-eqb (get_or ws 0 0) tag e)
 
@@ -32,7 +32,7 @@ module _ (size tag : ℕ) (ws : List ℕ) where
   unfolding holds
   held e =
       let t : T (holds size tag ws) = subst T (sym e) tt in
-      let b = isHalf (get_or ws 2 0) in
+      let b = is_half (get_or ws 2 0) in
       let t₁ = and_right (leb size (length ws)) (eqb (get_or ws 0 0) tag && b) t in
       record {
         long = leb→le size (length ws) (and_left (leb size (length ws)) (eqb (get_or ws 0 0) tag && b) t);

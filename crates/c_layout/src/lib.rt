@@ -5,9 +5,9 @@
 // A number that is no map's names no line: an opening refuses it with 1, and a state that holds it is not open. Each contract is an
 // equation of the result with one definition, so any two results that it allows are equal.
 ghost use Rattle.std.specs.Prelude.{◌≡◌, cond, ◌++◌, ◌+◌, ◌*◌, ◌/◌, ◌%◌, ◌≤◌, ◌<◌, length, drop};
-ghost use Rattle.c_layout.specs.Tagged.{tag_of, isHalf, holds};
+ghost use Rattle.c_layout.specs.Tagged.{tag_of, is_half, holds};
 ghost use Rattle.c_layout.specs.Halves.{unpacked, packed, AllHalves};
-ghost use Rattle.c_layout.specs.Accords.{accordBy, number_of, accordIn, accordWord};
+ghost use Rattle.c_layout.specs.Accords.{accord_by, number_of, accord_in, accord_word};
 
 use points::{Accord, Map};
 
@@ -47,7 +47,7 @@ pub const RECEIVER_WORDS: usize = 134;
 
 // Whether a word fits a field of 32 bits.
 pub fn is_half(w: u64) -> bool
-    ensures { result ≡ isHalf w }
+    ensures { result ≡ is_half w }
 {
     w < 4294967296
 }
@@ -122,7 +122,7 @@ pub fn pack(numbers: [u32; 16]) -> [u64; 8]
 
 // The line of the map with this number, and of the width u.
 pub fn accord_by(map: u32, u: u32) -> Accord
-    ensures { result ≡ accordBy map u }
+    ensures { result ≡ accord_by map u }
 {
     if map == 0 {
         return Accord {
@@ -153,14 +153,14 @@ fn number_of(map: Map) -> u64
 
 // Map and width of a word.
 pub fn accord_in(w: u64) -> Accord
-    ensures { result ≡ accordIn w }
+    ensures { result ≡ accord_in w }
 {
     accord_by((w / 4294967296) as u32, (w % 4294967296) as u32)
 }
 
 // The word of a map and a width: the map's number in the upper half, the width in the lower.
 pub fn accord_word(k: Accord) -> u64
-    ensures { result ≡ accordWord k }
+    ensures { result ≡ accord_word k }
 {
     let map = k.map;
     number_of(map) * 4294967296 + k.u as u64

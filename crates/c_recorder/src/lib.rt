@@ -2,8 +2,8 @@
 // `demfizagu_hear` and `demfizagu_finish`, with how many bytes were recorded in the fourth place of `told`.
 ghost use Rattle.std.specs.Prelude.{◌≡◌, ◌≤◌, length};
 ghost use Rattle.reasons.specs.Reason.{given_of};
-ghost use Rattle.receiver_meaning.specs.Piece.{pieceWith, markedPiece, piece_of};
-ghost use Rattle.c_recorder.specs.Calls.{toldFour, hearCall, finishCall};
+ghost use Rattle.receiver_meaning.specs.Piece.{piece_with, marked_piece, piece_of};
+ghost use Rattle.c_recorder.specs.Calls.{told_four, hear_call, finish_call};
 ghost use Rattle.c_recorder.specs.Promise.{Records};
 
 use c_states::{holds_receiver, load_front, load_receiver, store_front, store_receiver};
@@ -12,7 +12,7 @@ use reasons::Why;
 // What a call came to, in the first four places of `told`. Gives its number.
 fn answer(told: &mut [u64], taken: usize, written: usize, recorded: usize, why: Why) -> u32
     requires { 4 ≤ length told.old }
-    ensures { (result ≡ (given_of why).number) × (told.new ≡ toldFour taken written (given_of why).place recorded told.old) }
+    ensures { (result ≡ (given_of why).number) × (told.new ≡ told_four taken written (given_of why).place recorded told.old) }
 {
     let place = reasons::place(why);
     told[0] = taken as u64;
@@ -33,7 +33,7 @@ fn hear_piece(
     bytes: &mut [u8],
     told: &mut [u64],
 ) -> u32
-    ensures { Records (hearCall state.old (pieceWith marked marks.now piece.now) out.old bytes.old told.old)
+    ensures { Records (hear_call state.old (piece_with marked marks.now piece.now) out.old bytes.old told.old)
         result state.new out.new bytes.new told.new }
 {
     if told.len() < 4 {
@@ -75,7 +75,7 @@ pub fn hear_recorded(
     bytes: &mut [u8],
     told: &mut [u64],
 ) -> u32
-    ensures { Records (hearCall state.old (piece_of piece.now) out.old bytes.old told.old)
+    ensures { Records (hear_call state.old (piece_of piece.now) out.old bytes.old told.old)
         result state.new out.new bytes.new told.new }
 {
     let none = [0u8; 0];
@@ -90,7 +90,7 @@ pub fn hear_marked_recorded(
     bytes: &mut [u8],
     told: &mut [u64],
 ) -> u32
-    ensures { Records (hearCall state.old (markedPiece marks.now piece.now) out.old bytes.old told.old)
+    ensures { Records (hear_call state.old (marked_piece marks.now piece.now) out.old bytes.old told.old)
         result state.new out.new bytes.new told.new }
 {
     hear_piece(state, true, marks, piece, out, bytes, told)
@@ -103,7 +103,7 @@ pub fn finish_recorded(
     bytes: &mut [u8],
     told: &mut [u64],
 ) -> u32
-    ensures { Records (finishCall state.old out.old bytes.old told.old)
+    ensures { Records (finish_call state.old out.old bytes.old told.old)
         result state.new out.new bytes.new told.new }
 {
     if told.len() < 4 {

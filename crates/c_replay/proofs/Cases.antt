@@ -14,23 +14,23 @@ use lib.Dec.{ltb}
 use lib.ListN.{length, set}
 use Rattle.replay_judge.specs.declared.Verdict.{Verdict}
 use Rattle.replay.specs.declared.Replay.{Replay}
-use Rattle.replay.specs.Course.{Course, feedings, replayOf, freshReplay}
-use Rattle.c_replay_state.specs.Table.{replayLength}
-use Rattle.c_replay_state.specs.Words.{holdsReplay, courseIn, CourseStored}
+use Rattle.replay.specs.Course.{Course, feedings, replay_of, fresh_replay}
+use Rattle.c_replay_state.specs.Table.{replay_length}
+use Rattle.c_replay_state.specs.Words.{holds_replay, course_in, CourseStored}
 use Rattle.c_replay.specs.declared.Said.{Said}
 use Rattle.c_replay.specs.declared.Said.TheVariants.{Nothing, Line}
-use Rattle.c_replay.specs.Calls.{Call, isShort, isFound, verdictNow, into, startCall, goneOn, feedCall, endCall}
+use Rattle.c_replay.specs.Calls.{Call, is_short, is_found, verdict_now, into, start_call, gone_on, feed_call, end_call}
 use Rattle.c_replay.specs.Promise.{Keeps, Starts, Feeds, Ends}
-use Rattle.c_replay.specs.Saying.{sayingOf, Tells, Says, Heard}
+use Rattle.c_replay.specs.Saying.{saying_of, Tells, Says, Heard}
 
 -- ---- the lengths
 
-pub short-told : (line told : ℕ) → told < 1 → true ≡ isShort line told
-unfolding isShort
+pub short-told : (line told : ℕ) → told < 1 → true ≡ is_short line told
+unfolding is_short
 short-told line told h = rw (lt-ltb told 1 h)
 
-pub short-line : (line told : ℕ) (b : Bool) → 1 ≤ told → b ≡ ltb line 64 → b ≡ isShort line told
-unfolding isShort
+pub short-line : (line told : ℕ) (b : Bool) → 1 ≤ told → b ≡ ltb line 64 → b ≡ is_short line told
+unfolding is_short
 short-line line told b h e = rw (le-ltb told 1 h) e
 
 or-false : (a b : Bool) → (a || b) ≡ false → (a ≡ false) × (b ≡ false)
@@ -40,8 +40,8 @@ or-false true b e = absurd (no e)
     no z = let y : ◌≡◌ {A = ℕ} 0 1 = cc in omega arith
 or-false false b e = (refl, e)
 
-pub long-enough : (line told : ℕ) → isShort line told ≡ false → (64 ≤ line) × (1 ≤ told)
-unfolding isShort
+pub long-enough : (line told : ℕ) → is_short line told ≡ false → (64 ≤ line) × (1 ≤ told)
+unfolding is_short
 long-enough line told e = let p = or-false (ltb told 1) (ltb line 64) e in (ltb-false line 64 p.1, ltb-false told 1 p.0)
 
 -- ---- a start
@@ -52,120 +52,120 @@ eight e = omega arith
 nine : ◌≡◌ {A = ℕ} 9 0 → ⊥
 nine e = omega arith
 
-pub start-short : (state : List ℕ) → length state < replayLength → Starts (startCall state) 8 state
-unfolding startCall
-start-short state h = rw (lt-ltb (length state) replayLength h) (record { number = refl; state-is = refl; keeps = λ e. absurd (eight e) })
+pub start-short : (state : List ℕ) → length state < replay_length → Starts (start_call state) 8 state
+unfolding start_call
+start-short state h = rw (lt-ltb (length state) replay_length h) (record { number = refl; state-is = refl; keeps = λ e. absurd (eight e) })
 
-pub start-done : (state : List ℕ) (r : Replay) {o : List ℕ} → replayLength ≤ length state → r ≡ freshReplay → CourseStored (replayOf r) state o → Starts (startCall state) 0 o
-unfolding startCall
+pub start-done : (state : List ℕ) (r : Replay) {o : List ℕ} → replay_length ≤ length state → r ≡ fresh_replay → CourseStored (replay_of r) state o → Starts (start_call state) 0 o
+unfolding start_call
 start-done state r h e s =
-    rw (le-ltb (length state) replayLength h)
-    (record { number = refl; state-is = s.words ∙ ap (λ (x : Replay). into (replayOf x) state) e; keeps = λ k. (s.holds, s.reads ∙ ap (λ (x : Replay). replayOf x) e) })
+    rw (le-ltb (length state) replay_length h)
+    (record { number = refl; state-is = s.words ∙ ap (λ (x : Replay). into (replay_of x) state) e; keeps = λ k. (s.holds, s.reads ∙ ap (λ (x : Replay). replay_of x) e) })
 
 -- ---- what is to be said
 
 -- where nothing is said no room is wanted
 silent : (call : List ℕ → List ℕ → Call) (short : Bool) (n : ℕ) (state : List ℕ) →
-    ((line told : List ℕ) → isShort (length line) (length told) ≡ short → call line told ≡ sayingOf (Nothing n) state line told) → Says call short (Nothing n) state
+    ((line told : List ℕ) → is_short (length line) (length told) ≡ short → call line told ≡ saying_of (Nothing n) state line told) → Says call short (Nothing n) state
 silent call short n state f = record { is = f; room = λ line told e. tt }
 
 -- and a line has it, where the call is not short
 spoken : (call : List ℕ → List ℕ → Call) (short : Bool) (v : Verdict) (state : List ℕ) → short ≡ false →
-    ((line told : List ℕ) → isShort (length line) (length told) ≡ short → call line told ≡ sayingOf (Line v) state line told) → Says call short (Line v) state
+    ((line told : List ℕ) → is_short (length line) (length told) ≡ short → call line told ≡ saying_of (Line v) state line told) → Says call short (Line v) state
 spoken call short v state s f = record { is = f; room = λ line told e. long-enough line told (e ∙ s) }
 
 -- ---- a lump
 
 module _ (state lump : List ℕ) (short : Bool) where
   abbrev call : List ℕ → List ℕ → Call
-  call = feedCall state lump
+  call = feed_call state lump
 
   pub feed-short : short ≡ true → Heard state lump short (Nothing 8) state
-  unfolding feedCall
+  unfolding feed_call
   feed-short s = record { says = silent call short 8 state (λ line told e. rw (e ∙ s)); keeps = λ k. absurd (eight k) }
 
   module _ (s : short ≡ false) where
-    pub feed-none : holdsReplay state ≡ false → Heard state lump short (Nothing 9) state
-    unfolding feedCall
+    pub feed-none : holds_replay state ≡ false → Heard state lump short (Nothing 9) state
+    unfolding feed_call
     feed-none h = record { says = silent call short 9 state (λ line told e. rw (e ∙ s, h)); keeps = λ k. absurd (nine k) }
 
-    module _ (h : holdsReplay state ≡ true) (c : Course) (is : c ≡ courseIn state) where
-      there : (b : Bool) → isFound c ≡ b → isFound (courseIn state) ≡ b
-      there b e = ap isFound (sym is) ∙ e
+    module _ (h : holds_replay state ≡ true) (c : Course) (is : c ≡ course_in state) where
+      there : (b : Bool) → is_found c ≡ b → is_found (course_in state) ≡ b
+      there b e = ap is_found (sym is) ∙ e
 
-      pub feed-after : isFound c ≡ true → Heard state lump short (Nothing 0) state
-      unfolding feedCall goneOn
+      pub feed-after : is_found c ≡ true → Heard state lump short (Nothing 0) state
+      unfolding feed_call gone_on
       feed-after f = record { says = silent call short 0 state (λ line told e. rw (e ∙ s, h, there true f)); keeps = λ k. (h, rw (there true f)) }
 
-      module _ (f : isFound c ≡ false) (d : Course) (on : d ≡ feedings c lump) {st : List ℕ} (stored : CourseStored d state st) where
-        so : d ≡ feedings (courseIn state) lump
+      module _ (f : is_found c ≡ false) (d : Course) (on : d ≡ feedings c lump) {st : List ℕ} (stored : CourseStored d state st) where
+        so : d ≡ feedings (course_in state) lump
         so = on ∙ ap (λ (x : Course). feedings x lump) is
 
-        kept : Keeps st (goneOn (courseIn state) lump)
-        unfolding goneOn
+        kept : Keeps st (gone_on (course_in state) lump)
+        unfolding gone_on
         kept = (stored.holds, stored.reads ∙ so ∙ rw (there false f))
 
-        now-found : (b : Bool) → isFound d ≡ b → isFound (feedings (courseIn state) lump) ≡ b
-        now-found b e = ap isFound (sym so) ∙ e
+        now-found : (b : Bool) → is_found d ≡ b → is_found (feedings (course_in state) lump) ≡ b
+        now-found b e = ap is_found (sym so) ∙ e
 
-        written : into (feedings (courseIn state) lump) state ≡ st
+        written : into (feedings (course_in state) lump) state ≡ st
         written = ap (λ (x : Course). into x state) (sym so) ∙ sym stored.words
 
-        pub feed-on : isFound d ≡ false → Heard state lump short (Nothing 0) st
-        unfolding feedCall
+        pub feed-on : is_found d ≡ false → Heard state lump short (Nothing 0) st
+        unfolding feed_call
         feed-on g =
             record {
-              says = silent call short 0 st (λ line told e. rw (e ∙ s, h, there false f, now-found false g) (ap (λ (x : List ℕ). sayingOf (Nothing 0) x line told) written));
+              says = silent call short 0 st (λ line told e. rw (e ∙ s, h, there false f, now-found false g) (ap (λ (x : List ℕ). saying_of (Nothing 0) x line told) written));
               keeps = λ k. kept;
             }
 
-        pub feed-says : (v : Verdict) → isFound d ≡ true → v ≡ verdictNow d → Heard state lump short (Line v) st
-        unfolding feedCall
+        pub feed-says : (v : Verdict) → is_found d ≡ true → v ≡ verdict_now d → Heard state lump short (Line v) st
+        unfolding feed_call
         feed-says v g w =
             record {
-              says = spoken call short v st s (λ line told e. rw (e ∙ s, h, there false f, now-found true g) (λ i. sayingOf (Line (now-told i)) (written i) line told));
+              says = spoken call short v st s (λ line told e. rw (e ∙ s, h, there false f, now-found true g) (λ i. saying_of (Line (now-told i)) (written i) line told));
               keeps = λ k. kept;
             }
           where
-            now-told : verdictNow (feedings (courseIn state) lump) ≡ v
-            now-told = ap verdictNow (sym so) ∙ sym w
+            now-told : verdict_now (feedings (course_in state) lump) ≡ v
+            now-told = ap verdict_now (sym so) ∙ sym w
 
 -- ---- the end
 
 module _ (state : List ℕ) (short : Bool) where
-  pub end_short : short ≡ true → Says (endCall state) short (Nothing 8) state
-  unfolding endCall
-  end_short s = silent (endCall state) short 8 state (λ line told e. rw (e ∙ s))
+  pub end_short : short ≡ true → Says (end_call state) short (Nothing 8) state
+  unfolding end_call
+  end_short s = silent (end_call state) short 8 state (λ line told e. rw (e ∙ s))
 
   module _ (s : short ≡ false) where
-    pub end_none : holdsReplay state ≡ false → Says (endCall state) short (Nothing 9) state
-    unfolding endCall
-    end_none h = silent (endCall state) short 9 state (λ line told e. rw (e ∙ s, h))
+    pub end_none : holds_replay state ≡ false → Says (end_call state) short (Nothing 9) state
+    unfolding end_call
+    end_none h = silent (end_call state) short 9 state (λ line told e. rw (e ∙ s, h))
 
-    module _ (h : holdsReplay state ≡ true) (c : Course) (is : c ≡ courseIn state) where
-      pub end_after : isFound c ≡ true → Says (endCall state) short (Nothing 0) (set state 0 0)
-      unfolding endCall
-      end_after f = silent (endCall state) short 0 (set state 0 0) (λ line told e. rw (e ∙ s, h, ap isFound (sym is) ∙ f))
+    module _ (h : holds_replay state ≡ true) (c : Course) (is : c ≡ course_in state) where
+      pub end_after : is_found c ≡ true → Says (end_call state) short (Nothing 0) (set state 0 0)
+      unfolding end_call
+      end_after f = silent (end_call state) short 0 (set state 0 0) (λ line told e. rw (e ∙ s, h, ap is_found (sym is) ∙ f))
 
-      pub end-says : (v : Verdict) → isFound c ≡ false → v ≡ verdictNow c → Says (endCall state) short (Line v) (set state 0 0)
-      unfolding endCall
+      pub end-says : (v : Verdict) → is_found c ≡ false → v ≡ verdict_now c → Says (end_call state) short (Line v) (set state 0 0)
+      unfolding end_call
       end-says v f w =
-          spoken (endCall state) short v (set state 0 0) s (λ line told e.
-          rw (e ∙ s, h, ap isFound (sym is) ∙ f) (ap (λ (x : Verdict). sayingOf (Line x) (set state 0 0) line told) (ap verdictNow (sym is) ∙ sym w)))
+          spoken (end_call state) short v (set state 0 0) s (λ line told e.
+          rw (e ∙ s, h, ap is_found (sym is) ∙ f) (ap (λ (x : Verdict). saying_of (Line x) (set state 0 0) line told) (ap verdict_now (sym is) ∙ sym w)))
 
 -- ---- what was to be said is said
 
 module _ (call : List ℕ → List ℕ → Call) (short : Bool) (said : Said) (state line told : List ℕ) (s : Says call short said state)
-    (e : short ≡ isShort (length line) (length told)) {n : ℕ} {ln t : List ℕ} (p : Tells said line told n ln t) where
-  as_called : call line told ≡ sayingOf said state line told
+    (e : short ≡ is_short (length line) (length told)) {n : ℕ} {ln t : List ℕ} (p : Tells said line told n ln t) where
+  as_called : call line told ≡ saying_of said state line told
   as_called = s.is line told (sym e)
 
   pub told-ends : Ends (call line told) n state ln t
   told-ends = rw as_called (record { number = p.number; state-is = refl; line-is = p.line-is; told_is = p.told_is })
 
 pub told-feeds : (before lump : List ℕ) (short : Bool) (said : Said) (state line told : List ℕ) → Heard before lump short said state →
-    short ≡ isShort (length line) (length told) → {n : ℕ} {ln t : List ℕ} → Tells said line told n ln t →
-    Feeds before lump (feedCall before lump line told) n state ln t
+    short ≡ is_short (length line) (length told) → {n : ℕ} {ln t : List ℕ} → Tells said line told n ln t →
+    Feeds before lump (feed_call before lump line told) n state ln t
 told-feeds before lump short said state line told h e p =
-    let q = told-ends (feedCall before lump) short said state line told h.says e p in
+    let q = told-ends (feed_call before lump) short said state line told h.says e p in
     record { number = q.number; state-is = q.state-is; line-is = q.line-is; told_is = q.told_is; keeps = λ z. h.keeps (sym p.number ∙ z) }

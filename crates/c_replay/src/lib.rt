@@ -6,7 +6,7 @@
 ghost use Rattle.std.specs.Prelude.{◌≡◌, ◌≤◌, ◌++◌, length, take, drop, set};
 ghost use Rattle.page.specs.Page.{Puts};
 ghost use Rattle.replay_text.specs.Says.{line_of};
-ghost use Rattle.c_replay.specs.Calls.{isShort, startCall, feedCall, endCall};
+ghost use Rattle.c_replay.specs.Calls.{is_short, start_call, feed_call, end_call};
 ghost use Rattle.c_replay.specs.Promise.{Starts, Feeds, Ends};
 ghost use Rattle.c_replay.specs.Saying.{Room, Tells, Says, Heard};
 
@@ -20,7 +20,7 @@ enum Said {
 }
 
 fn is_short(line: usize, told: usize) -> bool
-    ensures { result ≡ isShort line told }
+    ensures { result ≡ is_short line told }
 {
     if told < 1 {
         return true;
@@ -71,7 +71,7 @@ fn tell(said: Said, line: &mut [u8], told: &mut [u64]) -> u32
 
 // A replay before any byte.
 pub fn start(state: &mut [u64]) -> u32
-    ensures { Starts (startCall state.old) result state.new }
+    ensures { Starts (start_call state.old) result state.new }
 {
     if state.len() < c_replay_state::table::WORDS {
         return 8;
@@ -108,7 +108,7 @@ fn heard(state: &mut [u64], lump: &[u8], short: bool) -> Said
 
 // A lump of bytes, which may be empty.
 pub fn feed(state: &mut [u64], lump: &[u8], line: &mut [u8], told: &mut [u64]) -> u32
-    ensures { Feeds state.old lump.now (feedCall state.old lump.now line.old told.old) result
+    ensures { Feeds state.old lump.now (feed_call state.old lump.now line.old told.old) result
         state.new line.new told.new }
 {
     let short = is_short(line.len(), told.len());
@@ -117,7 +117,7 @@ pub fn feed(state: &mut [u64], lump: &[u8], line: &mut [u8], told: &mut [u64]) -
 
 // The state after the end of input, which holds no replay, and what is to be said of it.
 fn closed(state: &mut [u64], short: bool) -> Said
-    ensures { Says (endCall state.old) short result state.new }
+    ensures { Says (end_call state.old) short result state.new }
 {
     if short {
         return Said::Nothing(8);
@@ -137,7 +137,7 @@ fn closed(state: &mut [u64], short: bool) -> Said
 
 // The end of input.
 pub fn end(state: &mut [u64], line: &mut [u8], told: &mut [u64]) -> u32
-    ensures { Ends (endCall state.old line.old told.old) result state.new line.new told.new }
+    ensures { Ends (end_call state.old line.old told.old) result state.new line.new told.new }
 {
     let short = is_short(line.len(), told.len());
     tell(closed(state, short), line, told)

@@ -12,7 +12,7 @@ use lib.ListN.{get_or, length}
 use Rattle.points.specs.declared.Map.{Map}
 use Rattle.points.specs.declared.Map.TheVariants.{Round, Square}
 use Rattle.points.specs.declared.Accord.{Accord}
-use Rattle.c_layout.specs.Accords.{number_of, accordWord}
+use Rattle.c_layout.specs.Accords.{number_of, accord_word}
 use Rattle.c_layout.proofs.AccordsBack.{accord-back}
 use Rattle.records.specs.declared.Stage.{Stage}
 use Rattle.records.specs.declared.Stage.TheVariants.{Fresh, Part, Whole, Bad}
@@ -22,26 +22,26 @@ use Rattle.records.specs.declared.Frame.{Frame}
 use Rattle.replay_judge.specs.declared.Verdict.{Verdict}
 use Rattle.replay_judge.specs.declared.Verdict.TheVariants.{Agree, Differs, Extra, Missing, Refused, Malformed}
 use Rattle.replay_judge.specs.declared.Judge.{Judge}
-use Rattle.c_replay_state.specs.Table.{half, accordLimit, limits, within}
-use Rattle.c_replay_state.specs.Numbers.{stageOf, stageNumber, phaseOf, phaseNumber, liveNumber, verdictIn, verdictNumber, count_of, gotOf, wantedOf, frameIn, coreIn, judgeIn, numbersOf}
+use Rattle.c_replay_state.specs.Table.{half, accord_limit, limits, within}
+use Rattle.c_replay_state.specs.Numbers.{stage_of, stage_number, phase_of, phase_number, live_number, verdict_in, verdict_number, count_of, got_of, wanted_of, frame_in, core_in, judge_in, numbers_of}
 
-stage-back : (s : Stage) → stageOf (stageNumber s) ≡ s
+stage-back : (s : Stage) → stage_of (stage_number s) ≡ s
 stage-back Fresh = refl
 stage-back Part = refl
 stage-back Whole = refl
 stage-back Bad = refl
 
-phase-back : (p : Phase) → phaseOf (phaseNumber p) ≡ p
+phase-back : (p : Phase) → phase_of (phase_number p) ≡ p
 phase-back Start = refl
 phase-back Opened = refl
 phase-back Running = refl
 phase-back Over = refl
 
-live_back : (b : Bool) → eqb (liveNumber b) 1 ≡ b
+live_back : (b : Bool) → eqb (live_number b) 1 ≡ b
 live_back true = refl
 live_back false = refl
 
-verdict-back : (v : Verdict) → verdictIn (verdictNumber v) (count_of v) (gotOf v) (wantedOf v) ≡ v
+verdict-back : (v : Verdict) → verdict_in (verdict_number v) (count_of v) (got_of v) (wanted_of v) ≡ v
 verdict-back (Agree n) = refl
 verdict-back (Differs n g h) = refl
 verdict-back (Extra n g) = refl
@@ -62,12 +62,12 @@ nine (a ∷ b ∷ c ∷ d ∷ e ∷ f ∷ g ∷ []) n = absurd (omega arith)
 nine (a ∷ b ∷ c ∷ d ∷ e ∷ f ∷ g ∷ h ∷ []) n = absurd (omega arith)
 nine (a ∷ b ∷ c ∷ d ∷ e ∷ f ∷ g ∷ h ∷ i ∷ j ∷ l) n = absurd (omega arith)
 
-pub frame_back : (f : Frame) (j : Judge) → length f.body ≡ 9 → frameIn (numbersOf f j) ≡ f
-unfolding frameIn numbersOf
+pub frame_back : (f : Frame) (j : Judge) → length f.body ≡ 9 → frame_in (numbers_of f j) ≡ f
+unfolding frame_in numbers_of
 frame_back f j n = λ i. record { stage = stage-back f.stage i; phase = phase-back f.phase i; kind = f.kind; have = f.have; body = nine f.body n i; at = f.at; fed = f.fed }
 
-pub judge-back : (f : Frame) (j : Judge) → j.core.accord.u ≤ half → judgeIn (numbersOf f j) ≡ j
-unfolding judgeIn coreIn numbersOf
+pub judge-back : (f : Frame) (j : Judge) → j.core.accord.u ≤ half → judge_in (numbers_of f j) ≡ j
+unfolding judge_in core_in numbers_of
 judge-back f j h =
     let a = accord-back j.core.accord (omega arith) in
     let c = j.core in
@@ -81,31 +81,31 @@ judge-back f j h =
       verdict = verdict-back j.verdict i;
     }
 
-accord-small : (k : Accord) → k.u ≤ half → accordWord k ≤ accordLimit
-unfolding accordWord
+accord-small : (k : Accord) → k.u ≤ half → accord_word k ≤ accord_limit
+unfolding accord_word
 accord-small k h = go k.map
   where
-    go : (n : Map) → number_of n * 2 ^ 32 + k.u ≤ accordLimit
+    go : (n : Map) → number_of n * 2 ^ 32 + k.u ≤ accord_limit
     go Round = omega arith
     go Square = omega arith
 
-stage-small : (s : Stage) → stageNumber s ≤ 3
+stage-small : (s : Stage) → stage_number s ≤ 3
 stage-small Fresh = omega arith
 stage-small Part = omega arith
 stage-small Whole = omega arith
 stage-small Bad = omega arith
 
-phase-small : (p : Phase) → phaseNumber p ≤ 3
+phase-small : (p : Phase) → phase_number p ≤ 3
 phase-small Start = omega arith
 phase-small Opened = omega arith
 phase-small Running = omega arith
 phase-small Over = omega arith
 
-live_small : (b : Bool) → liveNumber b ≤ 1
+live_small : (b : Bool) → live_number b ≤ 1
 live_small true = omega arith
 live_small false = omega arith
 
-verdict-small : (v : Verdict) → verdictNumber v ≤ 5
+verdict-small : (v : Verdict) → verdict_number v ≤ 5
 verdict-small (Agree n) = omega arith
 verdict-small (Differs n g h) = omega arith
 verdict-small (Extra n g) = omega arith
@@ -121,12 +121,12 @@ Bytes b =
 
 -- bytes are bytes, and numbers of 32 bits fit them
 pub fit : (f : Frame) (j : Judge) → f.kind ≤ 255 → Bytes f.body → j.core.accord.u ≤ half → j.core.turn ≤ half
-    → gotOf j.verdict ≤ half → wantedOf j.verdict ≤ half → within limits (numbersOf f j) ≡ true
-unfolding within numbersOf
+    → got_of j.verdict ≤ half → wanted_of j.verdict ≤ half → within limits (numbers_of f j) ≡ true
+unfolding within numbers_of
 fit f j k b u r g w =
     rw (
-      le-leb (stageNumber f.stage) 3 (stage-small f.stage),
-      le-leb (phaseNumber f.phase) 3 (phase-small f.phase),
+      le-leb (stage_number f.stage) 3 (stage-small f.stage),
+      le-leb (phase_number f.phase) 3 (phase-small f.phase),
       le-leb f.kind 255 k,
       le-leb (get_or f.body 0 0) 255 b.0,
       le-leb (get_or f.body 1 0) 255 b.1,
@@ -137,10 +137,10 @@ fit f j k b u r g w =
       le-leb (get_or f.body 6 0) 255 b.6,
       le-leb (get_or f.body 7 0) 255 b.7,
       le-leb (get_or f.body 8 0) 255 b.8,
-      le-leb (liveNumber j.live) 1 (live_small j.live),
-      le-leb (accordWord j.core.accord) accordLimit (accord-small j.core.accord u),
+      le-leb (live_number j.live) 1 (live_small j.live),
+      le-leb (accord_word j.core.accord) accord_limit (accord-small j.core.accord u),
       le-leb j.core.turn half r,
-      le-leb (verdictNumber j.verdict) 5 (verdict-small j.verdict),
-      le-leb (gotOf j.verdict) half g,
-      le-leb (wantedOf j.verdict) half w,
+      le-leb (verdict_number j.verdict) 5 (verdict-small j.verdict),
+      le-leb (got_of j.verdict) half g,
+      le-leb (wanted_of j.verdict) half w,
     )

@@ -15,35 +15,35 @@ use lib.ListN.{get_or, length, take, drop, length-append, length-drop, drop_of_l
 use lib.Seq.{take_at, drop_at, drop-drop, length-take-le}
 use Rattle.replay_judge.specs.declared.Judge.{Judge}
 use Rattle.replay_judge.specs.Judging.{State}
-use Rattle.replay.specs.Course.{Course, courseOf}
-use Rattle.c_replay_state.specs.Table.{replayTag, replayLength, sumsAt, registersAt, picksAt, due_at, limits, dueLimits, within, Small}
+use Rattle.replay.specs.Course.{Course, course_of}
+use Rattle.c_replay_state.specs.Table.{replay_tag, replay_length, sums_at, registers_at, picks_at, due_at, limits, due_limits, within, Small}
 use Rattle.c_layout.specs.Halves.{unpacked, packed, AllHalves}
 use Rattle.c_layout.proofs.Halves.{packed-length}
 use Rattle.c_layout.proofs.Halves as halves
 use Rattle.lists.proofs.Lent.{lent, back}
 use Rattle.c_replay_state.proofs.Limits.{few}
-use Rattle.c_replay_state.specs.Numbers.{frameIn, judgeIn, numbersOf}
+use Rattle.c_replay_state.specs.Numbers.{frame_in, judge_in, numbers_of}
 use Rattle.c_replay_state.proofs.NumbersBack.{frame_back, judge-back}
-use Rattle.c_replay_state.specs.Words.{numbersIn, dueIn, holdsReplay, courseIn, judgeOf, words_of, CourseStored}
+use Rattle.c_replay_state.specs.Words.{numbers_in, due_in, holds_replay, course_in, judge_of, words_of, CourseStored}
 
 module _ (ws : List ℕ) where
-  pub holds-short : length ws < replayLength → false ≡ holdsReplay ws
-  unfolding holdsReplay
-  holds-short h = rw (lt-leb replayLength (length ws) h)
+  pub holds-short : length ws < replay_length → false ≡ holds_replay ws
+  unfolding holds_replay
+  holds-short h = rw (lt-leb replay_length (length ws) h)
 
-  module _ (h : replayLength ≤ length ws) where
-    pub holds-other : (get_or ws 0 0 ≡ replayTag → ⊥) → false ≡ holdsReplay ws
-    unfolding holdsReplay
-    holds-other e = rw (le-leb replayLength (length ws) h, ne_eqb (get_or ws 0 0) replayTag e)
+  module _ (h : replay_length ≤ length ws) where
+    pub holds-other : (get_or ws 0 0 ≡ replay_tag → ⊥) → false ≡ holds_replay ws
+    unfolding holds_replay
+    holds-other e = rw (le-leb replay_length (length ws) h, ne_eqb (get_or ws 0 0) replay_tag e)
 
-    module _ (e : get_or ws 0 0 ≡ replayTag) where
-      pub holds-over : within limits (numbersIn ws) ≡ false → false ≡ holdsReplay ws
-      unfolding holdsReplay
-      holds-over k = rw (le-leb replayLength (length ws) h, eq-eqb (get_or ws 0 0) replayTag e, k)
+    module _ (e : get_or ws 0 0 ≡ replay_tag) where
+      pub holds-over : within limits (numbers_in ws) ≡ false → false ≡ holds_replay ws
+      unfolding holds_replay
+      holds-over k = rw (le-leb replay_length (length ws) h, eq-eqb (get_or ws 0 0) replay_tag e, k)
 
-      pub holds_by : within limits (numbersIn ws) ≡ true → within dueLimits (dueIn ws) ≡ holdsReplay ws
-      unfolding holdsReplay
-      holds_by k = rw (le-leb replayLength (length ws) h, eq-eqb (get_or ws 0 0) replayTag e, k)
+      pub holds_by : within limits (numbers_in ws) ≡ true → within due_limits (due_in ws) ≡ holds_replay ws
+      unfolding holds_replay
+      holds_by k = rw (le-leb replay_length (length ws) h, eq-eqb (get_or ws 0 0) replay_tag e, k)
 
 no : false ≡ true → ⊥
 no e = let z : ◌≡◌ {A = ℕ} 0 1 = cc in omega arith
@@ -53,22 +53,22 @@ split true b e = (refl, e)
 split false b e = absurd (no e)
 
 pub record Holding (ws : List ℕ) : Type 0 where
-  pub long : replayLength ≤ length ws
-  pub numbers : within limits (numbersIn ws) ≡ true
-  pub due : within dueLimits (dueIn ws) ≡ true
+  pub long : replay_length ≤ length ws
+  pub numbers : within limits (numbers_in ws) ≡ true
+  pub due : within due_limits (due_in ws) ≡ true
 
-pub holding : (ws : List ℕ) → holdsReplay ws ≡ true → Holding ws
-unfolding holdsReplay
+pub holding : (ws : List ℕ) → holds_replay ws ≡ true → Holding ws
+unfolding holds_replay
 holding ws e =
-    let a = split (leb replayLength (length ws)) _ e in
-    let b = split (eqb (get_or ws 0 0) replayTag) _ a.1 in
-    let c = split (within limits (numbersIn ws)) _ b.1 in
-    record { long = leb-true replayLength (length ws) a.0; numbers = c.0; due = c.1 }
+    let a = split (leb replay_length (length ws)) _ e in
+    let b = split (eqb (get_or ws 0 0) replay_tag) _ a.1 in
+    let c = split (within limits (numbers_in ws)) _ b.1 in
+    record { long = leb-true replay_length (length ws) a.0; numbers = c.0; due = c.1 }
 
 -- ---- there and back
 
 pub record CourseFits (c : Course) : Type 0 where
-  pub numbers : within limits (numbersOf c.frame (judgeOf c.state)) ≡ true
+  pub numbers : within limits (numbers_of c.frame (judge_of c.state)) ≡ true
   pub nine : length c.frame.body ≡ 9
   pub sums : length c.state.receiver.sums ≡ 16
   pub halves : AllHalves c.state.receiver.sums
@@ -83,16 +83,16 @@ module _ (c : Course) (rest : List ℕ) (f : CourseFits c) where
   s = c.state
 
   abbrev j : Judge
-  j = judgeOf s
+  j = judge_of s
 
   abbrev numbers : List ℕ
-  numbers = numbersOf c.frame j
+  numbers = numbers_of c.frame j
 
   abbrev words : List ℕ
   words = words_of c ++ rest
 
   sized : length numbers ≡ 28
-  unfolding numbersOf
+  unfolding numbers_of
   sized = refl
 
   -- the five parts behind the tag, and what stands behind them
@@ -100,26 +100,26 @@ module _ (c : Course) (rest : List ℕ) (f : CourseFits c) where
   unfolding words_of
   parts = simp append_assoc
 
-  sums_at : drop 29 words ≡ packed s.receiver.sums ++ (s.receiver.registers ++ (s.receiver.picks ++ (s.due ++ rest)))
-  sums_at = sym (drop-drop 28 1 words) ∙ ap (λ (l : List ℕ). drop 28 l) parts ∙ drop_at numbers _ 28 sized
+  sums_at_lem : drop 29 words ≡ packed s.receiver.sums ++ (s.receiver.registers ++ (s.receiver.picks ++ (s.due ++ rest)))
+  sums_at_lem = sym (drop-drop 28 1 words) ∙ ap (λ (l : List ℕ). drop 28 l) parts ∙ drop_at numbers _ 28 sized
 
   registers-at : drop 37 words ≡ s.receiver.registers ++ (s.receiver.picks ++ (s.due ++ rest))
-  registers-at = sym (drop-drop 8 29 words) ∙ ap (λ (l : List ℕ). drop 8 l) sums_at ∙ drop_at (packed s.receiver.sums) _ 8 (packed-length s.receiver.sums)
+  registers-at = sym (drop-drop 8 29 words) ∙ ap (λ (l : List ℕ). drop 8 l) sums_at_lem ∙ drop_at (packed s.receiver.sums) _ 8 (packed-length s.receiver.sums)
 
-  picks_at : drop 85 words ≡ s.receiver.picks ++ (s.due ++ rest)
-  picks_at = sym (drop-drop 48 37 words) ∙ ap (λ (l : List ℕ). drop 48 l) registers-at ∙ drop_at s.receiver.registers _ 48 f.registers
+  picks_at_lem : drop 85 words ≡ s.receiver.picks ++ (s.due ++ rest)
+  picks_at_lem = sym (drop-drop 48 37 words) ∙ ap (λ (l : List ℕ). drop 48 l) registers-at ∙ drop_at s.receiver.registers _ 48 f.registers
 
   due-at : drop 157 words ≡ s.due ++ rest
-  due-at = sym (drop-drop 72 85 words) ∙ ap (λ (l : List ℕ). drop 72 l) picks_at ∙ drop_at s.receiver.picks _ 72 f.picks
+  due-at = sym (drop-drop 72 85 words) ∙ ap (λ (l : List ℕ). drop 72 l) picks_at_lem ∙ drop_at s.receiver.picks _ 72 f.picks
 
-  numbers-in : numbersIn words ≡ numbers
+  numbers-in : numbers_in words ≡ numbers
   numbers-in = ap (λ (l : List ℕ). take 28 l) parts ∙ take_at numbers _ 28 sized
 
-  due_in : dueIn words ≡ s.due
-  due_in = ap (λ (l : List ℕ). take 65 l) due-at ∙ take_at s.due rest 65 f.due
+  due_in_lem : due_in words ≡ s.due
+  due_in_lem = ap (λ (l : List ℕ). take 65 l) due-at ∙ take_at s.due rest 65 f.due
 
-  long : replayLength ≤ length words
-  unfolding words_of numbersOf
+  long : replay_length ≤ length words
+  unfolding words_of numbers_of
   long =
       rw (
         length-append (words_of c) rest,
@@ -134,34 +134,34 @@ module _ (c : Course) (rest : List ℕ) (f : CourseFits c) where
       )
       (omega arith)
 
-  tagged : get_or words 0 0 ≡ replayTag
+  tagged : get_or words 0 0 ≡ replay_tag
   unfolding words_of
   tagged = refl
 
-  due-few : within dueLimits (dueIn words) ≡ true
-  due-few = ap (λ (l : List ℕ). within dueLimits l) due_in ∙ few 65 s.due (omega (arith, f.due)) f.small
+  due-few : within due_limits (due_in words) ≡ true
+  due-few = ap (λ (l : List ℕ). within due_limits l) due_in_lem ∙ few 65 s.due (omega (arith, f.due)) f.small
 
-  all_fit : within limits (numbersIn words) ≡ true
+  all_fit : within limits (numbers_in words) ≡ true
   all_fit = ap (λ (l : List ℕ). within limits l) numbers-in ∙ f.numbers
 
-  pub holds-back : holdsReplay words ≡ true
+  pub holds-back : holds_replay words ≡ true
   holds-back = sym (holds_by words long tagged all_fit) ∙ due-few
 
-  pub course-back : courseIn words ≡ c
-  unfolding courseIn
+  pub course-back : course_in words ≡ c
+  unfolding course_in
   course-back =
-      let a : frameIn (numbersIn words) ≡ c.frame = ap frameIn numbers-in ∙ frame_back c.frame j f.nine in
-      let b : judgeIn (numbersIn words) ≡ j = ap judgeIn numbers-in ∙ judge-back c.frame j f.width in
-      let h : take 8 (drop sumsAt words) ≡ packed s.receiver.sums = ap (λ (l : List ℕ). take 8 l) sums_at ∙ take_at (packed s.receiver.sums) _ 8 (packed-length s.receiver.sums) in
-      let p : unpacked (take 8 (drop sumsAt words)) ≡ s.receiver.sums = ap unpacked h ∙ halves.back s.receiver.sums f.halves f.sums in
-      let q : take 48 (drop registersAt words) ≡ s.receiver.registers = ap (λ (l : List ℕ). take 48 l) registers-at ∙ take_at s.receiver.registers _ 48 f.registers in
-      let r : take 72 (drop picksAt words) ≡ s.receiver.picks = ap (λ (l : List ℕ). take 72 l) picks_at ∙ take_at s.receiver.picks _ 72 f.picks in
-      λ i. courseOf (a i) (b i) (p i) (q i) (r i) (due_in i)
+      let a : frame_in (numbers_in words) ≡ c.frame = ap frame_in numbers-in ∙ frame_back c.frame j f.nine in
+      let b : judge_in (numbers_in words) ≡ j = ap judge_in numbers-in ∙ judge-back c.frame j f.width in
+      let h : take 8 (drop sums_at words) ≡ packed s.receiver.sums = ap (λ (l : List ℕ). take 8 l) sums_at_lem ∙ take_at (packed s.receiver.sums) _ 8 (packed-length s.receiver.sums) in
+      let p : unpacked (take 8 (drop sums_at words)) ≡ s.receiver.sums = ap unpacked h ∙ halves.back s.receiver.sums f.halves f.sums in
+      let q : take 48 (drop registers_at words) ≡ s.receiver.registers = ap (λ (l : List ℕ). take 48 l) registers-at ∙ take_at s.receiver.registers _ 48 f.registers in
+      let r : take 72 (drop picks_at words) ≡ s.receiver.picks = ap (λ (l : List ℕ). take 72 l) picks_at_lem ∙ take_at s.receiver.picks _ 72 f.picks in
+      λ i. course_of (a i) (b i) (p i) (q i) (r i) (due_in_lem i)
 
-pub course-stored : (c : Course) (l : List ℕ) {o : List ℕ} → CourseFits c → o ≡ words_of c ++ drop replayLength l → CourseStored c l o
+pub course-stored : (c : Course) (l : List ℕ) {o : List ℕ} → CourseFits c → o ≡ words_of c ++ drop replay_length l → CourseStored c l o
 course-stored c l f e =
-    let rest = drop replayLength l in
-    record { words = e; holds = ap holdsReplay e ∙ holds-back c rest f; reads = ap courseIn e ∙ course-back c rest f }
+    let rest = drop replay_length l in
+    record { words = e; holds = ap holds_replay e ∙ holds-back c rest f; reads = ap course_in e ∙ course-back c rest f }
 
 -- ---- one part after the other
 
@@ -191,9 +191,9 @@ got ws z a e k h is =
     filled (take (e - a) (drop a ws)) z m is ∙ ap (λ (x : ℕ). take x (drop a ws)) n
 
 -- the parts of a replay, put one after the other
-pub lists-put : (l sums registers picks : List ℕ) {o₁ o₂ o₃ : List ℕ} → sumsAt ≤ length l → length sums ≡ 8 → length registers ≡ 48 → length picks ≡ 72
+pub lists-put : (l sums registers picks : List ℕ) {o₁ o₂ o₃ : List ℕ} → sums_at ≤ length l → length sums ≡ 8 → length registers ≡ 48 → length picks ≡ 72
     → o₁ ≡ take 29 l ++ (sums ++ drop (29 + length sums) l) → o₂ ≡ take 37 o₁ ++ (registers ++ drop (37 + length registers) o₁) → o₃ ≡ take 85 o₂ ++ (picks ++ drop (85 + length picks) o₂)
-    → o₃ ≡ take sumsAt l ++ (sums ++ (registers ++ (picks ++ drop due_at l)))
+    → o₃ ≡ take sums_at l ++ (sums ++ (registers ++ (picks ++ drop due_at l)))
 lists-put l sums registers picks {o₁} {o₂} {o₃} h a b c e₁ e₂ e₃ =
     let p : length (take 29 l) ≡ 29 = length-take-le 29 l h in
     let q : length (take 29 l ++ sums) ≡ 37 = length-append (take 29 l) sums ∙ omega arith in
@@ -203,9 +203,9 @@ lists-put l sums registers picks {o₁} {o₂} {o₃} h a b c e₁ e₂ e₃ =
     let f₃ : o₃ ≡ (((take 29 l ++ sums) ++ registers) ++ picks) ++ drop 157 l = grown l ((take 29 l ++ sums) ++ registers) picks 85 72 r c f₂ e₃ in
     f₃ ∙ simp append_assoc
 
-pub all-put : (c : Course) (l : List ℕ) {ns o₁ o₂ o₃ o₄ : List ℕ} → replayLength ≤ length l → CourseFits c
-    → o₁ ≡ take 0 l ++ ((replayTag ∷ []) ++ drop 1 l)
-    → ns ≡ numbersOf c.frame (judgeOf c.state) → o₂ ≡ take 1 o₁ ++ (ns ++ drop (1 + length ns) o₁)
+pub all-put : (c : Course) (l : List ℕ) {ns o₁ o₂ o₃ o₄ : List ℕ} → replay_length ≤ length l → CourseFits c
+    → o₁ ≡ take 0 l ++ ((replay_tag ∷ []) ++ drop 1 l)
+    → ns ≡ numbers_of c.frame (judge_of c.state) → o₂ ≡ take 1 o₁ ++ (ns ++ drop (1 + length ns) o₁)
     → o₃ ≡ take 29 o₂ ++ (packed c.state.receiver.sums ++ (c.state.receiver.registers ++ (c.state.receiver.picks ++ drop 157 o₂)))
     → o₄ ≡ take 157 o₃ ++ (c.state.due ++ drop (157 + length c.state.due) o₃)
     → CourseStored c l o₄
@@ -214,16 +214,16 @@ all-put c l {ns} {o₁} {o₂} {o₃} {o₄} h f e₁ e e₂ e₃ e₄ =
     let s = c.state in
     let rx = s.receiver in
     let n : length ns ≡ 28 = ap length e ∙ sized c [] f in
-    let g₁ : o₂ ≡ (replayTag ∷ ns) ++ drop 29 l = grown l (replayTag ∷ []) ns 1 28 refl n e₁ e₂ in
-    let m : length (replayTag ∷ ns) ≡ 29 = omega arith in
+    let g₁ : o₂ ≡ (replay_tag ∷ ns) ++ drop 29 l = grown l (replay_tag ∷ []) ns 1 28 refl n e₁ e₂ in
+    let m : length (replay_tag ∷ ns) ≡ 29 = omega arith in
     let sums = packed rx.sums in
     let lists = sums ++ (rx.registers ++ rx.picks) in
     let k : length lists ≡ 128 = length-append sums (rx.registers ++ rx.picks) ∙ rw (length-append rx.registers rx.picks, packed-length rx.sums, f.registers, f.picks) (omega arith) in
-    let front : take 29 o₂ ≡ replayTag ∷ ns = ap (λ (x : List ℕ). take 29 x) g₁ ∙ take_at (replayTag ∷ ns) (drop 29 l) 29 m in
+    let front : take 29 o₂ ≡ replay_tag ∷ ns = ap (λ (x : List ℕ). take 29 x) g₁ ∙ take_at (replay_tag ∷ ns) (drop 29 l) 29 m in
     let behind : drop 157 o₂ ≡ drop 157 l =
-    sym (drop-drop 128 29 o₂) ∙ ap (λ (x : List ℕ). drop 128 (drop 29 x)) g₁ ∙ ap (λ (x : List ℕ). drop 128 x) (drop_at (replayTag ∷ ns) (drop 29 l) 29 m) ∙ drop-drop 128 29 l in
-    let g₂ : o₃ ≡ ((replayTag ∷ ns) ++ lists) ++ drop 157 l = e₃ ∙ (λ i. front i ++ (sums ++ (rx.registers ++ (rx.picks ++ behind i)))) ∙ simp append_assoc in
-    let q : length ((replayTag ∷ ns) ++ lists) ≡ 157 = length-append (replayTag ∷ ns) lists ∙ omega arith in
-    let g₃ : o₄ ≡ (((replayTag ∷ ns) ++ lists) ++ s.due) ++ drop 222 l = grown l ((replayTag ∷ ns) ++ lists) s.due 157 65 q f.due g₂ e₄ in
-    let whole : o₄ ≡ (replayTag ∷ (ns ++ (sums ++ (rx.registers ++ (rx.picks ++ s.due))))) ++ drop 222 l = g₃ ∙ simp append_assoc in
-    course-stored c l f (whole ∙ ap (λ (m : List ℕ). (replayTag ∷ (m ++ (sums ++ (rx.registers ++ (rx.picks ++ s.due))))) ++ drop 222 l) e)
+    sym (drop-drop 128 29 o₂) ∙ ap (λ (x : List ℕ). drop 128 (drop 29 x)) g₁ ∙ ap (λ (x : List ℕ). drop 128 x) (drop_at (replay_tag ∷ ns) (drop 29 l) 29 m) ∙ drop-drop 128 29 l in
+    let g₂ : o₃ ≡ ((replay_tag ∷ ns) ++ lists) ++ drop 157 l = e₃ ∙ (λ i. front i ++ (sums ++ (rx.registers ++ (rx.picks ++ behind i)))) ∙ simp append_assoc in
+    let q : length ((replay_tag ∷ ns) ++ lists) ≡ 157 = length-append (replay_tag ∷ ns) lists ∙ omega arith in
+    let g₃ : o₄ ≡ (((replay_tag ∷ ns) ++ lists) ++ s.due) ++ drop 222 l = grown l ((replay_tag ∷ ns) ++ lists) s.due 157 65 q f.due g₂ e₄ in
+    let whole : o₄ ≡ (replay_tag ∷ (ns ++ (sums ++ (rx.registers ++ (rx.picks ++ s.due))))) ++ drop 222 l = g₃ ∙ simp append_assoc in
+    course-stored c l f (whole ∙ ap (λ (m : List ℕ). (replay_tag ∷ (m ++ (sums ++ (rx.registers ++ (rx.picks ++ s.due))))) ++ drop 222 l) e)

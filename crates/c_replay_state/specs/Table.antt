@@ -1,44 +1,44 @@
 -- Where the parts of a replay stand in its words: the table of src/lib.rt.
---   replayTag                  word 0: what the state is
---   replayLength               how many words a replay has
---   sumsAt, registersAt, picksAt, due_at   where its lists begin, after the tag and the 28 numbers
---   accordLimit, limits, dueLimits   the most that a number and a word that is due may be
+--   replay_tag                  word 0: what the state is
+--   replay_length               how many words a replay has
+--   sums_at, registers_at, picks_at, due_at   where its lists begin, after the tag and the 28 numbers
+--   accord_limit, limits, due_limits   the most that a number and a word that is due may be
 --   within ls ws               each word is at most its limit
 --   Small ws                   each word fits 32 bits
 use Rattle.std.specs.Prelude.{ℕ, ◌≤◌, Bool, true, false, ◌&&◌, List, [], ◌∷◌, leb, get_or, replicate}
 
 -- the letters "demf", "rp", and the number of the layout
-abbrev pub replayTag : ℕ
-replayTag = 0x64656d6672700004
+abbrev pub replay_tag : ℕ
+replay_tag = 0x64656d6672700004
 
-abbrev pub sumsAt : ℕ
-sumsAt = 29
+abbrev pub sums_at : ℕ
+sums_at = 29
 
-abbrev pub registersAt : ℕ
-registersAt = 37
+abbrev pub registers_at : ℕ
+registers_at = 37
 
-abbrev pub picksAt : ℕ
-picksAt = 85
+abbrev pub picks_at : ℕ
+picks_at = 85
 
 abbrev pub due_at : ℕ
 due_at = 157
 
-abbrev pub replayLength : ℕ
-replayLength = 222
+abbrev pub replay_length : ℕ
+replay_length = 222
 
 abbrev pub half : ℕ
 half = 4294967295
 
 -- a map, 0 or 1, in the upper half, and a width in the lower
-abbrev pub accordLimit : ℕ
-accordLimit = 8589934591
+abbrev pub accord_limit : ℕ
+accord_limit = 8589934591
 
 -- stage, phase, kind, nine bytes of a body, live, map and width, turn, which verdict, and two words of it
 abbrev pub limits : List ℕ
-limits = 3 ∷ 3 ∷ 255 ∷ 255 ∷ 255 ∷ 255 ∷ 255 ∷ 255 ∷ 255 ∷ 255 ∷ 255 ∷ 255 ∷ 1 ∷ accordLimit ∷ half ∷ 5 ∷ half ∷ half ∷ []
+limits = 3 ∷ 3 ∷ 255 ∷ 255 ∷ 255 ∷ 255 ∷ 255 ∷ 255 ∷ 255 ∷ 255 ∷ 255 ∷ 255 ∷ 1 ∷ accord_limit ∷ half ∷ 5 ∷ half ∷ half ∷ []
 
-abbrev pub dueLimits : List ℕ
-dueLimits = replicate 65 half
+abbrev pub due_limits : List ℕ
+due_limits = replicate 65 half
 
 unfoldable pub within : List ℕ → List ℕ → Bool
 within [] ws = true

@@ -5,14 +5,14 @@ pub mod numbers;
 pub mod table;
 
 ghost use Rattle.std.specs.Prelude.{◌≡◌, true, ◌+◌, ◌≤◌, length, take, drop};
-ghost use Rattle.c_replay_state.specs.Table.{replayLength, due_at, Small};
-ghost use Rattle.replay.specs.Course.{replayOf};
-ghost use Rattle.c_replay_state.specs.Words.{holdsReplay, courseIn, PutAt, ListsPut, CourseStored};
+ghost use Rattle.c_replay_state.specs.Table.{replay_length, due_at, Small};
+ghost use Rattle.replay.specs.Course.{replay_of};
+ghost use Rattle.c_replay_state.specs.Words.{holds_replay, course_in, PutAt, ListsPut, CourseStored};
 
 use replay::Replay;
 
 pub fn holds_replay(words: &[u64]) -> bool
-    ensures { result ≡ holdsReplay words.now }
+    ensures { result ≡ holds_replay words.now }
 {
     if words.len() < table::WORDS {
         return false;
@@ -39,8 +39,8 @@ fn get(words: &[u64], at: usize, to: &mut [u64])
 
 // The replay that the words hold.
 pub fn load(words: &[u64]) -> Replay
-    requires { holdsReplay words.now ≡ true }
-    ensures { replayOf result ≡ courseIn words.now }
+    requires { holds_replay words.now ≡ true }
+    ensures { replay_of result ≡ course_in words.now }
 {
     let mut numbers = [0u64; 28];
     let mut halves = [0u64; 8];
@@ -91,8 +91,8 @@ fn put_lists(sums: [u32; 16], registers: [u64; 48], picks: [u64; 72], words: &mu
 
 // Puts a replay into its words.
 pub fn store(r: Replay, words: &mut [u64])
-    requires { replayLength ≤ length words.old }
-    ensures { CourseStored (replayOf r) words.old words.new }
+    requires { replay_length ≤ length words.old }
+    ensures { CourseStored (replay_of r) words.old words.new }
 {
     let frame = r.frame;
     let judge = r.judge;

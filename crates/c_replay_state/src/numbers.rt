@@ -2,14 +2,14 @@
 // which number stands for which stage, phase and verdict is said here.
 ghost use Rattle.std.specs.Prelude.{◌≡◌, true, ◌<◌, get_or};
 ghost use Rattle.c_replay_state.specs.Table.{limits, within};
-ghost use Rattle.c_replay_state.specs.Numbers.{stageOf, stageNumber, phaseOf, phaseNumber, verdictIn, verdictNumber, count_of, gotOf, wantedOf, liveNumber, frameIn, coreIn, judgeIn, numbersOf};
+ghost use Rattle.c_replay_state.specs.Numbers.{stage_of, stage_number, phase_of, phase_number, verdict_in, verdict_number, count_of, got_of, wanted_of, live_number, frame_in, core_in, judge_in, numbers_of};
 
 use machine::Core;
 use records::{Frame, Phase, Stage};
 use replay_judge::{Judge, Verdict};
 
 fn stage_of(n: u64) -> Stage
-    ensures { result ≡ stageOf n }
+    ensures { result ≡ stage_of n }
 {
     if n == 0 {
         return Stage::Fresh;
@@ -24,7 +24,7 @@ fn stage_of(n: u64) -> Stage
 }
 
 fn phase_of(n: u64) -> Phase
-    ensures { result ≡ phaseOf n }
+    ensures { result ≡ phase_of n }
 {
     if n == 0 {
         return Phase::Start;
@@ -39,7 +39,7 @@ fn phase_of(n: u64) -> Phase
 }
 
 fn verdict_of(k: u64, n: u64, g: u32, h: u32) -> Verdict
-    ensures { result ≡ verdictIn k n g h }
+    ensures { result ≡ verdict_in k n g h }
 {
     if k == 0 {
         return Verdict::Agree(n);
@@ -61,7 +61,7 @@ fn verdict_of(k: u64, n: u64, g: u32, h: u32) -> Verdict
 
 pub fn frame_of(numbers: [u64; 28]) -> Frame
     requires { within limits numbers ≡ true }
-    ensures { result ≡ frameIn numbers }
+    ensures { result ≡ frame_in numbers }
 {
     Frame {
         stage: stage_of(numbers[crate::table::STAGE]),
@@ -86,7 +86,7 @@ pub fn frame_of(numbers: [u64; 28]) -> Frame
 
 fn core_of(numbers: [u64; 28]) -> Core
     requires { within limits numbers ≡ true }
-    ensures { result ≡ coreIn numbers }
+    ensures { result ≡ core_in numbers }
 {
     Core {
         accord: c_layout::accord_in(numbers[crate::table::ACCORD]),
@@ -99,7 +99,7 @@ fn core_of(numbers: [u64; 28]) -> Core
 
 pub fn judge_of(numbers: [u64; 28]) -> Judge
     requires { within limits numbers ≡ true }
-    ensures { result ≡ judgeIn numbers }
+    ensures { result ≡ judge_in numbers }
 {
     let g = numbers[crate::table::GOT] as u32;
     let h = numbers[crate::table::WANTED] as u32;
@@ -119,7 +119,7 @@ pub fn judge_of(numbers: [u64; 28]) -> Judge
 }
 
 fn stage_number(s: Stage) -> u64
-    ensures { result ≡ stageNumber s }
+    ensures { result ≡ stage_number s }
 {
     match s {
         Stage::Fresh => 0,
@@ -130,7 +130,7 @@ fn stage_number(s: Stage) -> u64
 }
 
 fn phase_number(p: Phase) -> u64
-    ensures { result ≡ phaseNumber p }
+    ensures { result ≡ phase_number p }
 {
     match p {
         Phase::Start => 0,
@@ -141,7 +141,7 @@ fn phase_number(p: Phase) -> u64
 }
 
 fn verdict_number(v: Verdict) -> u64
-    ensures { result ≡ verdictNumber v }
+    ensures { result ≡ verdict_number v }
 {
     match v {
         Verdict::Agree(_) => 0,
@@ -169,7 +169,7 @@ fn count_of(v: Verdict) -> u64
 
 // The word that was recorded.
 fn got_of(v: Verdict) -> u32
-    ensures { result ≡ gotOf v }
+    ensures { result ≡ got_of v }
 {
     match v {
         Verdict::Agree(_) => 0,
@@ -183,7 +183,7 @@ fn got_of(v: Verdict) -> u32
 
 // The word that was wanted, or the number of a refusal.
 fn wanted_of(v: Verdict) -> u32
-    ensures { result ≡ wantedOf v }
+    ensures { result ≡ wanted_of v }
 {
     match v {
         Verdict::Agree(_) => 0,
@@ -196,7 +196,7 @@ fn wanted_of(v: Verdict) -> u32
 }
 
 fn live_number(live: bool) -> u64
-    ensures { result ≡ liveNumber live }
+    ensures { result ≡ live_number live }
 {
     if live { 1 } else { 0 }
 }
@@ -210,7 +210,7 @@ fn byte(body: [u8; 9], i: usize) -> u8
 }
 
 pub fn numbers_of(f: Frame, j: Judge) -> [u64; 28]
-    ensures { (result ≡ numbersOf f j) × (within limits result ≡ true) }
+    ensures { (result ≡ numbers_of f j) × (within limits result ≡ true) }
 {
     let stage = f.stage;
     let phase = f.phase;

@@ -10,8 +10,8 @@ use native.Mathlib.Omega.{arith}
 use borrow.Author.Tests.{eq-eqb, ne_eqb, eqb-false}
 use lib.Dec.{eqb}
 use lib.ListN.{get_or, length, get_or-eq_default}
-use Rattle.lists.specs.UpTo.{allUpTo}
-use Rattle.c_samples.specs.Calls.{marksFit}
+use Rattle.lists.specs.UpTo.{all_up_to}
+use Rattle.c_samples.specs.Calls.{marks_fit}
 
 -- no mark past the end of the list
 pub not-marked : (ms : List ℕ) (j : ℕ) → (eqb (get_or ms j 0) 1 ≡ false) ⊎ (length ms ≤ j) → get_or ms j 0 ≡ 1 → ⊥
@@ -19,11 +19,11 @@ not-marked ms j (inl e) h = eqb-false (get_or ms j 0) 1 e h
 not-marked ms j (inr l) h = omega (arith, get_or-eq_default ms 0 l, h)
 
 module _ (ms : List ℕ) (n : ℕ) where
-  pub odd : (n % 2 ≡ 0 → ⊥) → marksFit ms n ≡ false
+  pub odd : (n % 2 ≡ 0 → ⊥) → marks_fit ms n ≡ false
   odd h = rw (ne_eqb n (2 * length ms) (λ e. h (omega (arith, e))))
 
-  pub another-count : n % 2 ≡ 0 → (n / 2 ≡ length ms → ⊥) → marksFit ms n ≡ false
+  pub another-count : n % 2 ≡ 0 → (n / 2 ≡ length ms → ⊥) → marks_fit ms n ≡ false
   another-count h k = rw (ne_eqb n (2 * length ms) (λ e. k (omega (arith, e))))
 
-  pub one_each : n % 2 ≡ 0 → n / 2 ≡ length ms → marksFit ms n ≡ allUpTo 1 ms
+  pub one_each : n % 2 ≡ 0 → n / 2 ≡ length ms → marks_fit ms n ≡ all_up_to 1 ms
   one_each h k = rw (eq-eqb n (2 * length ms) (omega (arith, h, k)))

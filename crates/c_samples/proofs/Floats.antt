@@ -21,38 +21,38 @@ use lib.Seq.{drop-cons, drop-drop, get_or-drop, length-take-le, take_at, drop_at
 use Rattle.samples.specs.declared.Marked.{Marked}
 use Rattle.samples.specs.declared.Sampled.{Sampled}
 use Rattle.samples.specs.declared.Sampled.TheVariants as sampled
-use Rattle.samples.specs.Heard.{heardSample}
-use Rattle.samples.specs.Sampled.{GivenSampled, markedGiven, heardSampled}
+use Rattle.samples.specs.Heard.{heard_sample}
+use Rattle.samples.specs.Sampled.{GivenSampled, marked_given, heard_sampled}
 use Rattle.c_samples.specs.declared.Heard.{Heard}
-use Rattle.c_samples.specs.Counts.{toldOf}
-use Rattle.c_samples.specs.Calls.{sampleCall, samplesWith, sampleIn, Conversion, converting, listCall}
+use Rattle.c_samples.specs.Counts.{told_of}
+use Rattle.c_samples.specs.Calls.{sample_call, samples_with, sample_in, Conversion, converting, list_call}
 use Rattle.c_samples.specs.Promise.{HeardIs, Samples, ConvertsTo, Converts}
 
 -- ---- one sample
 
-pub heard-marked : (p q : Marked) (g : GivenSampled) (r : Heard) → markedGiven p ≡ g → p ≡ q → HeardIs (markedGiven q).given r → HeardIs g.given r
-heard-marked p q g r e f h = subst (λ (g : GivenSampled). HeardIs g.given r) (ap markedGiven (sym f) ∙ e) h
+pub heard-marked : (p q : Marked) (g : GivenSampled) (r : Heard) → marked_given p ≡ g → p ≡ q → HeardIs (marked_given q).given r → HeardIs g.given r
+heard-marked p q g r e f h = subst (λ (g : GivenSampled). HeardIs g.given r) (ap marked_given (sym f) ∙ e) h
 
 module _ (x y : Float) (out : List ℤ) where
-  pub sample-short : length out < 3 → Samples (sampleCall x y out) 8 out
-  unfolding sampleCall
+  pub sample-short : length out < 3 → Samples (sample_call x y out) 8 out
+  unfolding sample_call
   sample-short h = rw (lt-ltb (length out) 3 h) (record { number = refl; out-is = refl })
 
-  pub sample-by : (r : Heard) (o : List ℤ) → 3 ≤ length out → HeardIs (heardSample x y) r → o ≡ set (set (set out 0 r.x) 1 r.y) 2 (pos r.place) → Samples (sampleCall x y out) r.number o
-  unfolding sampleCall
+  pub sample-by : (r : Heard) (o : List ℤ) → 3 ≤ length out → HeardIs (heard_sample x y) r → o ≡ set (set (set out 0 r.x) 1 r.y) 2 (pos r.place) → Samples (sample_call x y out) r.number o
+  unfolding sample_call
   sample-by r o h is f = rw (le-ltb (length out) 3 h) (record { number = is.number; out-is = f ∙ sets-eq (r.x ∷ r.y ∷ pos r.place ∷ []) out 0 h ∙ rw (is.x-is, is.y-is, is.place) })
 
 -- ---- a list of samples
 
-pub sample-missing : (ms : List ℕ) (fs : List Float) (i : ℕ) → eqb (get_or ms (i / 2) 0) 1 ≡ true → sampled.Missing ≡ sampleIn ms fs i
+pub sample-missing : (ms : List ℕ) (fs : List Float) (i : ℕ) → eqb (get_or ms (i / 2) 0) 1 ≡ true → sampled.Missing ≡ sample_in ms fs i
 sample-missing ms fs i e = sym (rw e)
 
-pub sample-heard : (ms : List ℕ) (fs : List Float) (i : ℕ) → (get_or ms (i / 2) 0 ≡ 1 → ⊥) → sampled.Heard (get_or fs i nan) (get_or fs (i + 1) nan) ≡ sampleIn ms fs i
+pub sample-heard : (ms : List ℕ) (fs : List Float) (i : ℕ) → (get_or ms (i / 2) 0 ≡ 1 → ⊥) → sampled.Heard (get_or fs i nan) (get_or fs (i + 1) nan) ≡ sample_in ms fs i
 sample-heard ms fs i e = sym (rw (ne_eqb (get_or ms (i / 2) 0) 1 e))
 
 -- fewer than two floats are no sample
-too_few : (ms : List ℕ) (fs : List Float) → length fs < 2 → samplesWith ms fs ≡ []
-unfolding samplesWith
+too_few : (ms : List ℕ) (fs : List Float) → length fs < 2 → samples_with ms fs ≡ []
+unfolding samples_with
 too_few ms [] h = refl
 too_few ms (x ∷ []) h = refl
 too_few ms (x ∷ y ∷ fs) h = absurd (omega arith)
@@ -63,14 +63,14 @@ pub record Going (fs : List Float) (ms : List ℕ) (out₀ out : List ℤ) (i : 
   pub room : i ≤ length out₀
   pub long : length out ≡ length out₀
   pub rest : drop i out ≡ drop i out₀
-  pub same : converting (samplesWith ms fs) [] (length out₀) ≡ converting (samplesWith (drop (i / 2) ms) (drop i fs)) (take i out) (length out₀)
+  pub same : converting (samples_with ms fs) [] (length out₀) ≡ converting (samples_with (drop (i / 2) ms) (drop i fs)) (take i out) (length out₀)
 
 pub start : (fs : List Float) (ms : List ℕ) (out : List ℤ) → Going fs ms out out 0
 start fs ms out = record { aligned = omega arith; within = omega arith; room = omega arith; long = refl; rest = refl; same = refl }
 
 module _ (fs : List Float) (ms : List ℕ) (out₀ out : List ℤ) (i : ℕ) (is : Going fs ms out₀ out i) where
   abbrev all : Conversion
-  all = converting (samplesWith ms fs) [] (length out₀)
+  all = converting (samples_with ms fs) [] (length out₀)
 
   -- what is written is the first i places
   written : length (take i out) ≡ i
@@ -86,31 +86,31 @@ module _ (fs : List Float) (ms : List ℕ) (out₀ out : List ℤ) (i : ℕ) (is
   unfolding converting
   end h = stops 0 0 (is.same ∙ rw (too_few (drop (i / 2) ms) (drop i fs) (simp length-drop (omega arith))))
 
-  module _ (s : Sampled) (r : Heard) (more : i + 1 < length fs) (here : s ≡ sampleIn ms fs i)
-      (hears : HeardIs (heardSampled s).given r) where
+  module _ (s : Sampled) (r : Heard) (more : i + 1 < length fs) (here : s ≡ sample_in ms fs i)
+      (hears : HeardIs (heard_sampled s).given r) where
     split : drop i fs ≡ get_or fs i nan ∷ get_or fs (i + 1) nan ∷ drop (i + 2) fs
     split =
         let a : i + 2 ≡ suc (suc i) = omega arith in
         drop-cons fs i nan (omega arith) ∙ ap (λ l. get_or fs i nan ∷ l) (drop-cons fs (suc i) nan (omega arith)) ∙ rw (a, add-one i)
 
-    samples : samplesWith (drop (i / 2) ms) (drop i fs) ≡ s ∷ samplesWith (drop ((i + 2) / 2) ms) (drop (i + 2) fs)
-    unfolding samplesWith
+    samples : samples_with (drop (i / 2) ms) (drop i fs) ≡ s ∷ samples_with (drop ((i + 2) / 2) ms) (drop (i + 2) fs)
+    unfolding samples_with
     samples =
         let e : i / 2 + 0 ≡ i / 2 = omega arith in
         let n : i / 2 + 1 ≡ (i + 2) / 2 = omega arith in
         rw (split, get_or-drop (i / 2) ms 0 0, e, here, drop-drop 1 (i / 2) ms, n)
 
     abbrev at : Conversion
-    at = converting (s ∷ samplesWith (drop ((i + 2) / 2) ms) (drop (i + 2) fs)) (take i out) (length out₀)
+    at = converting (s ∷ samples_with (drop ((i + 2) / 2) ms) (drop (i + 2) fs)) (take i out) (length out₀)
 
     same_at : all ≡ at
     same_at = is.same ∙ ap (λ l. converting l (take i out) (length out₀)) samples
 
     pub stop-fault : (r.number ≡ 0 → ⊥) → ConvertsTo all out₀ 5 i (i + r.place) out
     unfolding converting
-    stop-fault h = stops 5 (i + r.place) (same_at ∙ rw (ne_eqb (heardSampled s).given.number 0 (λ z. h (hears.number ∙ z)), written, hears.place))
+    stop-fault h = stops 5 (i + r.place) (same_at ∙ rw (ne_eqb (heard_sampled s).given.number 0 (λ z. h (hears.number ∙ z)), written, hears.place))
 
-    done : r.number ≡ 0 → eqb (heardSampled s).given.number 0 ≡ true
+    done : r.number ≡ 0 → eqb (heard_sampled s).given.number 0 ≡ true
     done h = eq-eqb _ _ (sym hears.number ∙ h)
 
     pub stop-room : r.number ≡ 0 → length out < i + 2 → ConvertsTo all out₀ 8 i 0 out
@@ -134,22 +134,22 @@ module _ (fs : List Float) (ms : List ℕ) (out₀ out : List ℤ) (i : ℕ) (is
           same =
               same_at
               ∙ rw (done h, written, le-leb (i + 2) (length out₀) (omega arith), sym hears.x-is, sym hears.y-is)
-              (ap (λ l. converting (samplesWith (drop ((i + 2) / 2) ms) (drop (i + 2) fs)) l (length out₀)) (sym now-written));
+              (ap (λ l. converting (samples_with (drop ((i + 2) / 2) ms) (drop (i + 2) fs)) l (length out₀)) (sym now-written));
         }
 
 -- ---- the whole call
 
 module _ (ss : List Sampled) (out : List ℤ) (told : List ℕ) where
-  pub list-short : (fits : Bool) → length told < 3 → Converts (listCall fits ss out told) 8 out told
-  unfolding listCall
+  pub list-short : (fits : Bool) → length told < 3 → Converts (list_call fits ss out told) 8 out told
+  unfolding list_call
   list-short fits h = rw (lt-ltb (length told) 3 h) (record { number = refl; out-is = refl; told_is = refl })
 
-  pub list-unfit : (fits : Bool) → fits ≡ false → (t : List ℕ) → 3 ≤ length told → t ≡ toldOf 0 0 0 told → Converts (listCall fits ss out told) 10 out t
-  unfolding listCall
+  pub list-unfit : (fits : Bool) → fits ≡ false → (t : List ℕ) → 3 ≤ length told → t ≡ told_of 0 0 0 told → Converts (list_call fits ss out told) 10 out t
+  unfolding list_call
   list-unfit fits f t h e = rw (le-ltb (length told) 3 h, f) (record { number = refl; out-is = refl; told_is = e })
 
   pub list_done : (fits : Bool) → fits ≡ true → (n w p : ℕ) (o : List ℤ) (t : List ℕ) → 3 ≤ length told → ConvertsTo (converting ss [] (length out)) out n w p o
-      → t ≡ toldOf w w p told → Converts (listCall fits ss out told) n o t
-  unfolding listCall
+      → t ≡ told_of w w p told → Converts (list_call fits ss out told) n o t
+  unfolding list_call
   list_done fits f n w p o t h c e =
       rw (le-ltb (length told) 3 h, f) (record { number = c.number; out-is = c.out-is; told_is = e ∙ rw (c.written, c.place) })

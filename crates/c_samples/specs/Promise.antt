@@ -5,14 +5,14 @@
 use Rattle.std.specs.Prelude.{ℕ, ◌≡◌, List, ◌++◌, ℤ, length, drop}
 use Rattle.samples.specs.Given.{GivenSample}
 use Rattle.c_samples.specs.declared.Heard.{Heard}
-use Rattle.c_samples.specs.Calls.{placeOr0, Sampling, Conversion, SamplesCall}
+use Rattle.c_samples.specs.Calls.{place_or0, Sampling, Conversion, SamplesCall}
 
 -- what was heard of a sample, in the code's own record
 pub record HeardIs (g : GivenSample) (r : Heard) : Type 0 where
   pub number : r.number ≡ g.number
   pub x-is : r.x ≡ g.x
   pub y-is : r.y ≡ g.y
-  pub place : r.place ≡ placeOr0 g.place
+  pub place : r.place ≡ place_or0 g.place
 
 pub record Samples (c : Sampling) (n : ℕ) (out : List ℤ) : Type 0 where
   pub number : n ≡ c.number

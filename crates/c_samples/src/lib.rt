@@ -3,9 +3,9 @@
 // What is heard of a float is the crate samples; here it is put into lent memory, and a number says how it went. Here too stands `tell`,
 // the three places in which a call of the library says how far it came.
 ghost use Rattle.std.specs.Prelude.{◌≡◌, [], ◌+◌, ◌≤◌, ◌<◌, pos, length, set};
-ghost use Rattle.samples.specs.Sampled.{heardSampled};
-ghost use Rattle.c_samples.specs.Counts.{toldOf};
-ghost use Rattle.c_samples.specs.Calls.{sampleCall, samplesWith, sampleIn, converting, listCall, samplesCall, marksFit, markedCall};
+ghost use Rattle.samples.specs.Sampled.{heard_sampled};
+ghost use Rattle.c_samples.specs.Counts.{told_of};
+ghost use Rattle.c_samples.specs.Calls.{sample_call, samples_with, sample_in, converting, list_call, samples_call, marks_fit, marked_call};
 ghost use Rattle.c_samples.specs.Promise.{HeardIs, Samples, ConvertsTo, Converts};
 
 use samples::{Marked, Sampled};
@@ -13,7 +13,7 @@ use samples::{Marked, Sampled};
 // The first three places of `told`.
 pub fn tell(told: &mut [u64], taken: usize, written: usize, place: usize)
     requires { 3 ≤ length told.old }
-    ensures { told.new ≡ toldOf taken written place told.old }
+    ensures { told.new ≡ told_of taken written place told.old }
 {
     told[0] = taken as u64;
     told[1] = written as u64;
@@ -31,7 +31,7 @@ struct Heard {
 }
 
 fn hear(s: Sampled) -> Heard
-    ensures { HeardIs (heardSampled s).given result }
+    ensures { HeardIs (heard_sampled s).given result }
 {
     let h = samples::hear_sampled(s);
     match h {
@@ -70,7 +70,7 @@ fn put_three(out: &mut [i32], h: Heard)
 
 // One sample: 8 where the output has no three places.
 pub fn convert_sample(x: f32, y: f32, out: &mut [i32]) -> u32
-    ensures { Samples (sampleCall x y out.old) result out.new }
+    ensures { Samples (sample_call x y out.old) result out.new }
 {
     if out.len() < 3 {
         return 8;
@@ -102,7 +102,7 @@ fn put_pair(out: &mut [i32], at: usize, h: Heard)
 // The sample that begins at the place i. The floats of a missing one are not looked at; a sample that has no mark is heard.
 fn sample_at(floats: &[f32], missing: &[u8], i: usize) -> Sampled
     requires { i + 1 < length floats.now }
-    ensures { result ≡ sampleIn missing.now floats.now i }
+    ensures { result ≡ sample_in missing.now floats.now i }
 {
     let j = i / 2;
     if j < missing.len() && missing[j] == 1 {
@@ -113,7 +113,7 @@ fn sample_at(floats: &[f32], missing: &[u8], i: usize) -> Sampled
 
 // Sample by sample, up to the first that is refused or has no room.
 fn convert(floats: &[f32], missing: &[u8], out: &mut [i32]) -> Converted
-    ensures { ConvertsTo (converting (samplesWith missing.now floats.now) [] (length out.old)) out.old
+    ensures { ConvertsTo (converting (samples_with missing.now floats.now) [] (length out.old)) out.old
         result.number result.written result.place out.new }
 {
     let mut i: usize = 0;
@@ -151,7 +151,7 @@ fn convert_fitting(
     out: &mut [i32],
     told: &mut [u64],
 ) -> u32
-    ensures { Converts (listCall fits (samplesWith missing.now floats.now) out.old told.old)
+    ensures { Converts (list_call fits (samples_with missing.now floats.now) out.old told.old)
         result out.new told.new }
 {
     if told.len() < 3 {
@@ -168,7 +168,7 @@ fn convert_fitting(
 
 // Refused as a whole where the length is odd.
 pub fn convert_list(floats: &[f32], out: &mut [i32], told: &mut [u64]) -> u32
-    ensures { Converts (samplesCall floats.now out.old told.old) result out.new told.new }
+    ensures { Converts (samples_call floats.now out.old told.old) result out.new told.new }
 {
     let none = [0u8; 0];
     convert_fitting(floats.len() % 2 == 0, floats, &none, out, told)
@@ -176,7 +176,7 @@ pub fn convert_list(floats: &[f32], out: &mut [i32], told: &mut [u64]) -> u32
 
 // Whether the marks fit so many floats: one for each sample, 0 or 1.
 fn marks_fit(missing: &[u8], count: usize) -> bool
-    ensures { result ≡ marksFit missing.now count }
+    ensures { result ≡ marks_fit missing.now count }
 {
     if count % 2 != 0 {
         return false;
@@ -189,7 +189,7 @@ fn marks_fit(missing: &[u8], count: usize) -> bool
 
 // The same of samples of which some are missing: a mark for each, 0 heard, 1 missing. Refused as a whole where the marks do not fit.
 pub fn convert_marked(floats: &[f32], missing: &[u8], out: &mut [i32], told: &mut [u64]) -> u32
-    ensures { Converts (markedCall floats.now missing.now out.old told.old) result out.new told.new }
+    ensures { Converts (marked_call floats.now missing.now out.old told.old) result out.new told.new }
 {
     convert_fitting(marks_fit(missing, floats.len()), floats, missing, out, told)
 }

@@ -17,12 +17,12 @@ use Rattle.sender.specs.declared.Sender.{Sender}
 use Rattle.sender.specs.Send as sender
 use Rattle.machine.specs.declared.Receiver.{Receiver}
 use Rattle.machine.specs.Machine as machine
-use Rattle.c_layout.specs.Layout.{receiverTag, senderLength, receiverLength, sumsAt, registersAt, picksAt}
+use Rattle.c_layout.specs.Layout.{receiver_tag, sender_length, receiver_length, sums_at, registers_at, picks_at}
 use Rattle.c_layout.specs.Halves.{unpacked, packed, AllHalves}
 use Rattle.c_layout.proofs.Halves.{packed-length, back}
 use Rattle.c_layout.specs.Tagged.{holds}
-use Rattle.c_states.specs.State.{senderIn, wordsOfSender, receiverIn, wordsOfReceiver, readSender, readReceiver, SenderStored, ReceiverStored}
-use Rattle.c_states.specs.Front.{coreIn, wordsOfCore, FrontStored}
+use Rattle.c_states.specs.State.{sender_in, words_of_sender, receiver_in, words_of_receiver, read_sender, read_receiver, SenderStored, ReceiverStored}
+use Rattle.c_states.specs.Front.{core_in, words_of_core, FrontStored}
 
 -- ---- a sender
 
@@ -31,29 +31,29 @@ pub record SenderFits (s : Sender) : Type 0 where
   pub turn : s.turn < 2 ^ 32
   pub state : s.state < 2 ^ 32
 
-sender-live : (s : Sender) (rest : List ℕ) → SenderFits s → s.live ≡ true → senderIn (wordsOfSender s ++ rest) ≡ s
-unfolding senderIn holds wordsOfSender
+sender-live : (s : Sender) (rest : List ℕ) → SenderFits s → s.live ≡ true → sender_in (words_of_sender s ++ rest) ≡ s
+unfolding sender_in holds words_of_sender
 sender-live s rest f e =
     let a = accord-back s.accord f.u in
     let b = lt-ltb s.turn (2 ^ 32) f.turn in
     let d = lt-ltb s.state (2 ^ 32) f.state in
-    let n : leb 4 (length (wordsOfSender s ++ rest)) ≡ true = le-leb 4 (length (wordsOfSender s ++ rest)) (omega arith) in
+    let n : leb 4 (length (words_of_sender s ++ rest)) ≡ true = le-leb 4 (length (words_of_sender s ++ rest)) (omega arith) in
     rw (n, e, a, b, d)
 
-sender-shut : (s : Sender) (rest : List ℕ) → s.live ≡ false → senderIn (wordsOfSender s ++ rest) ≡ sender.shut
-unfolding senderIn holds wordsOfSender
+sender-shut : (s : Sender) (rest : List ℕ) → s.live ≡ false → sender_in (words_of_sender s ++ rest) ≡ sender.shut
+unfolding sender_in holds words_of_sender
 sender-shut s rest e =
-    let n : leb 4 (length (wordsOfSender s ++ rest)) ≡ true = le-leb 4 (length (wordsOfSender s ++ rest)) (omega arith) in
+    let n : leb 4 (length (words_of_sender s ++ rest)) ≡ true = le-leb 4 (length (words_of_sender s ++ rest)) (omega arith) in
     rw (n, e)
 
-pub sender-back : (s : Sender) (rest : List ℕ) → SenderFits s → senderIn (wordsOfSender s ++ rest) ≡ readSender s
+pub sender-back : (s : Sender) (rest : List ℕ) → SenderFits s → sender_in (words_of_sender s ++ rest) ≡ read_sender s
 sender-back s rest f = go s.live refl where
-  go : (b : Bool) → s.live ≡ b → senderIn (wordsOfSender s ++ rest) ≡ readSender s
+  go : (b : Bool) → s.live ≡ b → sender_in (words_of_sender s ++ rest) ≡ read_sender s
   go true e = sender-live s rest f e ∙ rw e
   go false e = sender-shut s rest e ∙ rw e
 
-pub sender-stored : (s : Sender) (l : List ℕ) {o : List ℕ} → SenderFits s → o ≡ wordsOfSender s ++ drop senderLength l → SenderStored s l o
-sender-stored s l f e = record { words = e; reads = ap senderIn e ∙ sender-back s (drop senderLength l) f }
+pub sender-stored : (s : Sender) (l : List ℕ) {o : List ℕ} → SenderFits s → o ≡ words_of_sender s ++ drop sender_length l → SenderStored s l o
+sender-stored s l f e = record { words = e; reads = ap sender_in e ∙ sender-back s (drop sender_length l) f }
 
 -- ---- a receiver
 
@@ -67,73 +67,73 @@ pub record ReceiverFits (rx : Receiver) : Type 0 where
 
 module _ (rx : Receiver) (rest : List ℕ) where
   abbrev state : List ℕ
-  state = wordsOfReceiver rx ++ rest
+  state = words_of_receiver rx ++ rest
 
   abbrev head : List ℕ
-  head = wordsOfCore rx.live rx.core
+  head = words_of_core rx.live rx.core
 
   -- the four parts and what stands behind them
   parts : state ≡ head ++ (packed rx.sums ++ (rx.registers ++ (rx.picks ++ rest)))
-  unfolding wordsOfReceiver
+  unfolding words_of_receiver
   parts = simp append_assoc
 
   module _ (f : ReceiverFits rx) where
-    long : receiverLength ≤ length state
+    long : receiver_length ≤ length state
     long =
         rw (parts, length-append head, length-append (packed rx.sums), length-append rx.registers, length-append rx.picks, packed-length rx.sums, f.registers, f.picks)
         (omega arith)
 
-    sums_at : drop sumsAt state ≡ packed rx.sums ++ (rx.registers ++ (rx.picks ++ rest))
-    sums_at = rw parts
+    sums_at_lem : drop sums_at state ≡ packed rx.sums ++ (rx.registers ++ (rx.picks ++ rest))
+    sums_at_lem = rw parts
 
-    registers-at : drop registersAt state ≡ rx.registers ++ (rx.picks ++ rest)
-    registers-at = sym (drop-drop 8 sumsAt state) ∙ rw sums_at (drop_at (packed rx.sums) (rx.registers ++ (rx.picks ++ rest)) 8 (packed-length rx.sums))
+    registers-at : drop registers_at state ≡ rx.registers ++ (rx.picks ++ rest)
+    registers-at = sym (drop-drop 8 sums_at state) ∙ rw sums_at_lem (drop_at (packed rx.sums) (rx.registers ++ (rx.picks ++ rest)) 8 (packed-length rx.sums))
 
-    picks_at : drop picksAt state ≡ rx.picks ++ rest
-    picks_at = sym (drop-drop 48 registersAt state) ∙ rw registers-at (drop_at rx.registers (rx.picks ++ rest) 48 f.registers)
+    picks_at_lem : drop picks_at state ≡ rx.picks ++ rest
+    picks_at_lem = sym (drop-drop 48 registers_at state) ∙ rw registers-at (drop_at rx.registers (rx.picks ++ rest) 48 f.registers)
 
-    held-yes : rx.live ≡ true → holds receiverLength receiverTag state ≡ true
-    unfolding holds wordsOfReceiver
+    held-yes : rx.live ≡ true → holds receiver_length receiver_tag state ≡ true
+    unfolding holds words_of_receiver
     held-yes e =
-        let n = le-leb receiverLength (length state) long in
+        let n = le-leb receiver_length (length state) long in
         let d = lt-ltb rx.core.turn (2 ^ 32) f.turn in
         rw (n, e, d)
 
-    core_at : coreIn state ≡ rx.core
-    unfolding wordsOfReceiver
+    core_at : core_in state ≡ rx.core
+    unfolding words_of_receiver
     core_at =
         let c = rx.core in
         ap (λ (k : Accord). record { accord = k; window = c.window; turn = c.turn; slot = c.slot; pending = c.pending }) (accord-back c.accord f.u)
 
-    receiver-live : rx.live ≡ true → receiverIn (wordsOfReceiver rx ++ rest) ≡ rx
-    unfolding receiverIn
+    receiver-live : rx.live ≡ true → receiver_in (words_of_receiver rx ++ rest) ≡ rx
+    unfolding receiver_in
     receiver-live e =
-        let h : take 8 (drop sumsAt state) ≡ packed rx.sums = rw sums_at (take_at (packed rx.sums) (rx.registers ++ (rx.picks ++ rest)) 8 (packed-length rx.sums)) in
-        let s : unpacked (take 8 (drop sumsAt state)) ≡ rx.sums = ap unpacked h ∙ back rx.sums f.small f.sums in
-        let t : take 48 (drop registersAt state) ≡ rx.registers = rw registers-at (take_at rx.registers (rx.picks ++ rest) 48 f.registers) in
-        let p : take 72 (drop picksAt state) ≡ rx.picks = rw picks_at (take_at rx.picks rest 72 f.picks) in
+        let h : take 8 (drop sums_at state) ≡ packed rx.sums = rw sums_at_lem (take_at (packed rx.sums) (rx.registers ++ (rx.picks ++ rest)) 8 (packed-length rx.sums)) in
+        let s : unpacked (take 8 (drop sums_at state)) ≡ rx.sums = ap unpacked h ∙ back rx.sums f.small f.sums in
+        let t : take 48 (drop registers_at state) ≡ rx.registers = rw registers-at (take_at rx.registers (rx.picks ++ rest) 48 f.registers) in
+        let p : take 72 (drop picks_at state) ≡ rx.picks = rw picks_at_lem (take_at rx.picks rest 72 f.picks) in
         rw (held-yes e) (λ i. record { live = sym e i; core = core_at i; sums = s i; registers = t i; picks = p i })
 
-    receiver-shut : rx.live ≡ false → receiverIn (wordsOfReceiver rx ++ rest) ≡ machine.shut
-    unfolding receiverIn holds wordsOfReceiver
-    receiver-shut e = let n = le-leb receiverLength (length state) long in rw (n, e)
+    receiver-shut : rx.live ≡ false → receiver_in (words_of_receiver rx ++ rest) ≡ machine.shut
+    unfolding receiver_in holds words_of_receiver
+    receiver-shut e = let n = le-leb receiver_length (length state) long in rw (n, e)
 
-    pub receiver-back : receiverIn (wordsOfReceiver rx ++ rest) ≡ readReceiver rx
+    pub receiver-back : receiver_in (words_of_receiver rx ++ rest) ≡ read_receiver rx
     receiver-back = go rx.live refl where
-      go : (b : Bool) → rx.live ≡ b → receiverIn (wordsOfReceiver rx ++ rest) ≡ readReceiver rx
+      go : (b : Bool) → rx.live ≡ b → receiver_in (words_of_receiver rx ++ rest) ≡ read_receiver rx
       go true e = receiver-live e ∙ rw e
       go false e = receiver-shut e ∙ rw e
 
-pub receiver-stored : (rx : Receiver) (l : List ℕ) {o : List ℕ} → ReceiverFits rx → o ≡ wordsOfReceiver rx ++ drop receiverLength l → ReceiverStored rx l o
-receiver-stored rx l f e = record { words = e; reads = ap receiverIn e ∙ receiver-back rx (drop receiverLength l) f }
+pub receiver-stored : (rx : Receiver) (l : List ℕ) {o : List ℕ} → ReceiverFits rx → o ≡ words_of_receiver rx ++ drop receiver_length l → ReceiverStored rx l o
+receiver-stored rx l f e = record { words = e; reads = ap receiver_in e ∙ receiver-back rx (drop receiver_length l) f }
 
 joined : (a b c d e : List ℕ) → (a ++ (b ++ c)) ++ (d ++ e) ≡ (a ++ (b ++ (c ++ d))) ++ e
 joined a b c d e = simp append_assoc
 
 -- so a receiver's words are made of its front and of picks that stand already where they belong
 pub front-stored : (rx : Receiver) (l l₁ : List ℕ) {o : List ℕ} → FrontStored rx.live rx.core rx.sums rx.registers l₁ o
-    → length rx.picks ≡ 72 → drop picksAt l₁ ≡ rx.picks ++ drop receiverLength l → ReceiverStored rx l o
-unfolding wordsOfReceiver
+    → length rx.picks ≡ 72 → drop picks_at l₁ ≡ rx.picks ++ drop receiver_length l → ReceiverStored rx l o
+unfolding words_of_receiver
 front-stored rx l l₁ f sized behind =
     receiver-stored rx l (record { u = f.u-fits; turn = f.turn-fits; sums = f.sums-fit; small = f.sums-small; registers = f.registers-fit; picks = sized })
-    (f.words ∙ rw behind (joined (wordsOfCore rx.live rx.core) (packed rx.sums) rx.registers rx.picks (drop receiverLength l)))
+    (f.words ∙ rw behind (joined (words_of_core rx.live rx.core) (packed rx.sums) rx.registers rx.picks (drop receiver_length l)))

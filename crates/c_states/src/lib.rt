@@ -5,17 +5,17 @@
 // The front of a receiver's state is all but its picks, which stand last and are half of it. It is what a call copies out of the words and
 // back into them; where the picks need not stay in their place, they are copied too.
 ghost use Rattle.std.specs.Prelude.{◌≡◌, true, ◌≤◌, length};
-ghost use Rattle.c_layout.specs.Layout.{receiverTag, receiverLength, picksAt, senderLength};
+ghost use Rattle.c_layout.specs.Layout.{receiver_tag, receiver_length, picks_at, sender_length};
 ghost use Rattle.c_layout.specs.Tagged.{holds};
-ghost use Rattle.c_states.specs.Front.{coreIn, copiedIn, CoreStored, FrontStored};
-ghost use Rattle.c_states.specs.State.{senderIn, SenderStored, receiverIn, ReceiverStored};
+ghost use Rattle.c_states.specs.Front.{core_in, copied_in, CoreStored, FrontStored};
+ghost use Rattle.c_states.specs.State.{sender_in, SenderStored, receiver_in, ReceiverStored};
 
 use machine::{Core, Receiver};
 use sender::Sender;
 
 // Whether the words can hold a receiver.
 pub fn holds_receiver(words: &[u64]) -> bool
-    ensures { result ≡ holds receiverLength receiverTag words.now }
+    ensures { result ≡ holds receiver_length receiver_tag words.now }
 {
     c_layout::holds_record(words, c_layout::RECEIVER_WORDS, c_layout::RECEIVER)
 }
@@ -30,8 +30,8 @@ pub struct Copied {
 
 // The five numbers of a receiver.
 fn core_in(words: &[u64]) -> Core
-    requires { holds receiverLength receiverTag words.now ≡ true }
-    ensures { result ≡ coreIn words.now }
+    requires { holds receiver_length receiver_tag words.now ≡ true }
+    ensures { result ≡ core_in words.now }
 {
     let accord = c_layout::accord_in(words[c_layout::ACCORD]);
     let window = words[c_layout::WINDOW] as usize;
@@ -49,8 +49,8 @@ fn core_in(words: &[u64]) -> Core
 
 // All but the picks of the receiver that the words hold.
 pub fn load_front(words: &[u64]) -> Copied
-    requires { holds receiverLength receiverTag words.now ≡ true }
-    ensures { result ≡ copiedIn words.now }
+    requires { holds receiver_length receiver_tag words.now ≡ true }
+    ensures { result ≡ copied_in words.now }
 {
     let mut halves = [0u64; 8];
     let mut registers = [0u64; 48];
@@ -84,7 +84,7 @@ fn store_core(live: bool, c: Core, words: &mut [u64])
 
 // Puts all but its picks of a receiver into its words.
 pub fn store_front(live: bool, c: Core, sums: [u32; 16], registers: [u64; 48], words: &mut [u64])
-    requires { picksAt ≤ length words.old }
+    requires { picks_at ≤ length words.old }
     ensures { FrontStored live c sums registers words.old words.new }
 {
     store_core(live, c, words);
@@ -95,7 +95,7 @@ pub fn store_front(live: bool, c: Core, sums: [u32; 16], registers: [u64; 48], w
 
 // The sender that the words hold.
 pub fn load_sender(words: &[u64]) -> Sender
-    ensures { result ≡ senderIn words.now }
+    ensures { result ≡ sender_in words.now }
 {
     if !c_layout::holds_record(words, c_layout::SENDER_WORDS, c_layout::SENDER) {
         return sender::closed_sender();
@@ -116,7 +116,7 @@ pub fn load_sender(words: &[u64]) -> Sender
 
 // Puts a sender into its words.
 pub fn store_sender(s: Sender, words: &mut [u64])
-    requires { senderLength ≤ length words.old }
+    requires { sender_length ≤ length words.old }
     ensures { SenderStored s words.old words.new }
 {
     words[c_layout::TAG] = c_layout::tag_of(s.live, c_layout::SENDER);
@@ -128,7 +128,7 @@ pub fn store_sender(s: Sender, words: &mut [u64])
 
 // The receiver that the words hold.
 pub fn load_receiver(words: &[u64]) -> Receiver
-    ensures { result ≡ receiverIn words.now }
+    ensures { result ≡ receiver_in words.now }
 {
     if !holds_receiver(words) {
         return openings::closed_receiver();
@@ -153,7 +153,7 @@ pub fn load_receiver(words: &[u64]) -> Receiver
 
 // Puts a receiver into its words.
 pub fn store_receiver(rx: Receiver, words: &mut [u64])
-    requires { receiverLength ≤ length words.old }
+    requires { receiver_length ≤ length words.old }
     ensures { ReceiverStored rx words.old words.new }
 {
     let c = rx.core;

@@ -14,16 +14,16 @@ use Rattle.distance.specs.Distance.{SpotInRange}
 use Rattle.nearest.specs.declared.Received.{Received}
 use Rattle.nearest.specs.declared.Received.TheVariants.{Heard}
 use Rattle.nearest.specs.declared.Weighed.{Weighed}
-use Rattle.nearest.specs.Line.{lineMeasure}
-use Rattle.nearest.specs.Found.{heardAs, weighedOf}
+use Rattle.nearest.specs.Line.{line_measure}
+use Rattle.nearest.specs.Found.{heard_as, weighed_of}
 use Rattle.card_sums.specs.Rows.{holds}
 use Rattle.card_symbol.specs.declared.Chosen.{Chosen}
-use Rattle.card_symbol.specs.Chosen.{chosenAt, symbol_of, carries}
+use Rattle.card_symbol.specs.Chosen.{chosen_at, symbol_of, carries}
 use Rattle.card_symbol.proofs.Tests.{carries-is}
 use Rattle.card.specs.declared.Pair.{Pair}
 use Rattle.card.specs.declared.Step.TheVariants.{Counts, Fails}
-use Rattle.card.specs.Card.{Card, heardAt, stateAt, symbol_at}
-use Rattle.card.specs.Check.{pair_at, in_range, stepHolds, step_of}
+use Rattle.card.specs.Card.{Card, heard_at, state_at, symbol_at}
+use Rattle.card.specs.Check.{pair_at, in_range, step_holds, step_of}
 use Rattle.card.proofs.Tests.{range-is}
 
 module _ (k : Accord) (c : Card) (i : ℕ) where
@@ -32,21 +32,21 @@ module _ (k : Accord) (c : Card) (i : ℕ) where
   Ranged b = in_range (pair_at c.coordinates (4 * i)) ≡ b
 
   abbrev pub CarriesOn : Bool → Type 0
-  CarriesOn b = carries k.u (stateAt c i) (stateAt c (i + 1)) (symbol_at c i) ≡ b
+  CarriesOn b = carries k.u (state_at c i) (state_at c (i + 1)) (symbol_at c i) ≡ b
 
   abbrev pub Holds : Bool → Type 0
-  Holds b = holds c.numbers (16 * i) (weighedOf k (heardAt c i)).costs ≡ b
+  Holds b = holds c.numbers (16 * i) (weighed_of k (heard_at c i)).costs ≡ b
 
   pub out_of_range : Ranged false → Fails ≡ step_of k c i
-  unfolding step_of stepHolds
+  unfolding step_of step_holds
   out_of_range p = rw p
 
   pub not_carried : Ranged true → CarriesOn false → Fails ≡ step_of k c i
-  unfolding step_of stepHolds
+  unfolding step_of step_holds
   not_carried p q = rw (p, q)
 
   pub not-held : Ranged true → CarriesOn true → Holds false → Fails ≡ step_of k c i
-  unfolding step_of stepHolds
+  unfolding step_of step_holds
   not-held p q r = rw (p, q, r)
 
   -- what was heard, as the code has it
@@ -54,24 +54,24 @@ module _ (k : Accord) (c : Card) (i : ℕ) where
     pub ranged : {r b : Bool} → r ≡ in_range h → r ≡ b → Ranged b
     ranged e t = ap in_range (sym at) ∙ sym e ∙ t
 
-    heard-is : heardAs (Heard h.first) (Heard h.second) ≡ heardAt c i
-    heard-is = ap (λ (h : Pair). heardAs (Heard h.first) (Heard h.second)) at
+    heard-is : heard_as (Heard h.first) (Heard h.second) ≡ heard_at c i
+    heard-is = ap (λ (h : Pair). heard_as (Heard h.first) (Heard h.second)) at
 
     pub spots-in : Ranged true → SpotInRange h.first × SpotInRange h.second
     spots-in p = let b = range-is c i p in rw at (b.first-in, b.second-in)
 
-    pub held : {r b : Bool} {w : Weighed} → r ≡ holds c.numbers (16 * i) w.costs → w ≡ weighedOf k (heardAs (Heard h.first) (Heard h.second)) → r ≡ b → Holds b
-    held e f t = ap (λ (l : List ℕ). holds c.numbers (16 * i) l) (sym (ap (λ (w : Weighed). w.costs) (f ∙ ap (weighedOf k) heard-is))) ∙ sym e ∙ t
+    pub held : {r b : Bool} {w : Weighed} → r ≡ holds c.numbers (16 * i) w.costs → w ≡ weighed_of k (heard_as (Heard h.first) (Heard h.second)) → r ≡ b → Holds b
+    held e f t = ap (λ (l : List ℕ). holds c.numbers (16 * i) l) (sym (ap (λ (w : Weighed). w.costs) (f ∙ ap (weighed_of k) heard-is))) ∙ sym e ∙ t
 
     -- what the card chose
-    module _ (d : Chosen) (dp : d ≡ chosenAt c.symbols (6 * i)) where
-      pub counts : {n : ℕ} → Ranged true → CarriesOn true → Holds true → n ≡ (lineMeasure k).far (heardAs (Heard h.first) (Heard h.second)) (symbol_of d) → Counts n ≡ step_of k c i
-      unfolding step_of stepHolds
-      counts p q r e = rw (p, q, r) (ap Counts (e ∙ ap₂ (λ (y : Two Received) (d : Chosen). (lineMeasure k).far y (symbol_of d)) heard-is dp))
+    module _ (d : Chosen) (dp : d ≡ chosen_at c.symbols (6 * i)) where
+      pub counts : {n : ℕ} → Ranged true → CarriesOn true → Holds true → n ≡ (line_measure k).far (heard_as (Heard h.first) (Heard h.second)) (symbol_of d) → Counts n ≡ step_of k c i
+      unfolding step_of step_holds
+      counts p q r e = rw (p, q, r) (ap Counts (e ∙ ap₂ (λ (y : Two Received) (d : Chosen). (line_measure k).far y (symbol_of d)) heard-is dp))
 
-  module _ (d : Chosen) (at : d ≡ chosenAt c.symbols (6 * i)) where
-    pub carried : {r b : Bool} → r ≡ carries k.u (stateAt c i) (stateAt c (i + 1)) (symbol_of d) → r ≡ b → CarriesOn b
-    carried e t = ap (λ (d : Chosen). carries k.u (stateAt c i) (stateAt c (i + 1)) (symbol_of d)) (sym at) ∙ sym e ∙ t
+  module _ (d : Chosen) (at : d ≡ chosen_at c.symbols (6 * i)) where
+    pub carried : {r b : Bool} → r ≡ carries k.u (state_at c i) (state_at c (i + 1)) (symbol_of d) → r ≡ b → CarriesOn b
+    carried e t = ap (λ (d : Chosen). carries k.u (state_at c i) (state_at c (i + 1)) (symbol_of d)) (sym at) ∙ sym e ∙ t
 
     pub valid : CarriesOn true → Valid k.u (symbol_of d)
-    valid q = rw at (carries-is k.u (symbol_at c i) (stateAt c i) (stateAt c (i + 1)) q).1.valid
+    valid q = rw at (carries-is k.u (symbol_at c i) (state_at c i) (state_at c (i + 1)) q).1.valid

@@ -11,10 +11,10 @@ use lib.Dec.{eqb, leb}
 use lib.IntN.{pos}
 use lib.ListN.{get_or}
 use Rattle.lists.proofs.UpTo.{and_both}
-use Rattle.nearest.specs.Line.{isCoordinate, BothInRange}
+use Rattle.nearest.specs.Line.{is_coordinate, BothInRange}
 use Rattle.card_symbol.proofs.Tests.{joined}
-use Rattle.card.specs.Card.{Card, count_of, heardAt}
-use Rattle.card.specs.Check.{lengthsFit, fits, Has, pair_at, in_range}
+use Rattle.card.specs.Card.{Card, count_of, heard_at}
+use Rattle.card.specs.Check.{lengths_fit, fits, Has, pair_at, in_range}
 
 -- the lengths of the lists of n symbols
 pub record Long (n xs ss cs ns : ℕ) : Type 0 where
@@ -26,8 +26,8 @@ pub record Long (n xs ss cs ns : ℕ) : Type 0 where
   pub numbers-long : ns ≡ 16 * (n + 1)
 
 module _ (n xs ss cs ns : ℕ) where
-  pub long-is : lengthsFit n xs ss cs ns ≡ true → Long n xs ss cs ns
-  unfolding lengthsFit
+  pub long-is : lengths_fit n xs ss cs ns ≡ true → Long n xs ss cs ns
+  unfolding lengths_fit
   long-is e =
       let (a, e₁) = and_both (leb 1 n) _ e in
       let (b, e₂) = and_both (leb n 64) _ e₁ in
@@ -43,8 +43,8 @@ module _ (n xs ss cs ns : ℕ) where
         numbers-long = eqb-true _ _ f;
       }
 
-  pub is-long : Long n xs ss cs ns → lengthsFit n xs ss cs ns ≡ true
-  unfolding lengthsFit
+  pub is-long : Long n xs ss cs ns → lengths_fit n xs ss cs ns ≡ true
+  unfolding lengths_fit
   is-long l =
       joined (le-leb _ _ l.some)
       (joined (le-leb _ _ l.few)
@@ -61,18 +61,18 @@ module _ (c : Card) (i : ℕ) where
         numbers-has = omega (arith, l.numbers-long);
       }
 
-  pub range-is : in_range (pair_at c.coordinates (4 * i)) ≡ true → BothInRange (heardAt c i)
+  pub range-is : in_range (pair_at c.coordinates (4 * i)) ≡ true → BothInRange (heard_at c i)
   unfolding in_range
   range-is e =
-      let (e₁, w) = and_both _ (isCoordinate (get_or c.coordinates (4 * i + 3) (pos 0))) e in
-      let (e₂, z) = and_both _ (isCoordinate (get_or c.coordinates (4 * i + 2) (pos 0))) e₁ in
-      let (x, y) = and_both (isCoordinate (get_or c.coordinates (4 * i) (pos 0))) (isCoordinate (get_or c.coordinates (4 * i + 1) (pos 0))) e₂ in
+      let (e₁, w) = and_both _ (is_coordinate (get_or c.coordinates (4 * i + 3) (pos 0))) e in
+      let (e₂, z) = and_both _ (is_coordinate (get_or c.coordinates (4 * i + 2) (pos 0))) e₁ in
+      let (x, y) = and_both (is_coordinate (get_or c.coordinates (4 * i) (pos 0))) (is_coordinate (get_or c.coordinates (4 * i + 1) (pos 0))) e₂ in
       record {
         first-in = record { x-in = leb-true _ _ x; y-in = leb-true _ _ y };
         second-in = record { x-in = leb-true _ _ z; y-in = leb-true _ _ w };
       }
 
-  pub is-range : BothInRange (heardAt c i) → in_range (pair_at c.coordinates (4 * i)) ≡ true
+  pub is-range : BothInRange (heard_at c i) → in_range (pair_at c.coordinates (4 * i)) ≡ true
   unfolding in_range
   is-range b =
       joined (joined (joined (le-leb _ _ b.first-in.x-in) (le-leb _ _ b.first-in.y-in)) (le-leb _ _ b.second-in.x-in)) (le-leb _ _ b.second-in.y-in)

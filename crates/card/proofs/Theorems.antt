@@ -10,19 +10,19 @@ use Prim.Native.Nat.{ℕ, suc, ◌+◌, ◌*◌, ◌≤◌, ◌<◌}
 use native.Mathlib.Omega.{arith}
 use lib.ListN.{get_or}
 use Rattle.points.specs.declared.Accord.{Accord}
-use Rattle.points.specs.Agreed.{isAccord}
+use Rattle.points.specs.Agreed.{is_accord}
 use Rattle.trellis.specs.Code.{last, cost}
 use Rattle.trellis.specs.Measure.{free}
 use Rattle.trellis.proofs.Optimal.{allowed-below}
-use Rattle.receiver_meaning.proofs.Search.{searchOf, laws}
+use Rattle.receiver_meaning.proofs.Search.{search_of, laws}
 use Rattle.lists.proofs.UpTo.{and_both}
-use Rattle.card_sums.specs.Every.{everyBelow}
-use Rattle.card_sums.specs.Rows.{startsAtZero}
+use Rattle.card_sums.specs.Every.{every_below}
+use Rattle.card_sums.specs.Rows.{starts_at_zero}
 use Rattle.card_sums.proofs.Every.{every-all, all-every}
 use Rattle.card_sums.proofs.Meant.{zero_is, is_zero, none_is, is_none}
 use Rattle.card_symbol.proofs.Tests.{joined}
-use Rattle.card.specs.Card.{Card, count_of, heardAt, number_at, heardTo, sequenceTo, lineCode, Whole, Nearest, TrueSums}
-use Rattle.card.specs.Check.{fits, stepHolds, sum_to, follows, accepts}
+use Rattle.card.specs.Card.{Card, count_of, heard_at, number_at, heard_to, sequence_to, line_code, Whole, Nearest, TrueSums}
+use Rattle.card.specs.Check.{fits, step_holds, sum_to, follows, accepts}
 use Rattle.card.specs.Promise.{Checks}
 use Rattle.card.proofs.Bounds.{bounds, least_zero, least-rises}
 use Rattle.card.proofs.Tests.{long-is, is-long}
@@ -33,7 +33,7 @@ module _ (k : Accord) (c : Card) where
   n = count_of c
 
   abbrev sum : ℕ
-  sum = cost (lineCode k) (heardTo c n) (sequenceTo c n)
+  sum = cost (line_code k) (heard_to c n) (sequence_to c n)
 
   first-number : (s : ℕ) → get_or c.numbers s 0 ≡ number_at c 0 s
   first-number s = ap (λ (j : ℕ). get_or c.numbers j 0) (let e : s ≡ 0 + s = omega arith in e)
@@ -41,7 +41,7 @@ module _ (k : Accord) (c : Card) where
   -- what the check tests, in the words of the theory
   record Passed : Type 0 where
     long : fits c ≡ true
-    agreed : isAccord k ≡ true
+    agreed : is_accord k ≡ true
     zero : (s : ℕ) → s < 16 → number_at c 0 s ≡ 0
     steps : (i : ℕ) → i < n → Stepped k c i
     low : (s : ℕ) → s < 16 → sum ≤ number_at c n s
@@ -50,14 +50,14 @@ module _ (k : Accord) (c : Card) where
   unfolding accepts follows
   passed_is e =
       let (l, e₁) = and_both (fits c) _ e in
-      let (a, e₂) = and_both (isAccord k) _ e₁ in
-      let (z, e₃) = and_both (startsAtZero c.numbers) _ e₂ in
-      let (t, d) = and_both (everyBelow (stepHolds k c) n) _ e₃ in
+      let (a, e₂) = and_both (is_accord k) _ e₁ in
+      let (z, e₃) = and_both (starts_at_zero c.numbers) _ e₂ in
+      let (t, d) = and_both (every_below (step_holds k c) n) _ e₃ in
       record {
         long = l;
         agreed = a;
         zero = λ s h. sym (first-number s) ∙ zero_is c.numbers z s h;
-        steps = λ i h. step_is k c i (every-all (stepHolds k c) n t i h);
+        steps = λ i h. step_is k c i (every-all (step_holds k c) n t i h);
         low = λ s h. omega (arith, none_is c.numbers (16 * n) (sum_to k c n) d s h, sum_is k c n);
       }
 
@@ -67,7 +67,7 @@ module _ (k : Accord) (c : Card) where
       joined p.long
       (joined p.agreed
       (joined (is_zero c.numbers (λ s h. first-number s ∙ p.zero s h))
-      (joined (all-every (stepHolds k c) n (λ i h. is-step k c i (p.steps i h)))
+      (joined (all-every (step_holds k c) n (λ i h. is-step k c i (p.steps i h)))
       (is_none c.numbers (16 * n) (sum_to k c n) (λ s h. omega (arith, p.low s h, sum_is k c n))))))
 
   -- ---- sound
@@ -94,8 +94,8 @@ module _ (k : Accord) (c : Card) where
         least = λ q a.
             omega (
               arith,
-              p.low (last q) (allowed-below (lineCode k) (heardTo c n) q a),
-              bounds (searchOf k free) (laws k free) (heardAt c) (number_at c) p.zero n (λ i h. (p.steps i h).rises) q a,
+              p.low (last q) (allowed-below (line_code k) (heard_to c n) q a),
+              bounds (search_of k free) (laws k free) (heard_at c) (number_at c) p.zero n (λ i h. (p.steps i h).rises) q a,
             );
       }
 
@@ -119,12 +119,12 @@ module _ (k : Accord) (c : Card) where
           numbers-long = w.numbers-long;
         });
         agreed = w.agreed;
-        zero = λ s h. least_zero (searchOf k free) (laws k free) (heardAt c) (number_at c) s (t 0 s (omega arith) h);
+        zero = λ s h. least_zero (search_of k free) (laws k free) (heard_at c) (number_at c) s (t 0 s (omega arith) h);
         steps = λ i h. record {
           in-range = w.in-range i h;
           carried = allowed_all k c n m.allowed i h;
           rises = λ s s' g b.
-              least-rises (searchOf k free) (laws k free) (heardAt c) (number_at c) i s s' g b (t (suc i) s' h g)
+              least-rises (search_of k free) (laws k free) (heard_at c) (number_at c) i s s' g b (t (suc i) s' h g)
               (t i s (omega arith) ((laws k free).preds-below s s' g b));
         };
         low = λ s h. let l = t n s (omega arith) h in omega (arith, m.least l.by l.allowed, l.sum);

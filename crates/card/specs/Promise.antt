@@ -1,13 +1,13 @@
 -- What the check of a card promises, for whatever was handed over.
---   cardOf xs ss cs ns   a card of four lists
+--   card_of xs ss cs ns   a card of four lists
 --   Checks k c r         the answer r, accepted or not
 use Rattle.std.specs.Prelude.{◌≡◌, Bool, true, List, ℕ, ℤ}
 use Rattle.points.specs.declared.Accord.{Accord}
 use Rattle.card.specs.Card.{Card, Whole, Nearest, TrueSums}
 use Rattle.card.specs.Check.{accepts}
 
-abbrev pub cardOf : List ℤ → List ℕ → List ℕ → List ℕ → Card
-cardOf xs ss cs ns = record { coordinates = xs; states = ss; symbols = cs; numbers = ns }
+abbrev pub card_of : List ℤ → List ℕ → List ℕ → List ℕ → Card
+card_of xs ss cs ns = record { coordinates = xs; states = ss; symbols = cs; numbers = ns }
 
 pub record Checks (k : Accord) (c : Card) (r : Bool) : Type 0 where
   -- it is settled by what was handed over

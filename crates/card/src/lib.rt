@@ -6,12 +6,12 @@
 // nearest, whoever found it and however its ties fell. True least sums are such numbers. One pass goes through the list, with the weighing
 // that the receiver uses, and nothing is kept over symbols but the sum so far. What was handed over may be anything.
 ghost use Rattle.std.specs.Prelude.{◌≡◌, true, ◌+◌, ◌≤◌, length};
-ghost use Rattle.points.specs.Agreed.{isAccord};
-ghost use Rattle.points.specs.Points.{coordinates as aCoordinates};
-ghost use Rattle.nearest.specs.Found.{chartOf};
+ghost use Rattle.points.specs.Agreed.{is_accord};
+ghost use Rattle.points.specs.Points.{coordinates as a_coordinates};
+ghost use Rattle.nearest.specs.Found.{chart_of};
 ghost use Rattle.card.specs.Card.{count_of};
-ghost use Rattle.card.specs.Check.{lengthsFit, fits, Has, pair_at, in_range, step_of, follows};
-ghost use Rattle.card.specs.Promise.{cardOf, Checks};
+ghost use Rattle.card.specs.Check.{lengths_fit, fits, Has, pair_at, in_range, step_of, follows};
+ghost use Rattle.card.specs.Promise.{card_of, Checks};
 
 use distance::Spot;
 use nearest::{Chart, Received};
@@ -26,7 +26,7 @@ pub enum Step {
 
 // Whether these are the lengths of the lists of n symbols, 1 to 64.
 fn lengths_fit(n: usize, coordinates: usize, states: usize, symbols: usize, numbers: usize) -> bool
-    ensures { result ≡ lengthsFit n coordinates states symbols numbers }
+    ensures { result ≡ lengths_fit n coordinates states symbols numbers }
 {
     if n < 1 {
         return false;
@@ -85,9 +85,9 @@ fn take_step(
     symbols: &[u32],
     numbers: &[u64],
 ) -> Step
-    requires chart_value { (chart.now ≡ chartOf k) × (table.now ≡ aCoordinates) × (isAccord k ≡ true) }
-    requires has { Has (cardOf coordinates.now states.now symbols.now numbers.now) i }
-    ensures { result ≡ step_of k (cardOf coordinates.now states.now symbols.now numbers.now) i }
+    requires chart_value { (chart.now ≡ chart_of k) × (table.now ≡ a_coordinates) × (is_accord k ≡ true) }
+    requires has { Has (card_of coordinates.now states.now symbols.now numbers.now) i }
+    ensures { result ≡ step_of k (card_of coordinates.now states.now symbols.now numbers.now) i }
 {
     let heard = pair_at(coordinates, 4 * i);
     if !in_range(heard) {
@@ -116,9 +116,9 @@ fn follow(
     symbols: &[u32],
     numbers: &[u64],
 ) -> bool
-    requires { (isAccord k ≡ true) × (fits (cardOf coordinates.now states.now symbols.now numbers.now) ≡ true)
-        × (n ≡ count_of (cardOf coordinates.now states.now symbols.now numbers.now)) }
-    ensures { result ≡ follows k (cardOf coordinates.now states.now symbols.now numbers.now) n }
+    requires { (is_accord k ≡ true) × (fits (card_of coordinates.now states.now symbols.now numbers.now) ≡ true)
+        × (n ≡ count_of (card_of coordinates.now states.now symbols.now numbers.now)) }
+    ensures { result ≡ follows k (card_of coordinates.now states.now symbols.now numbers.now) n }
 {
     let chart = nearest::chart(k);
     let table = points::table::a_points();
@@ -151,7 +151,7 @@ pub fn check(
     symbols: &[u32],
     numbers: &[u64],
 ) -> bool
-    ensures { Checks k (cardOf coordinates.now states.now symbols.now numbers.now) result }
+    ensures { Checks k (card_of coordinates.now states.now symbols.now numbers.now) result }
 {
     let n = coordinates.len() / 4;
     if !lengths_fit(

@@ -1,7 +1,7 @@
 -- What holds at every number below another, as a test.
---   everyBelow f n    f is true at every number below n
+--   every_below f n    f is true at every number below n
 use Rattle.std.specs.Prelude.{ℕ, zero, suc, Bool, true, ◌&&◌}
 
-unfoldable pub everyBelow : (ℕ → Bool) → ℕ → Bool
-everyBelow f zero = true
-everyBelow f (suc n) = everyBelow f n && f n
+unfoldable pub every_below : (ℕ → Bool) → ℕ → Bool
+every_below f zero = true
+every_below f (suc n) = every_below f n && f n

@@ -6,7 +6,7 @@
 // to a number of the card's, so nothing can pass 64 bits. Each contract is an equation of the result with one definition of specs/Rows,
 // so any two results that it allows are equal.
 ghost use Rattle.std.specs.Prelude.{◌≡◌, ◌+◌, ◌≤◌, ◌<◌, leb, length};
-ghost use Rattle.card_sums.specs.Rows.{wayHolds, holds, startsAtZero, noneBelow};
+ghost use Rattle.card_sums.specs.Rows.{way_holds, holds, starts_at_zero, none_below};
 
 // How many numbers a row has, one for each state.
 pub const ROW: usize = 16;
@@ -25,7 +25,7 @@ fn within(v: u64, w: u64, d: u32) -> bool
 // Whether the number of t in the row after that at `at` is at most that of the k-th state before it and what the step between costs.
 fn way_holds(numbers: &[u64], at: usize, costs: &[u32; 8], t: u32, k: u32) -> bool
     requires { (at + 32 ≤ length numbers.now) × (t < 16) × (k < 4) }
-    ensures { result ≡ wayHolds numbers.now at costs.now t k }
+    ensures { result ≡ way_holds numbers.now at costs.now t k }
 {
     let s = wei::state::before_state(t, k);
     let by = wei::state::subset_between(s, t) as usize;
@@ -52,7 +52,7 @@ pub fn holds(numbers: &[u64], at: usize, costs: &[u32; 8]) -> bool
 // Whether the numbers of the start are 0.
 pub fn starts_at_zero(numbers: &[u64]) -> bool
     requires { 16 ≤ length numbers.now }
-    ensures { result ≡ startsAtZero numbers.now }
+    ensures { result ≡ starts_at_zero numbers.now }
 {
     let mut all = true;
     let mut s: usize = 0;
@@ -66,7 +66,7 @@ pub fn starts_at_zero(numbers: &[u64]) -> bool
 // Whether no number of the row at `at` is below the sum.
 pub fn none_below(numbers: &[u64], at: usize, sum: u64) -> bool
     requires { at + 16 ≤ length numbers.now }
-    ensures { result ≡ noneBelow numbers.now at sum }
+    ensures { result ≡ none_below numbers.now at sum }
 {
     let mut all = true;
     let mut t: usize = 0;

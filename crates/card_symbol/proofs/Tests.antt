@@ -7,17 +7,17 @@ use mathlib.Core.Bool.{Bool, true, ◌&&◌}
 use Prim.Native.Nat.{ℕ, ◌^◌, ◌<◌}
 use borrow.Author.Tests.{lt-ltb, ltb-true, eq-eqb, eqb-true}
 use lib.Dec.{eqb, ltb}
-use Rattle.wei.specs.State.{bitW4, nextState}
+use Rattle.wei.specs.State.{bit_w4, next_state}
 use Rattle.wei.specs.Symbol.{Symbol, Valid, Carries}
 use Rattle.lists.proofs.UpTo.{and_both}
-use Rattle.card_symbol.specs.Chosen.{isValid, carries}
+use Rattle.card_symbol.specs.Chosen.{is_valid, carries}
 
 pub joined : {a b : Bool} → a ≡ true → b ≡ true → (a && b) ≡ true
 joined p q = ap₂ (λ (a b : Bool). a && b) p q
 
 module _ (u : ℕ) (c : Symbol) where
-  pub valid-is : isValid u c ≡ true → Valid u c
-  unfolding isValid
+  pub valid-is : is_valid u c ≡ true → Valid u c
+  unfolding is_valid
   valid-is e =
       let (e₄, w₂) = and_both _ (ltb c.w2 (2 ^ u)) e in
       let (e₃, w₁) = and_both _ (ltb c.w1 (2 ^ u)) e₄ in
@@ -33,8 +33,8 @@ module _ (u : ℕ) (c : Symbol) where
         w2-below = ltb-true _ _ w₂;
       }
 
-  pub is-valid : Valid u c → isValid u c ≡ true
-  unfolding isValid
+  pub is-valid : Valid u c → is_valid u c ≡ true
+  unfolding is_valid
   is-valid v =
       joined
       (joined (joined (joined (joined (lt-ltb _ _ v.y0-below) (lt-ltb _ _ v.i1-below)) (lt-ltb _ _ v.i2-below)) (lt-ltb _ _ v.i3-below)) (lt-ltb _ _ v.w1-below))
@@ -44,9 +44,9 @@ module _ (u : ℕ) (c : Symbol) where
     pub carries-is : carries u s t c ≡ true → (s < 16) × Carries u s t c
     unfolding carries
     carries-is e =
-        let (front, back) = and_both (isValid u c && ltb s 16) _ e in
-        let (v, h) = and_both (isValid u c) (ltb s 16) front in
-        let (p, l) = and_both (eqb c.y0 (bitW4 s)) (eqb (nextState s c.i1 c.i2) t) back in
+        let (front, back) = and_both (is_valid u c && ltb s 16) _ e in
+        let (v, h) = and_both (is_valid u c) (ltb s 16) front in
+        let (p, l) = and_both (eqb c.y0 (bit_w4 s)) (eqb (next_state s c.i1 c.i2) t) back in
         (ltb-true s 16 h, record { valid = valid-is v; parity = eqb-true _ _ p; leads = eqb-true _ _ l })
 
     pub is_carried : s < 16 → Carries u s t c → carries u s t c ≡ true

@@ -6,14 +6,14 @@
 // results that it allows are equal.
 ghost use Rattle.std.specs.Prelude.{◌≡◌, true, ◌+◌, ◌^◌, ◌≤◌, ◌<◌, length};
 ghost use Rattle.wei.specs.Symbol.{Valid};
-ghost use Rattle.points.specs.Agreed.{isAccord};
+ghost use Rattle.points.specs.Agreed.{is_accord};
 ghost use Rattle.points.specs.Points.{coordinates};
 ghost use Rattle.trellis.specs.Measure.{counted};
 ghost use Rattle.distance.specs.Distance.{SpotInRange};
 ghost use Rattle.nearest.specs.declared.Received.TheVariants as received;
-ghost use Rattle.nearest.specs.Line.{lineDistance, lineMeasure};
-ghost use Rattle.nearest.specs.Found.{heardAs};
-ghost use Rattle.card_symbol.specs.Chosen.{chosenAt, symbol_of, isValid, carries};
+ghost use Rattle.nearest.specs.Line.{line_distance, line_measure};
+ghost use Rattle.nearest.specs.Found.{heard_as};
+ghost use Rattle.card_symbol.specs.Chosen.{chosen_at, symbol_of, is_valid, carries};
 
 use distance::Spot;
 use points::Accord;
@@ -32,7 +32,7 @@ pub struct Chosen {
 // The six numbers from the place `at` on.
 pub fn chosen_at(symbols: &[u32], at: usize) -> Chosen
     requires { at + 6 ≤ length symbols.now }
-    ensures { result ≡ chosenAt symbols.now at }
+    ensures { result ≡ chosen_at symbols.now at }
 {
     Chosen {
         y0: symbols[at],
@@ -47,7 +47,7 @@ pub fn chosen_at(symbols: &[u32], at: usize) -> Chosen
 // Whether the symbol can be sent at the width u: four bits, and two numbers of u bits.
 pub fn is_valid(u: u32, c: Chosen) -> bool
     requires { u ≤ 8 }
-    ensures { result ≡ isValid u (symbol_of c) }
+    ensures { result ≡ is_valid u (symbol_of c) }
 {
     (c.y0 < 2) & (c.i1 < 2) & (c.i2 < 2) & (c.i3 < 2) & (c.w1 >> u == 0) & (c.w2 >> u == 0)
 }
@@ -68,8 +68,8 @@ pub fn carries(u: u32, s: u32, t: u32, c: Chosen) -> bool
 
 // What a heard point counts for, where the point with the label l and the number w was sent.
 fn point_far(table: &[i8; 512], k: Accord, l: u32, w: u32, h: Spot) -> u32
-    requires { (table.now ≡ coordinates) × (isAccord k ≡ true) × (l < 4) × (w < 2 ^ k.u) × SpotInRange h }
-    ensures { result ≡ counted (lineDistance k (received.Heard h) l w) }
+    requires { (table.now ≡ coordinates) × (is_accord k ≡ true) × (l < 4) × (w < 2 ^ k.u) × SpotInRange h }
+    ensures { result ≡ counted (line_distance k (received.Heard h) l w) }
 {
     let map = k.map;
     let p = maps::point_on(table, map, k.u, l, w);
@@ -78,8 +78,8 @@ fn point_far(table: &[i8; 512], k: Accord, l: u32, w: u32, h: Spot) -> u32
 
 // What a heard symbol counts for, where the symbol c was sent.
 pub fn far(table: &[i8; 512], k: Accord, first: Spot, second: Spot, c: Chosen) -> u32
-    requires { (table.now ≡ coordinates) × (isAccord k ≡ true) × SpotInRange first × SpotInRange second × Valid k.u (symbol_of c) }
-    ensures { result ≡ (lineMeasure k).far (heardAs (received.Heard first) (received.Heard second)) (symbol_of c) }
+    requires { (table.now ≡ coordinates) × (is_accord k ≡ true) × SpotInRange first × SpotInRange second × Valid k.u (symbol_of c) }
+    ensures { result ≡ (line_measure k).far (heard_as (received.Heard first) (received.Heard second)) (symbol_of c) }
 {
     let l = wei::label::labels(2 * c.i3 + c.i2, c.y0, c.i1);
     let a = point_far(table, k, l.first, c.w1, first);

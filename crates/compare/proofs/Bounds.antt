@@ -7,19 +7,19 @@ use native.Mathlib.Omega.{arith}
 use borrow.Author.Tests.{le-ltb}
 use lib.ListN.{length, take, drop, length-drop}
 use lib.Seq.{take_all}
-use Rattle.text.specs.Token.{sameBytes}
+use Rattle.text.specs.Token.{same_bytes}
 use Rattle.records.specs.declared.Phase.{Phase}
 use Rattle.record_front.specs.declared.Front.{Front}
 use Rattle.records.specs.Frames.{capped}
-use Rattle.record_front.specs.Fronts.{frontOf}
+use Rattle.record_front.specs.Fronts.{front_of}
 use Rattle.record_front.proofs.Fronts.{front-within}
 use Rattle.compare.specs.declared.Formed.{Formed}
 use Rattle.compare_events.specs.declared.Event.{Event}
 use Rattle.compare.specs.declared.Pass.{Pass}
 use Rattle.compare_events.specs.Events.{judge}
-use Rattle.compare.specs.Passing.{formStep, takes, lineMore, moved, halted, eventOf, movedBy, pairStep}
+use Rattle.compare.specs.Passing.{form_step, takes, line_more, moved, halted, event_of, moved_by, pair_step}
 
-pub within : (w : Front) (p : Phase) (i : ℕ) (bs : List ℕ) (ends : Bool) → w ≡ frontOf p (drop i bs) ends → i ≤ length bs → i + w.length ≤ length bs
+pub within : (w : Front) (p : Phase) (i : ℕ) (bs : List ℕ) (ends : Bool) → w ≡ front_of p (drop i bs) ends → i ≤ length bs → i + w.length ≤ length bs
 within w p i bs ends e h = rw e (omega (arith, front-within p (drop i bs) ends, length-drop i bs))
 
 pub capped-large : (n : ℕ) → 18446744073709551615 ≤ n → 18446744073709551615 ≡ capped n
@@ -34,50 +34,50 @@ rest_part i bs = take_all (length bs - i) (drop i bs) (omega (arith, length-drop
 pub mid-part : (i m : ℕ) (bs : List ℕ) → take (i + m - i) (drop i bs) ≡ take m (drop i bs)
 mid-part i m bs = let e : i + m - i ≡ m = omega arith in rw e
 
-pub looked : (w : Front) (p : Phase) (i : ℕ) (bs : List ℕ) (ends : Bool) → w ≡ frontOf p (take (length bs - i) (drop i bs)) ends → w ≡ frontOf p (drop i bs) ends
-looked w p i bs ends e = e ∙ ap (λ (l : List ℕ). frontOf p l ends) (rest_part i bs)
+pub looked : (w : Front) (p : Phase) (i : ℕ) (bs : List ℕ) (ends : Bool) → w ≡ front_of p (take (length bs - i) (drop i bs)) ends → w ≡ front_of p (drop i bs) ends
+looked w p i bs ends e = e ∙ ap (λ (l : List ℕ). front_of p l ends) (rest_part i bs)
 
-pub looked-within : (w : Front) (p : Phase) (i : ℕ) (bs : List ℕ) (ends : Bool) → w ≡ frontOf p (take (length bs - i) (drop i bs)) ends → i ≤ length bs → i + w.length ≤ length bs
+pub looked-within : (w : Front) (p : Phase) (i : ℕ) (bs : List ℕ) (ends : Bool) → w ≡ front_of p (take (length bs - i) (drop i bs)) ends → i ≤ length bs → i + w.length ≤ length bs
 looked-within w p i bs ends e h = within w p i bs ends (looked w p i bs ends e) h
 
-pub form-stepped : (f : Formed) (bs : List ℕ) (ends : Bool) (w : Front) (at : ℕ) → w ≡ frontOf f.phase (take (length bs - f.used) (drop f.used bs)) ends
+pub form-stepped : (f : Formed) (bs : List ℕ) (ends : Bool) (w : Front) (at : ℕ) → w ≡ front_of f.phase (take (length bs - f.used) (drop f.used bs)) ends
     → at ≡ capped (f.at + w.length) → f.used ≤ length bs
-    → (record { sign = w.sign; phase = w.phase; at = at; used = f.used + w.length } ≡ formStep f bs ends) × (f.used + w.length ≤ length bs)
-unfolding formStep
+    → (record { sign = w.sign; phase = w.phase; at = at; used = f.used + w.length } ≡ form_step f bs ends) × (f.used + w.length ≤ length bs)
+unfolding form_step
 form-stepped f bs ends w at e a h =
-    let l : w ≡ frontOf f.phase (drop f.used bs) ends = looked w f.phase f.used bs ends e in
+    let l : w ≡ front_of f.phase (drop f.used bs) ends = looked w f.phase f.used bs ends e in
     (rw (sym l, a), within w f.phase f.used bs ends l h)
 
 -- one pair of records further, as the code has it
 module _ (p : Pass) (xs ys : List ℕ) (ends closes : Bool) (a b : Front) (t : Bool) (e : Event) where
   abbrev Looks : Type 0
-  Looks = a ≡ frontOf p.first (take (length xs - p.here) (drop p.here xs)) ends
+  Looks = a ≡ front_of p.first (take (length xs - p.here) (drop p.here xs)) ends
 
   abbrev LooksToo : Type 0
-  LooksToo = b ≡ frontOf p.second (take (length ys - p.there) (drop p.there ys)) closes
+  LooksToo = b ≡ front_of p.second (take (length ys - p.there) (drop p.there ys)) closes
 
   abbrev Tells : Type 0
-  Tells = t ≡ sameBytes (take (p.here + a.length - p.here) (drop p.here xs)) (take (p.there + b.length - p.there) (drop p.there ys))
+  Tells = t ≡ same_bytes (take (p.here + a.length - p.here) (drop p.here xs)) (take (p.there + b.length - p.there) (drop p.there ys))
 
   abbrev Judges : Type 0
   Judges = e ≡ judge a.sign b.sign t p.number p.lines
 
-  pair-event : Tells → Judges → e ≡ eventOf p xs ys a b
+  pair-event : Tells → Judges → e ≡ event_of p xs ys a b
   pair-event s j = j ∙ ap (λ (z : Bool). judge a.sign b.sign z p.number p.lines) (s ∙ rw (mid-part p.here a.length xs, mid-part p.there b.length ys))
 
-  pair_is : Looks → LooksToo → Tells → Judges → movedBy p e a b ≡ pairStep p xs ys ends closes
-  unfolding pairStep
+  pair_is : Looks → LooksToo → Tells → Judges → moved_by p e a b ≡ pair_step p xs ys ends closes
+  unfolding pair_step
   pair_is l k s j = rw (sym (looked a p.first p.here xs ends l), sym (looked b p.second p.there ys closes k), sym (pair-event s j))
 
   pub pair-halts : Looks → LooksToo → Tells → Judges → takes e ≡ false → p.here ≤ length xs → p.there ≤ length ys
-      → (halted p e ≡ pairStep p xs ys ends closes) × ((p.here ≤ length xs) × (p.there ≤ length ys))
-  pair-halts l k s j h m n = (subst (λ (z : Bool). cond z (moved p e a b) (halted p e) ≡ pairStep p xs ys ends closes) h (pair_is l k s j), (m, n))
+      → (halted p e ≡ pair_step p xs ys ends closes) × ((p.here ≤ length xs) × (p.there ≤ length ys))
+  pair-halts l k s j h m n = (subst (λ (z : Bool). cond z (moved p e a b) (halted p e) ≡ pair_step p xs ys ends closes) h (pair_is l k s j), (m, n))
 
   pub pair-moves : Looks → LooksToo → Tells → Judges → takes e ≡ true → p.here ≤ length xs → p.there ≤ length ys →
-      (number lines : ℕ) → number ≡ capped (p.number + 1) → lines ≡ lineMore e p.lines
-      → (record { event = e; first = a.phase; second = b.phase; number = number; lines = lines; here = p.here + a.length; there = p.there + b.length } ≡ pairStep p xs ys ends closes)
+      (number lines : ℕ) → number ≡ capped (p.number + 1) → lines ≡ line_more e p.lines
+      → (record { event = e; first = a.phase; second = b.phase; number = number; lines = lines; here = p.here + a.length; there = p.there + b.length } ≡ pair_step p xs ys ends closes)
       × ((p.here + a.length ≤ length xs) × (p.there + b.length ≤ length ys))
   pair-moves l k s j h m n number lines u v = (
-    rw (u, v) (subst (λ (z : Bool). cond z (moved p e a b) (halted p e) ≡ pairStep p xs ys ends closes) h (pair_is l k s j)),
+    rw (u, v) (subst (λ (z : Bool). cond z (moved p e a b) (halted p e) ≡ pair_step p xs ys ends closes) h (pair_is l k s j)),
     (looked-within a p.first p.here xs ends l m, looked-within b p.second p.there ys closes k n),
   )

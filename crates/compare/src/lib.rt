@@ -4,7 +4,7 @@
 // how many bytes they have used; the caller keeps the rest, puts more behind it and calls again. Nothing is kept of a record that is passed.
 ghost use Rattle.std.specs.Prelude.{◌≡◌, ◌+◌, ◌≤◌, length};
 ghost use Rattle.records.specs.Frames.{capped};
-ghost use Rattle.compare.specs.Passing.{isRecord, formStep, form_of, takes as Passing·takes, isSame, lineMore, pairStep, passOf, freshPass};
+ghost use Rattle.compare.specs.Passing.{is_record, form_step, form_of, takes as Passing·takes, is_same, line_more, pair_step, pass_of, fresh_pass};
 
 use compare_events::Event;
 use record_front::Sign;
@@ -34,7 +34,7 @@ pub struct Pass {
 }
 
 fn is_record(sign: Sign) -> bool
-    ensures { result ≡ isRecord sign }
+    ensures { result ≡ is_record sign }
 {
     match sign {
         Sign::Record => true,
@@ -59,7 +59,7 @@ fn further(at: u64, n: usize) -> u64
 // One look further.
 fn form_step(f: Formed, bytes: &[u8], ends: bool) -> Formed
     requires { f.used ≤ length bytes.now }
-    ensures { (result ≡ formStep f bytes.now ends) × (result.used ≤ length bytes.now) }
+    ensures { (result ≡ form_step f bytes.now ends) × (result.used ≤ length bytes.now) }
 {
     let phase = f.phase;
     let used = f.used;
@@ -110,7 +110,7 @@ fn takes(e: Event) -> bool
 }
 
 fn is_same(e: Event) -> bool
-    ensures { result ≡ isSame e }
+    ensures { result ≡ is_same e }
 {
     match e {
         Event::Same => true,
@@ -122,7 +122,7 @@ fn is_same(e: Event) -> bool
 }
 
 fn line_more(e: Event, lines: u64) -> u64
-    ensures { result ≡ lineMore e lines }
+    ensures { result ≡ line_more e lines }
 {
     match e {
         Event::Same => lines,
@@ -136,7 +136,7 @@ fn line_more(e: Event, lines: u64) -> u64
 // One pair of records further.
 fn pair(p: Pass, xs: &[u8], ys: &[u8], ends: bool, closes: bool) -> Pass
     requires { (p.here ≤ length xs.now) × (p.there ≤ length ys.now) }
-    ensures value { result ≡ pairStep p xs.now ys.now ends closes }
+    ensures value { result ≡ pair_step p xs.now ys.now ends closes }
     ensures here_in_bounds { (result.here ≤ length xs.now) × (result.there ≤ length ys.now) }
 {
     let first = p.first;
@@ -177,7 +177,7 @@ fn pair(p: Pass, xs: &[u8], ys: &[u8], ends: bool, closes: bool) -> Pass
 
 // Before any record.
 pub fn start() -> Pass
-    ensures { result ≡ freshPass }
+    ensures { result ≡ fresh_pass }
 {
     Pass {
         event: Event::Same,
@@ -193,7 +193,7 @@ pub fn start() -> Pass
 // Two lumps, from where the last two ended, up to the next line or to where more bytes are wanted. `ends`, `closes`: that capture has no
 // more bytes than these.
 pub fn next(p: Pass, xs: &[u8], ys: &[u8], ends: bool, closes: bool) -> Pass
-    ensures value { result ≡ passOf p xs.now ys.now ends closes }
+    ensures value { result ≡ pass_of p xs.now ys.now ends closes }
     ensures here_in_bounds { (result.here ≤ length xs.now) × (result.there ≤ length ys.now) }
 {
     let first = p.first;

@@ -13,19 +13,19 @@ use native.Mathlib.Omega.{arith}
 use lib.ListN.{take, drop}
 use Rattle.records.specs.declared.Phase.TheVariants.{Start}
 use Rattle.records.specs.Reading.{Ending, clean, malformed, reading_of}
-use Rattle.records.specs.Frames.{cappedEnding}
+use Rattle.records.specs.Frames.{capped_ending}
 use Rattle.compare_events.specs.declared.Event.{Event}
 use Rattle.compare_events.specs.declared.Event.TheVariants.{Same, Said, Last, Wait, Broken}
 use Rattle.compare_events.specs.declared.Line.{Line}
 use Rattle.compare.specs.declared.Pass.{Pass}
-use Rattle.compare.specs.Differences.{comparedOf, cappedLine}
-use Rattle.compare.specs.Passing.{passOf, freshPass}
-use Rattle.compare_meaning.proofs.Meaning.{Call, called, Run, unlessLast, spoken, printed, compare-prints}
+use Rattle.compare.specs.Differences.{compared_of, capped_line}
+use Rattle.compare.specs.Passing.{pass_of, fresh_pass}
+use Rattle.compare_meaning.proofs.Meaning.{Call, called, Run, unless_last, spoken, printed, compare-prints}
 use Rattle.compare_files.specs.declared.Shape.{Shape}
 use Rattle.compare_files.specs.declared.Reading.{Reading}
 use Rattle.compare_files.specs.declared.Both.{Both}
-use Rattle.compare_files.specs.Steps.{waiting, SideTurn, onlyLine}
-use Rattle.compare_files.proofs.FormTurns.{formShape, FormTurns, turns-tell, OnlyTells, only-tells}
+use Rattle.compare_files.specs.Steps.{waiting, SideTurn, only_line}
+use Rattle.compare_files.proofs.FormTurns.{form_shape, FormTurns, turns-tell, OnlyTells, only-tells}
 
 pub record Next (b : Both) (one two us vs : List ℕ) : Type 0 where
   pub first : waiting b.first one ≡ take (b.first.to - b.first.from) us
@@ -57,7 +57,7 @@ module _ (b r : Both) (one two us vs page page' : List ℕ) (t : SideTurn b one 
 
   -- the pass is that of the call
   pass-is : r.pass ≡ called c b.pass us vs
-  pass-is = t.pass ∙ ap₂ (λ (x y : List ℕ). passOf b.pass x y b.first.ends b.second.ends) n.first n.second
+  pass-is = t.pass ∙ ap₂ (λ (x y : List ℕ). pass_of b.pass x y b.first.ends b.second.ends) n.first n.second
 
   over : (l : Line) → r.pass.event ≡ Last l → SidesTo b.pass us vs (l ∷ [])
   over l e =
@@ -66,7 +66,7 @@ module _ (b r : Both) (one two us vs page page' : List ℕ) (t : SideTurn b one 
         calls = c ∷ [];
         run = (
           record { ends = n.ends; closes = n.closes },
-          subst (λ (v : Event). unlessLast v [] (Run [] (called c b.pass us vs) (drop (called c b.pass us vs).here us) (drop (called c b.pass us vs).there vs))) (sym f) refl,
+          subst (λ (v : Event). unless_last v [] (Run [] (called c b.pass us vs) (drop (called c b.pass us vs).here us) (drop (called c b.pass us vs).there vs))) (sym f) refl,
         );
         prints = ap (λ (v : Event). spoken v ++ []) f;
       }
@@ -80,7 +80,7 @@ module _ (b r : Both) (one two us vs page page' : List ℕ) (t : SideTurn b one 
         prints = ap₂ (λ (v : Event) (m : List Line). spoken v ++ m) (ap (λ (p : Pass). p.event) (sym pass-is)) k.prints;
       }
     where
-      on : (v : Event) → is_last v ≡ false → (cs : List Call) {t : Type 0} → t → unlessLast v cs t
+      on : (v : Event) → is_last v ≡ false → (cs : List Call) {t : Type 0} → t → unless_last v cs t
       on Same z cs h = h
       on (Said l) z cs h = h
       on (Last l) z cs h = absurd (let y : ◌≡◌ {A = ℕ} 0 1 = cc in omega arith)
@@ -103,26 +103,26 @@ pub record Shaped (us : List ℕ) (sh : Shape) : Type 0 where
   pub turns : FormTurns from chunk us sh
 
 pub data Compares (xs ys : List ℕ) : List Line → Type 0 where
-  alone : (a c : Shape) → Shaped xs a → Shaped ys c → (l : Line) → onlyLine a c ≡ Last l → Compares xs ys (l ∷ [])
-  side_by_side : (a c : Shape) → Shaped xs a → Shaped ys c → onlyLine a c ≡ Same → (b : Both) → b.pass ≡ freshPass → (ls : List Line) → SideTurns b xs ys ls → Compares xs ys ls
+  alone : (a c : Shape) → Shaped xs a → Shaped ys c → (l : Line) → only_line a c ≡ Last l → Compares xs ys (l ∷ [])
+  side_by_side : (a c : Shape) → Shaped xs a → Shaped ys c → only_line a c ≡ Same → (b : Both) → b.pass ≡ fresh_pass → (ls : List Line) → SideTurns b xs ys ls → Compares xs ys ls
 
-shape_is : (us : List ℕ) (sh : Shape) → Shaped us sh → sh ≡ formShape (cappedEnding (reading_of us).ending)
+shape_is : (us : List ℕ) (sh : Shape) → Shaped us sh → sh ≡ form_shape (capped_ending (reading_of us).ending)
 shape_is us sh s = turns-tell s.phase s.at s.turns
 
 -- no line is said alone exactly if both are well formed
-both-clean : (e d : Ending) → onlyLine (formShape (cappedEnding e)) (formShape (cappedEnding d)) ≡ Same → (e ≡ clean) × (d ≡ clean)
+both-clean : (e d : Ending) → only_line (form_shape (capped_ending e)) (form_shape (capped_ending d)) ≡ Same → (e ≡ clean) × (d ≡ clean)
 both-clean (malformed p) d h = absurd (let z : ◌≡◌ {A = ℕ} 0 1 = cc in omega arith)
 both-clean clean (malformed p) h = absurd (let z : ◌≡◌ {A = ℕ} 0 1 = cc in omega arith)
 both-clean clean clean h = (refl, refl)
 
-pub compares-lines : (xs ys : List ℕ) (ls : List Line) → Compares xs ys ls → ls ≡ map cappedLine (comparedOf xs ys)
+pub compares-lines : (xs ys : List ℕ) (ls : List Line) → Compares xs ys ls → ls ≡ map capped_line (compared_of xs ys)
 compares-lines xs ys ls (alone a c s t l e) =
-    let f : onlyLine (formShape (cappedEnding (reading_of xs).ending)) (formShape (cappedEnding (reading_of ys).ending)) ≡ Last l =
-    ap₂ onlyLine (sym (shape_is xs a s)) (sym (shape_is ys c t)) ∙ e in
-    subst (λ (v : Event). OnlyTells v (map cappedLine (comparedOf xs ys))) f (only-tells xs ys)
+    let f : only_line (form_shape (capped_ending (reading_of xs).ending)) (form_shape (capped_ending (reading_of ys).ending)) ≡ Last l =
+    ap₂ only_line (sym (shape_is xs a s)) (sym (shape_is ys c t)) ∙ e in
+    subst (λ (v : Event). OnlyTells v (map capped_line (compared_of xs ys))) f (only-tells xs ys)
 compares-lines xs ys ls (side_by_side a c s t e b p ls' m) =
-    let f : onlyLine (formShape (cappedEnding (reading_of xs).ending)) (formShape (cappedEnding (reading_of ys).ending)) ≡ Same =
-    ap₂ onlyLine (sym (shape_is xs a s)) (sym (shape_is ys c t)) ∙ e in
+    let f : only_line (form_shape (capped_ending (reading_of xs).ending)) (form_shape (capped_ending (reading_of ys).ending)) ≡ Same =
+    ap₂ only_line (sym (shape_is xs a s)) (sym (shape_is ys c t)) ∙ e in
     let g = both-clean (reading_of xs).ending (reading_of ys).ending f in
     let k = subst (λ (q : Pass). SidesTo q xs ys ls) p (sides-run m) in
     sym k.prints ∙ compare-prints k.calls xs ys g.0 g.1 k.run

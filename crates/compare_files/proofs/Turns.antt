@@ -14,7 +14,7 @@ use Rattle.compare.specs.Passing.{form_of}
 use Rattle.compare_files.specs.declared.Side.{Side}
 use Rattle.compare_files.specs.declared.Shape.{Shape}
 use Rattle.compare_files.specs.declared.Reading.{Reading}
-use Rattle.compare_files.specs.Steps.{shape_of, isUnread, toldBy, FormTurn, Kept}
+use Rattle.compare_files.specs.Steps.{shape_of, is_unread, told_by, FormTurn, Kept}
 
 pub kept-is : (s : Side) (before : List ℕ) (r : Side) (after : List ℕ) → r.from ≡ 0 → s.to - s.from ≤ r.to →
     take (s.to - s.from) after ≡ take (s.to - s.from) (drop s.from before) → Kept s before r after
@@ -28,11 +28,11 @@ module _ (r : Reading) (before after : List ℕ) (s p : Side) (f : Formed) (shap
     (front : s.from ≡ 0) (waits : r.side.to - r.side.from ≤ s.to)
     (kept : take (r.side.to - r.side.from) after ≡ take (r.side.to - r.side.from) (drop r.side.from before))
     (told : f ≡ form_of r.phase r.at (take (s.to - s.from) (drop s.from after)) s.ends) (is : shape ≡ shape_of f.sign f.at)
-    (to : p.to ≡ s.to) (from : p.from ≡ s.from + f.used) (ends : p.ends ≡ s.ends) (fine : p.fine ≡ s.fine) (known : unread ≡ isUnread shape) where
+    (to : p.to ≡ s.to) (from : p.from ≡ s.from + f.used) (ends : p.ends ≡ s.ends) (fine : p.fine ≡ s.fine) (known : unread ≡ is_unread shape) where
   abbrev q : Reading
   q = record { side = p; phase = f.phase; at = f.at; shape = shape; on = s.fine && unread }
 
-  told_is : f ≡ toldBy r q after
+  told_is : f ≡ told_by r q after
   told_is = told ∙ ap₂ (λ (l : List ℕ) (e : Bool). form_of r.phase r.at l e) (lump-is after s.from s.to front ∙ ap (λ (i : ℕ). take i after) (sym to)) (sym ends)
 
   pub turn_is : FormTurn r before q after

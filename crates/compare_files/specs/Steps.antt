@@ -1,13 +1,13 @@
 -- The steps that the program takes over two files, by what `compare` tells of the bytes that wait. Which bytes a read gave no contract can say; all
 -- else of a step is here. That such steps, from the first to the last, say the comparison of 02, Wish 12, of the bytes of two files is proved in
 -- proofs/SideTurns.
---   shape_of s at      what a file is, by the sign at which its reading for form stopped; unread as long as it goes on. isUnread: so it is
+--   shape_of s at      what a file is, by the sign at which its reading for form stopped; unread as long as it goes on. is_unread: so it is
 --   FormTurn r before q after   one turn of the first reading: from r to q, and the chunk before and after it
 --   waiting s chunk   the bytes of a side that wait
 --   Kept s before r after   the side s is read on, or not, and is r: what waited waits still
 --   LineSaid, Heeded  a line is put on the page, at its place; what is put where two lumps told so
 --   SideTurn b one two r    one turn of the second reading, after the reads
---   onlyLine a b      the only line, where a file is malformed, the first checked first; `Same` where both are to be read side by side
+--   only_line a b      the only line, where a file is malformed, the first checked first; `Same` where both are to be read side by side
 use Rattle.std.specs.Prelude.{ℕ, ◌+◌, ◌-◌, ◌≤◌, ◌≡◌, Bool, true, false, ◌&&◌, ◌⊎◌, List, take, drop}
 use Rattle.record_front.specs.declared.Sign.{Sign}
 use Rattle.record_front.specs.declared.Sign.TheVariants as sign
@@ -16,9 +16,9 @@ use Rattle.compare_events.specs.declared.Event.TheVariants.{Same, Said, Last, Wa
 use Rattle.compare_events.specs.declared.Line.{Line}
 use Rattle.compare_events.specs.declared.Line.TheVariants.{FirstMalformed, SecondMalformed}
 use Rattle.compare.specs.declared.Formed.{Formed}
-use Rattle.compare.specs.Passing.{form_of, passOf}
+use Rattle.compare.specs.Passing.{form_of, pass_of}
 use Rattle.page.specs.Page.{Puts}
-use Rattle.compare_text.specs.Says.{lineText}
+use Rattle.compare_text.specs.Says.{line_text}
 use Rattle.compare_files.specs.declared.Side.{Side}
 use Rattle.compare_files.specs.declared.Out.{Out}
 use Rattle.compare_files.specs.declared.Both.{Both}
@@ -32,25 +32,25 @@ shape_of sign.Gone at = Clean
 shape_of sign.More at = Unread
 shape_of sign.Bad at = Malformed at
 
-abbrev pub isUnread : Shape → Bool
-isUnread Clean = false
-isUnread (Malformed p) = false
-isUnread Unread = true
+abbrev pub is_unread : Shape → Bool
+is_unread Clean = false
+is_unread (Malformed p) = false
+is_unread Unread = true
 
 -- what `form` tells of the bytes that wait after the read
-abbrev pub toldBy : Reading → Reading → List ℕ → Formed
-toldBy r q chunk = form_of r.phase r.at (take q.side.to chunk) q.side.ends
+abbrev pub told_by : Reading → Reading → List ℕ → Formed
+told_by r q chunk = form_of r.phase r.at (take q.side.to chunk) q.side.ends
 
 pub record FormTurn (r : Reading) (before : List ℕ) (q : Reading) (after : List ℕ) : Type 0 where
   -- what waited waits still, at the front, and what was read stands behind it
   pub waits : r.side.to - r.side.from ≤ q.side.to
   pub kept : take (r.side.to - r.side.from) after ≡ take (r.side.to - r.side.from) (drop r.side.from before)
   -- and the reading goes on from there, past what `form` has used
-  pub phase : q.phase ≡ (toldBy r q after).phase
-  pub at : q.at ≡ (toldBy r q after).at
-  pub used : q.side.from ≡ (toldBy r q after).used
-  pub shape : q.shape ≡ shape_of (toldBy r q after).sign (toldBy r q after).at
-  pub on : q.on ≡ (q.side.fine && isUnread q.shape)
+  pub phase : q.phase ≡ (told_by r q after).phase
+  pub at : q.at ≡ (told_by r q after).at
+  pub used : q.side.from ≡ (told_by r q after).used
+  pub shape : q.shape ≡ shape_of (told_by r q after).sign (told_by r q after).at
+  pub on : q.on ≡ (q.side.fine && is_unread q.shape)
 
 abbrev pub waiting : Side → List ℕ → List ℕ
 waiting s chunk = take (s.to - s.from) (drop s.from chunk)
@@ -62,7 +62,7 @@ pub record Kept (s : Side) (before : List ℕ) (r : Side) (after : List ℕ) : T
 -- the page goes on behind the line, or was handed on up to there and begins anew
 pub record LineSaid (line : Line) (page : List ℕ) (at : ℕ) (r : Out) (page' : List ℕ) : Type 0 where
   pub end : ℕ
-  pub put : Puts page at (lineText line) end page'
+  pub put : Puts page at (line_text line) end page'
   pub next : (r.at ≡ end) ⊎ (r.at ≡ 0)
 
 abbrev pub Heeded : Event → List ℕ → ℕ → Out → List ℕ → Type 0
@@ -73,18 +73,18 @@ Heeded Wait page at r page' = (r.at ≡ at) × (page' ≡ page)
 Heeded Broken page at r page' = (r.at ≡ at) × (page' ≡ page)
 
 pub record SideTurn (b : Both) (one two page : List ℕ) (r : Both) (page' : List ℕ) : Type 0 where
-  pub pass : r.pass ≡ passOf b.pass (waiting b.first one) (waiting b.second two) b.first.ends b.second.ends
+  pub pass : r.pass ≡ pass_of b.pass (waiting b.first one) (waiting b.second two) b.first.ends b.second.ends
   pub first : (r.first.from ≡ b.first.from + r.pass.here) × (r.first.to ≡ b.first.to)
   pub second : (r.second.from ≡ b.second.from + r.pass.there) × (r.second.to ≡ b.second.to)
   pub heeded : Heeded r.pass.event page b.out.at r.out page'
 
 -- "Malformed input gives one line only, `first malformed P` or `second malformed P`, the first checked first"
-abbrev pub secondLine : Shape → Event
-secondLine Clean = Same
-secondLine (Malformed p) = Last (SecondMalformed p)
-secondLine Unread = Same
+abbrev pub second_line : Shape → Event
+second_line Clean = Same
+second_line (Malformed p) = Last (SecondMalformed p)
+second_line Unread = Same
 
-abbrev pub onlyLine : Shape → Shape → Event
-onlyLine Clean b = secondLine b
-onlyLine (Malformed p) b = Last (FirstMalformed p)
-onlyLine Unread b = secondLine b
+abbrev pub only_line : Shape → Shape → Event
+only_line Clean b = second_line b
+only_line (Malformed p) b = Last (FirstMalformed p)
+only_line Unread b = second_line b

@@ -4,8 +4,8 @@
 //
 // A file that cannot be read or rewound, as a pipe, is told on the error stream before any line is printed.
 ghost use Rattle.std.specs.Prelude.{◌≡◌, ◌+◌, ◌-◌, ◌≤◌, length, take, drop};
-ghost use Rattle.compare.specs.Passing.{passOf};
-ghost use Rattle.compare_files.specs.Steps.{shape_of, isUnread, FormTurn, waiting, Kept, LineSaid, Heeded, SideTurn, secondLine, onlyLine};
+ghost use Rattle.compare.specs.Passing.{pass_of};
+ghost use Rattle.compare_files.specs.Steps.{shape_of, is_unread, FormTurn, waiting, Kept, LineSaid, Heeded, SideTurn, second_line, only_line};
 
 use compare::Pass;
 use compare_events::{Event, Line};
@@ -134,7 +134,7 @@ fn told(sign: Sign, at: u64) -> Shape
 }
 
 fn is_unread(shape: Shape) -> bool
-    ensures { result ≡ isUnread shape }
+    ensures { result ≡ is_unread shape }
 {
     match shape {
         Shape::Clean => false,
@@ -279,7 +279,7 @@ fn told_by(b: Both, one: &[u8], two: &[u8]) -> Pass
     requires from_le_to { (b.first.from ≤ b.first.to) × (b.first.to ≤ length one.now) }
     requires from_le_to_2 { (b.second.from ≤ b.second.to) × (b.second.to ≤ length two.now) }
     ensures here_bound { (b.first.from + result.here ≤ b.first.to) × (b.second.from + result.there ≤ b.second.to) }
-    ensures value { result ≡ passOf b.pass (waiting b.first one.now) (waiting b.second two.now) b.first.ends b.second.ends }
+    ensures value { result ≡ pass_of b.pass (waiting b.first one.now) (waiting b.second two.now) b.first.ends b.second.ends }
 {
     let pass = b.pass;
     let first = b.first;
@@ -412,7 +412,7 @@ fn say_alone(line: Line) {
 
 // `second malformed P`, or no line yet.
 fn second_line(b: Shape) -> Event
-    ensures { result ≡ secondLine b }
+    ensures { result ≡ second_line b }
 {
     match b {
         Shape::Clean => Event::Same,
@@ -423,7 +423,7 @@ fn second_line(b: Shape) -> Event
 
 // `first malformed P`, or what the second file says.
 fn only_line(a: Shape, b: Shape) -> Event
-    ensures { result ≡ onlyLine a b }
+    ensures { result ≡ only_line a b }
 {
     match a {
         Shape::Clean => second_line(b),

@@ -13,7 +13,7 @@ use Prim.Native.Nat.{ℕ, zero, suc, ◌+◌, ◌≤◌}
 use native.Mathlib.Omega.{arith}
 use lib.ListN.{length, take, drop, length-append, length-drop, take-append-drop}
 use lib.Seq.{drop-drop, drop-append-le}
-use Rattle.text.specs.Token.{sameBytes}
+use Rattle.text.specs.Token.{same_bytes}
 use Rattle.records.specs.declared.Phase.{Phase}
 use Rattle.records.specs.declared.Phase.TheVariants.{Start}
 use Rattle.record_front.specs.declared.Sign.{Sign}
@@ -29,12 +29,12 @@ use Rattle.compare_events.specs.declared.Line.TheVariants.{Differs, OnlyFirst, O
 use Rattle.compare_events.specs.declared.Event.{Event}
 use Rattle.compare_events.specs.declared.Event.TheVariants.{Same, Said, Last, Wait, Broken}
 use Rattle.compare.specs.declared.Pass.{Pass}
-use Rattle.compare.specs.Differences.{same, differencesFrom, comparisonOf, comparedOf, cappedLine}
+use Rattle.compare.specs.Differences.{same, differences_from, comparison_of, compared_of, capped_line}
 use Rattle.compare_events.specs.Events.{judge}
-use Rattle.compare.specs.Passing.{isSame, moved, halted, firstFront, secondFront, movedBy, pairStep, passFrom, anew, passOf, freshPass}
+use Rattle.compare.specs.Passing.{is_same, moved, halted, first_front, second_front, moved_by, pair_step, pass_from, anew, pass_of, fresh_pass}
 
 abbrev pub todo : ℕ → Pass → ℕ → ℕ → List ℕ → List ℕ → List Line
-todo n p a b us vs = differencesFrom n (rest_of p.first a us).records (rest_of p.second b vs).records
+todo n p a b us vs = differences_from n (rest_of p.first a us).records (rest_of p.second b vs).records
 
 abbrev pub said : Event → List Line
 said Same = []
@@ -56,7 +56,7 @@ pub record Passed (n k : ℕ) (p : Pass) (a b : ℕ) (xs ys more further : List 
   pub first : ℕ
   pub second : ℕ
   pub lines : List Line
-  pub told : map cappedLine lines ≡ said r.event
+  pub told : map capped_line lines ≡ said r.event
   pub rest : todo n p a b (drop p.here xs ++ more) (drop p.there ys ++ further) ≡ lines ++ todo now r first second (drop r.here xs ++ more) (drop r.there ys ++ further)
   pub number : r.number ≡ capped now
   pub count : r.lines ≡ capped (k + length lines)
@@ -82,14 +82,14 @@ nothing-passed q p at here m xs more e f =
     let y : here + m ≡ here = omega arith in
     ap (λ (x : Phase). rest_of x (at + m) (drop (here + m) xs ++ more)) f ∙ ap (λ (x : ℕ). rest_of p x (drop (here + m) xs ++ more)) z ∙ ap (λ (x : ℕ). rest_of p at (drop x xs ++ more)) y
 
-isSame-said : (e : Event) → isSame e ≡ true → said e ≡ []
-isSame-said Same h = refl
-isSame-said (Said l) h = absurd (untrue h)
-isSame-said (Last l) h = absurd (untrue h)
-isSame-said Wait h = absurd (untrue h)
-isSame-said Broken h = absurd (untrue h)
+is_same-said : (e : Event) → is_same e ≡ true → said e ≡ []
+is_same-said Same h = refl
+is_same-said (Said l) h = absurd (untrue h)
+is_same-said (Last l) h = absurd (untrue h)
+is_same-said Wait h = absurd (untrue h)
+is_same-said Broken h = absurd (untrue h)
 
-no_lines : (ls : List Line) → map cappedLine ls ≡ [] → ls ≡ []
+no_lines : (ls : List Line) → map capped_line ls ≡ [] → ls ≡ []
 no_lines [] h = refl
 no_lines (l ∷ ls) h = absurd (cons-nil h)
 
@@ -110,29 +110,29 @@ module _ (n k : ℕ) (p : Pass) (a b : ℕ) (xs ys more further : List ℕ) (A B
       record { now = n; first = a; second = b; lines = []; told = sym q; rest = refl; number = en; count = ek ∙ plus-zero k; over = o; here = omega arith; there = omega arith }
 
   -- the lists of records after the fronts
-  abbrev firstRest : List Entry
-  firstRest = (rest_of A.phase (a + A.length) (drop (p.here + A.length) xs ++ more)).records
+  abbrev first_rest : List Entry
+  first_rest = (rest_of A.phase (a + A.length) (drop (p.here + A.length) xs ++ more)).records
 
-  abbrev secondRest : List Entry
-  secondRest = (rest_of B.phase (b + B.length) (drop (p.there + B.length) ys ++ further)).records
+  abbrev second_rest : List Entry
+  second_rest = (rest_of B.phase (b + B.length) (drop (p.there + B.length) ys ++ further)).records
 
-  goes : (e : Event) (ls : List Line) → map cappedLine ls ≡ said e → (moved p e A B).lines ≡ capped (k + length ls) → Over e (moved p e A B) (differencesFrom (n + 1) firstRest secondRest)
-      → todo n p a b (us ++ more) (vs ++ further) ≡ ls ++ differencesFrom (n + 1) firstRest secondRest → G (moved p e A B)
+  goes : (e : Event) (ls : List Line) → map capped_line ls ≡ said e → (moved p e A B).lines ≡ capped (k + length ls) → Over e (moved p e A B) (differences_from (n + 1) first_rest second_rest)
+      → todo n p a b (us ++ more) (vs ++ further) ≡ ls ++ differences_from (n + 1) first_rest second_rest → G (moved p e A B)
   goes e ls q c o r =
       record { now = n + 1; first = a + A.length; second = b + B.length; lines = ls; told = q; rest = r; number = capped-next n p.number en; count = c; over = o; here = hx; there = hy }
 
-  first_taken : (t : Taken p.first a us more A) → (rest_of p.first a (us ++ more)).records ≡ t.entry ∷ firstRest
+  first_taken : (t : Taken p.first a us more A) → (rest_of p.first a (us ++ more)).records ≡ t.entry ∷ first_rest
   first_taken t = ap (λ (q : Reading). q.records) t.rest ∙ ap (λ (l : List ℕ). t.entry ∷ (rest_of A.phase (a + A.length) (l ++ more)).records) (drop-drop A.length p.here xs)
 
-  second-taken : (t : Taken p.second b vs further B) → (rest_of p.second b (vs ++ further)).records ≡ t.entry ∷ secondRest
+  second-taken : (t : Taken p.second b vs further B) → (rest_of p.second b (vs ++ further)).records ≡ t.entry ∷ second_rest
   second-taken t = ap (λ (q : Reading). q.records) t.rest ∙ ap (λ (l : List ℕ). t.entry ∷ (rest_of B.phase (b + B.length) (l ++ further)).records) (drop-drop B.length p.there ys)
 
-  first_ended : Ended p.first a us more A clean → ((rest_of p.first a (us ++ more)).records ≡ []) × (firstRest ≡ [])
+  first_ended : Ended p.first a us more A clean → ((rest_of p.first a (us ++ more)).records ≡ []) × (first_rest ≡ [])
   first_ended t =
       let e : (rest_of p.first a (us ++ more)).records ≡ [] = ap (λ (q : Reading). q.records) t.rest in
       (e, ap (λ (q : Reading). q.records) (nothing-passed _ _ _ _ _ xs more t.stays.length t.stays.phase) ∙ e)
 
-  second_ended : Ended p.second b vs further B clean → ((rest_of p.second b (vs ++ further)).records ≡ []) × (secondRest ≡ [])
+  second_ended : Ended p.second b vs further B clean → ((rest_of p.second b (vs ++ further)).records ≡ []) × (second_rest ≡ [])
   second_ended t =
       let e : (rest_of p.second b (vs ++ further)).records ≡ [] = ap (λ (q : Reading). q.records) t.rest in
       (e, ap (λ (q : Reading). q.records) (nothing-passed _ _ _ _ _ ys further t.stays.length t.stays.phase) ∙ e)
@@ -142,32 +142,32 @@ module _ (n k : ℕ) (p : Pass) (a b : ℕ) (xs ys more further : List ℕ) (A B
   line-count = capped-next k p.lines ek
 
   -- both have a record here
-  both : (w : Bool) → w ≡ sameBytes (take A.length us) (take B.length vs) → Taken p.first a us more A → Taken
-      p.second b vs further B → G (movedBy p (cond w Same (Said (Differs p.number))) A B)
-  unfolding differencesFrom
+  both : (w : Bool) → w ≡ same_bytes (take A.length us) (take B.length vs) → Taken p.first a us more A → Taken
+      p.second b vs further B → G (moved_by p (cond w Same (Said (Differs p.number))) A B)
+  unfolding differences_from
   both w e s t = go w (e ∙ alike)
     where
-      alike : sameBytes (take A.length us) (take B.length vs) ≡ same s.entry t.entry
+      alike : same_bytes (take A.length us) (take B.length vs) ≡ same s.entry t.entry
       alike = rw (s.bytes, t.bytes)
 
-      go : (w : Bool) → w ≡ same s.entry t.entry → G (movedBy p (cond w Same (Said (Differs p.number))) A B)
+      go : (w : Bool) → w ≡ same s.entry t.entry → G (moved_by p (cond w Same (Said (Differs p.number))) A B)
       go true e = goes Same [] refl (ek ∙ plus-zero k) tt (rw (first_taken s, second-taken t, sym e))
       go false e = goes (Said (Differs p.number)) (Differs n ∷ []) (rw en) line-count tt (rw (first_taken s, second-taken t, sym e))
 
   only-first : Taken p.first a us more A → Ended p.second b vs further B clean → G (moved p (Said (OnlyFirst p.number)) A B)
-  unfolding differencesFrom
+  unfolding differences_from
   only-first s t = goes (Said (OnlyFirst p.number)) (OnlyFirst n ∷ []) (rw en) line-count tt (rw (first_taken s, (second_ended t).0, (second_ended t).1))
 
   only-second : Ended p.first a us more A clean → Taken p.second b vs further B → G (moved p (Said (OnlySecond p.number)) A B)
-  unfolding differencesFrom
+  unfolding differences_from
   only-second s t = goes (Said (OnlySecond p.number)) (OnlySecond n ∷ []) (rw en) line-count tt (rw ((first_ended s).0, (first_ended s).1, second-taken t))
 
   neither : Ended p.first a us more A clean → Ended p.second b vs further B clean → G (halted p (Last (Differences p.lines)))
-  unfolding differencesFrom
+  unfolding differences_from
   neither s t = stays (Last (Differences p.lines)) refl (rw ((first_ended s).0, (second_ended t).0), refl)
 
-  fronts-passed : (w : Bool) → w ≡ sameBytes (take A.length us) (take B.length vs) → (s : Sign) → Says s p.first a us more A → (t : Sign) → Says t p.second b vs further B
-      → G (movedBy p (judge s t w p.number p.lines) A B)
+  fronts-passed : (w : Bool) → w ≡ same_bytes (take A.length us) (take B.length vs) → (s : Sign) → Says s p.first a us more A → (t : Sign) → Says t p.second b vs further B
+      → G (moved_by p (judge s t w p.number p.lines) A B)
   fronts-passed w e sign.Record s sign.Record t = both w e s t
   fronts-passed w e sign.Record s sign.Gone t = only-first s t
   fronts-passed w e sign.Record s sign.More t = stays Wait refl tt
@@ -184,24 +184,24 @@ module _ (n k : ℕ) (p : Pass) (a b : ℕ) (xs ys more further : List ℕ) (A B
 
 module _ (xs ys more further : List ℕ) (ends closes : Bool) (he : ends ≡ true → more ≡ []) (hc : closes ≡ true → further ≡ []) where
   pub pair-passed : (n k : ℕ) (p : Pass) (a b : ℕ) → p.number ≡ capped n → p.lines ≡ capped k → p.here ≤ length xs → p.there ≤ length ys
-      → Passed n k p a b xs ys more further (pairStep p xs ys ends closes)
-  unfolding pairStep
+      → Passed n k p a b xs ys more further (pair_step p xs ys ends closes)
+  unfolding pair_step
   pair-passed n k p a b en ek hx hy =
       let u = drop p.here xs in
       let v = drop p.there ys in
-      fronts-passed n k p a b xs ys more further (firstFront p xs ends) (secondFront p ys closes) en ek
+      fronts-passed n k p a b xs ys more further (first_front p xs ends) (second_front p ys closes) en ek
       (omega (arith, front-within p.first u ends, length-drop p.here xs))
       (omega (arith, front-within p.second v closes, length-drop p.there ys))
-      _ refl (firstFront p xs ends).sign (look-passes p.first a u ends more he) (secondFront p ys closes).sign (look-passes p.second b v closes further hc)
+      _ refl (first_front p xs ends).sign (look-passes p.first a u ends more he) (second_front p ys closes).sign (look-passes p.second b v closes further hc)
 
   abbrev Goal : ℕ → ℕ → ℕ → Pass → ℕ → ℕ → Type 0
-  Goal j n k p a b = p.number ≡ capped n → p.lines ≡ capped k → p.here ≤ length xs → p.there ≤ length ys → Passed n k p a b xs ys more further (passFrom j p xs ys ends closes)
+  Goal j n k p a b = p.number ≡ capped n → p.lines ≡ capped k → p.here ≤ length xs → p.there ≤ length ys → Passed n k p a b xs ys more further (pass_from j p xs ys ends closes)
 
   -- two records that are the same, and what follows
-  onward : (j n k : ℕ) (p : Pass) (a b : ℕ) (r : Pass) (q : Passed n k p a b xs ys more further r) → isSame r.event ≡ true → Goal j q.now k r q.first q.second
-      → Passed n k p a b xs ys more further (passFrom j r xs ys ends closes)
+  onward : (j n k : ℕ) (p : Pass) (a b : ℕ) (r : Pass) (q : Passed n k p a b xs ys more further r) → is_same r.event ≡ true → Goal j q.now k r q.first q.second
+      → Passed n k p a b xs ys more further (pass_from j r xs ys ends closes)
   onward j n k p a b r q h ih =
-      let none : q.lines ≡ [] = no_lines q.lines (q.told ∙ isSame-said r.event h) in
+      let none : q.lines ≡ [] = no_lines q.lines (q.told ∙ is_same-said r.event h) in
       let ek : r.lines ≡ capped k = q.count ∙ rw none (sym (plus-zero k)) in
       let s = ih q.number ek q.here q.there in
       record {
@@ -221,13 +221,13 @@ module _ (xs ys more further : List ℕ) (ends closes : Bool) (he : ends ≡ tru
   pub pass-passed : (j n k : ℕ) (p : Pass) (a b : ℕ) → Goal j n k p a b
   pass-passed zero n k p a b en ek hx hy = pair-passed n k p a b en ek hx hy
   pass-passed (suc j) n k p a b en ek hx hy =
-      go (pair-passed n k p a b en ek hx hy) (λ m c d. pass-passed j m k (pairStep p xs ys ends closes) c d) (isSame (pairStep p xs ys ends closes).event) refl
+      go (pair-passed n k p a b en ek hx hy) (λ m c d. pass-passed j m k (pair_step p xs ys ends closes) c d) (is_same (pair_step p xs ys ends closes).event) refl
     where
       r : Pass
-      r = pairStep p xs ys ends closes
+      r = pair_step p xs ys ends closes
 
-      go : Passed n k p a b xs ys more further r → ((m c d : ℕ) → Goal j m k r c d) → (w : Bool) → isSame r.event ≡ w
-          → Passed n k p a b xs ys more further (cond w (passFrom j r xs ys ends closes) r)
+      go : Passed n k p a b xs ys more further r → ((m c d : ℕ) → Goal j m k r c d) → (w : Bool) → is_same r.event ≡ w
+          → Passed n k p a b xs ys more further (cond w (pass_from j r xs ys ends closes) r)
       go q ih true h = onward j n k p a b r q h (ih q.now q.first q.second)
       go q ih false h = q
 
@@ -241,7 +241,7 @@ pub record Call : Type 0 where
   pub closes : Bool
 
 abbrev pub called : Call → Pass → List ℕ → List ℕ → Pass
-called c p us vs = passOf p (take c.first us) (take c.second vs) c.ends c.closes
+called c p us vs = pass_of p (take c.first us) (take c.second vs) c.ends c.closes
 
 -- the caller says so only where it is so
 pub record Honest (c : Call) (us vs : List ℕ) : Type 0 where
@@ -249,17 +249,17 @@ pub record Honest (c : Call) (us vs : List ℕ) : Type 0 where
   pub closes : c.closes ≡ true → drop c.second vs ≡ []
 
 -- after the last line nothing more is asked
-abbrev pub unlessLast : Event → List Call → Type 0 → Type 0
-unlessLast Same cs t = t
-unlessLast (Said l) cs t = t
-unlessLast (Last l) cs t = cs ≡ []
-unlessLast Wait cs t = t
-unlessLast Broken cs t = t
+abbrev pub unless_last : Event → List Call → Type 0 → Type 0
+unless_last Same cs t = t
+unless_last (Said l) cs t = t
+unless_last (Last l) cs t = cs ≡ []
+unless_last Wait cs t = t
+unless_last Broken cs t = t
 
 abbrev pub Run : List Call → Pass → List ℕ → List ℕ → Type 0
 Run [] p us vs = ⊥
 Run (c ∷ cs) p us vs =
-    Honest c us vs × unlessLast (called c p us vs).event cs (Run cs (called c p us vs) (drop (called c p us vs).here us) (drop (called c p us vs).there vs))
+    Honest c us vs × unless_last (called c p us vs).event cs (Run cs (called c p us vs) (drop (called c p us vs).here us) (drop (called c p us vs).there vs))
 
 -- a line, the last one included
 abbrev pub spoken : Event → List Line
@@ -275,7 +275,7 @@ printed (c ∷ cs) p us vs = spoken (called c p us vs).event ++ printed cs (call
 
 -- all that is still to be printed
 abbrev pub whole : ℕ → List Line → List Line
-whole k ls = map cappedLine ls ++ Differences (capped (k + length ls)) ∷ []
+whole k ls = map capped_line ls ++ Differences (capped (k + length ls)) ∷ []
 
 pub split : (i f : ℕ) (us : List ℕ) → i ≤ length (take f us) → drop i (take f us) ++ drop f us ≡ drop i us
 split i f us h = sym (drop-append-le i (take f us) (drop f us) h) ∙ ap (λ (l : List ℕ). drop i l) (take-append-drop f us)
@@ -295,7 +295,7 @@ module _ (c : Call) (cs : List Call) (p : Pass) (us vs : List ℕ) (n k a b : �
     pub first : ℕ
     pub second : ℕ
     pub lines : List Line
-    pub told : map cappedLine lines ≡ said r.event
+    pub told : map capped_line lines ≡ said r.event
     pub rest : todo n p a b us vs ≡ lines ++ todo now r first second us' vs'
     pub number : r.number ≡ capped now
     pub count : r.lines ≡ capped (k + length lines)
@@ -332,9 +332,9 @@ module _ (c : Call) (cs : List Call) (p : Pass) (us vs : List ℕ) (n k a b : �
       let m : ℕ = k + length q.lines + length t in
       let l : m ≡ k + length (q.lines ++ t) = omega (arith, length-append q.lines t) in
       ap (λ (z : List Line). z ++ whole (k + length q.lines) t) (e ∙ sym (ap said w) ∙ sym q.told)
-      ∙ sym (append_assoc (map cappedLine q.lines) (map cappedLine t) (Differences (capped m) ∷ []))
-      ∙ ap (λ (z : List Line). z ++ Differences (capped m) ∷ []) (sym (map-append cappedLine q.lines t))
-      ∙ ap (λ (z : ℕ). map cappedLine (q.lines ++ t) ++ Differences (capped z) ∷ []) l
+      ∙ sym (append_assoc (map capped_line q.lines) (map capped_line t) (Differences (capped m) ∷ []))
+      ∙ ap (λ (z : List Line). z ++ Differences (capped m) ∷ []) (sym (map-append capped_line q.lines t))
+      ∙ ap (λ (z : ℕ). map capped_line (q.lines ++ t) ++ Differences (capped z) ∷ []) l
       ∙ ap (λ (z : List Line). whole k z) (sym q.rest)
 
   -- the last call
@@ -349,7 +349,7 @@ module _ (c : Call) (cs : List Call) (p : Pass) (us vs : List ℕ) (n k a b : �
   abbrev Later : Type 0
   Later = (m j c d : ℕ) → r.number ≡ capped m → r.lines ≡ capped j → Run cs r us' vs' → printed cs r us' vs' ≡ whole j (todo m r c d us' vs')
 
-  call-prints : Later → (v : Event) → r.event ≡ v → unlessLast v cs (Run cs r us' vs') → spoken v ++ printed cs r us' vs' ≡ whole k (todo n p a b us vs)
+  call-prints : Later → (v : Event) → r.event ≡ v → unless_last v cs (Run cs r us' vs') → spoken v ++ printed cs r us' vs' ≡ whole k (todo n p a b us vs)
   call-prints ih v w h = go v w h
     where
       q : Stepped
@@ -358,7 +358,7 @@ module _ (c : Call) (cs : List Call) (p : Pass) (us vs : List ℕ) (n k a b : �
       on : (v : Event) → r.event ≡ v → spoken v ≡ said v → Run cs r us' vs' → spoken v ++ printed cs r us' vs' ≡ whole k (todo n p a b us vs)
       on v w e h = ap (λ (z : List Line). spoken v ++ z) (ih q.now (k + length q.lines) q.first q.second q.number q.count h) ∙ before q v w e
 
-      go : (v : Event) → r.event ≡ v → unlessLast v cs (Run cs r us' vs') → spoken v ++ printed cs r us' vs' ≡ whole k (todo n p a b us vs)
+      go : (v : Event) → r.event ≡ v → unless_last v cs (Run cs r us' vs') → spoken v ++ printed cs r us' vs' ≡ whole k (todo n p a b us vs)
       go Same w h = on Same w refl h
       go (Said l) w h = on (Said l) w refl h
       go (Last l) w h = ap (λ (z : List Call). l ∷ printed z r us' vs') h ∙ ended q l w
@@ -380,11 +380,11 @@ zero-plus m = omega arith
 
 -- two well-formed captures: any run over them that has come to its last line has printed the comparison
 pub compare-prints : (cs : List Call) (xs ys : List ℕ) → (reading_of xs).ending ≡ clean → (reading_of ys).ending ≡ clean
-    → Run cs freshPass xs ys → printed cs freshPass xs ys ≡ map cappedLine (comparedOf xs ys)
-unfolding comparisonOf
+    → Run cs fresh_pass xs ys → printed cs fresh_pass xs ys ≡ map capped_line (compared_of xs ys)
+unfolding comparison_of
 compare-prints cs xs ys ex ey h =
-    let e : printed cs freshPass xs ys ≡ whole 0 (todo 0 freshPass 0 0 xs ys) = run-prints cs freshPass xs ys 0 0 0 0 none-capped none-capped h in
-    let t = differencesFrom 0 (reading_of xs).records (reading_of ys).records in
-    e ∙ ap (λ (q : Reading). whole 0 (differencesFrom 0 q.records (rest_of Start 0 ys).records)) (rest-whole xs) ∙ ap
-    (λ (q : Reading). whole 0 (differencesFrom 0 (reading_of xs).records q.records)) (rest-whole ys)
-    ∙ ap (λ (z : ℕ). map cappedLine t ++ Differences (capped z) ∷ []) (zero-plus (length t)) ∙ sym (map-append cappedLine t (Differences (length t) ∷ [])) ∙ rw (ex, ey)
+    let e : printed cs fresh_pass xs ys ≡ whole 0 (todo 0 fresh_pass 0 0 xs ys) = run-prints cs fresh_pass xs ys 0 0 0 0 none-capped none-capped h in
+    let t = differences_from 0 (reading_of xs).records (reading_of ys).records in
+    e ∙ ap (λ (q : Reading). whole 0 (differences_from 0 q.records (rest_of Start 0 ys).records)) (rest-whole xs) ∙ ap
+    (λ (q : Reading). whole 0 (differences_from 0 (reading_of xs).records q.records)) (rest-whole ys)
+    ∙ ap (λ (z : ℕ). map capped_line t ++ Differences (capped z) ∷ []) (zero-plus (length t)) ∙ sym (map-append capped_line t (Differences (length t) ∷ [])) ∙ rw (ex, ey)

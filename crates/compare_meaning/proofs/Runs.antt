@@ -15,10 +15,10 @@ use Rattle.records.specs.declared.Phase.{Phase}
 use Rattle.record_front.specs.declared.Sign.{Sign}
 use Rattle.record_front.specs.declared.Sign.TheVariants as sign
 use Rattle.record_front.specs.declared.Front.{Front}
-use Rattle.records.specs.Kinds.{kind_of, mayStand, begins}
+use Rattle.records.specs.Kinds.{kind_of, may_stand, begins}
 use Rattle.records.specs.Reading.{clean, malformed, Reading, reading_of}
-use Rattle.records.specs.Values.{bodyFits}
-use Rattle.record_front.specs.Fronts.{frontOf}
+use Rattle.records.specs.Values.{body_fits}
+use Rattle.record_front.specs.Fronts.{front_of}
 use Rattle.record_front.proofs.Fronts.{standing, rest_of, rest-whole, Taken, Ended, Says, look-passes, front-within}
 use Rattle.compare_events.specs.declared.Line.{Line}
 use Rattle.compare_events.specs.declared.Line.TheVariants.{Differs, OnlyFirst, OnlySecond}
@@ -26,8 +26,8 @@ use Rattle.compare_events.specs.declared.Event.{Event}
 use Rattle.compare_events.specs.declared.Event.TheVariants.{Same, Said, Last, Wait, Broken}
 use Rattle.compare.specs.declared.Pass.{Pass}
 use Rattle.compare_events.specs.Events.{judge}
-use Rattle.compare.specs.Passing.{isSame, moved, movedBy, firstFront, secondFront, pairStep, passFrom, anew, passOf, freshPass}
-use Rattle.compare_meaning.proofs.Meaning.{nothing-passed, untrue, Call, called, Honest, unlessLast, Run}
+use Rattle.compare.specs.Passing.{is_same, moved, moved_by, first_front, second_front, pair_step, pass_from, anew, pass_of, fresh_pass}
+use Rattle.compare_meaning.proofs.Meaning.{nothing-passed, untrue, Call, called, Honest, unless_last, Run}
 
 not-clean : (at : ℕ) → malformed at ≡ clean → ⊥
 not-clean at e = let z : ◌≡◌ {A = ℕ} 0 1 = cc in omega arith
@@ -39,14 +39,14 @@ Told sign.Gone = Unit {0}
 Told sign.More = ⊥
 Told sign.Bad = Unit {0}
 
-pub all_told : (p : Phase) (bs : List ℕ) → Told (frontOf p bs true).sign
-unfolding frontOf
+pub all_told : (p : Phase) (bs : List ℕ) → Told (front_of p bs true).sign
+unfolding front_of
 all_told p [] = go (begins p)
   where
     go : (b : Bool) → Told (cond b sign.Gone sign.Bad)
     go true = tt
     go false = tt
-all_told p (k ∷ bs) = go (mayStand p (kind_of k).role) (leb (kind_of k).size (length bs)) (bodyFits k (take (kind_of k).size bs))
+all_told p (k ∷ bs) = go (may_stand p (kind_of k).role) (leb (kind_of k).size (length bs)) (body_fits k (take (kind_of k).size bs))
   where
     go : (b t u : Bool) → Told (standing p k true b t u).sign
     go false t u = tt
@@ -110,7 +110,7 @@ module _ (xs ys : List ℕ) (p : Pass) (q : Rest p xs ys) (A B : Front) (hx : p.
   second-broken t = not-clean b (sym (ap (λ (z : Reading). z.ending) t.rest) ∙ q.second)
 
   abbrev G : Event → Type 0
-  G e = Lives (movedBy p e A B).event p (movedBy p e A B) xs ys
+  G e = Lives (moved_by p e A B).event p (moved_by p e A B) xs ys
 
   two_records : (w : Bool) (l : Line) → Taken p.first a us [] A → Taken p.second b vs [] B → G (cond w Same (Said l))
   two_records true l s t = goes Same (first-after s) (second-after t) (omega (arith, s.some))
@@ -129,17 +129,17 @@ module _ (xs ys : List ℕ) (p : Pass) (q : Rest p xs ys) (A B : Front) (hx : p.
   fronts-live w n k sign.Bad x s t y u = absurd (first-broken s)
 
 module _ (xs ys : List ℕ) where
-  pair-lives : (p : Pass) → Rest p xs ys → Lives (pairStep p xs ys true true).event p (pairStep p xs ys true true) xs ys
-  unfolding pairStep
+  pair-lives : (p : Pass) → Rest p xs ys → Lives (pair_step p xs ys true true).event p (pair_step p xs ys true true) xs ys
+  unfolding pair_step
   pair-lives p q =
       let u = drop p.here xs in
       let v = drop p.there ys in
-      fronts-live xs ys p q (firstFront p xs true) (secondFront p ys true)
+      fronts-live xs ys p q (first_front p xs true) (second_front p ys true)
       (omega (arith, front-within p.first u true, length-drop p.here xs, q.here))
       (omega (arith, front-within p.second v true, length-drop p.there ys, q.there))
       _ p.number p.lines
-      (firstFront p xs true).sign (all_told p.first u) (look-passes p.first q.from u true [] (λ _. refl))
-      (secondFront p ys true).sign (all_told p.second v) (look-passes p.second q.till v true [] (λ _. refl))
+      (first_front p xs true).sign (all_told p.first u) (look-passes p.first q.from u true [] (λ _. refl))
+      (second_front p ys true).sign (all_told p.second v) (look-passes p.second q.till v true [] (λ _. refl))
 
   -- further from where one was, if it is further from a later place
   lives-from : (e : Event) (p r s : Pass) → Further p r xs ys → Lives e r s xs ys → Lives e p s xs ys
@@ -149,23 +149,23 @@ module _ (xs ys : List ℕ) where
   lives-from Wait p r s f l = l
   lives-from Broken p r s f l = l
 
-  same-further : (e : Event) (p r : Pass) → isSame e ≡ true → Lives e p r xs ys → Further p r xs ys
+  same-further : (e : Event) (p r : Pass) → is_same e ≡ true → Lives e p r xs ys → Further p r xs ys
   same-further Same p r h l = l
   same-further (Said x) p r h l = l
   same-further (Last x) p r h l = absurd (untrue h)
   same-further Wait p r h l = absurd l
   same-further Broken p r h l = absurd l
 
-  pass-lives : (j : ℕ) (p : Pass) → Rest p xs ys → Lives (passFrom j p xs ys true true).event p (passFrom j p xs ys true true) xs ys
+  pass-lives : (j : ℕ) (p : Pass) → Rest p xs ys → Lives (pass_from j p xs ys true true).event p (pass_from j p xs ys true true) xs ys
   pass-lives zero p q = pair-lives p q
-  pass-lives (suc j) p q = go (pair-lives p q) (λ z. pass-lives j (pairStep p xs ys true true) z) (isSame (pairStep p xs ys true true).event) refl
+  pass-lives (suc j) p q = go (pair-lives p q) (λ z. pass-lives j (pair_step p xs ys true true) z) (is_same (pair_step p xs ys true true).event) refl
     where
       r : Pass
-      r = pairStep p xs ys true true
+      r = pair_step p xs ys true true
 
-      go : Lives r.event p r xs ys → (Rest r xs ys → Lives (passFrom j r xs ys true true).event r (passFrom j r xs ys true true) xs ys) → (w : Bool) → isSame r.event ≡ w
-          → Lives (cond w (passFrom j r xs ys true true) r).event p (cond w (passFrom j r xs ys true true) r) xs ys
-      go l ih true h = let f = same-further r.event p r h l in lives-from (passFrom j r xs ys true true).event p r (passFrom j r xs ys true true) f (ih f.rest)
+      go : Lives r.event p r xs ys → (Rest r xs ys → Lives (pass_from j r xs ys true true).event r (pass_from j r xs ys true true) xs ys) → (w : Bool) → is_same r.event ≡ w
+          → Lives (cond w (pass_from j r xs ys true true) r).event p (cond w (pass_from j r xs ys true true) r) xs ys
+      go l ih true h = let f = same-further r.event p r h l in lives-from (pass_from j r xs ys true true).event p r (pass_from j r xs ys true true) f (ih f.rest)
       go l ih false h = l
 
 -- ---- calls that are lent all there is
@@ -189,8 +189,8 @@ module _ (p : Pass) (us vs : List ℕ) where
 
   whole-lives : (a b : ℕ) → (rest_of p.first a us).ending ≡ clean → (rest_of p.second b vs).ending ≡ clean → Lives r.event (anew p) r us vs
   whole-lives a b f s =
-      subst (λ (l : List ℕ). Lives (passOf p l (take (length vs) vs) true true).event (anew p) (passOf p l (take (length vs) vs) true true) us vs) (sym (take-length us))
-      (subst (λ (l : List ℕ). Lives (passOf p us l true true).event (anew p) (passOf p us l true true) us vs) (sym (take-length vs))
+      subst (λ (l : List ℕ). Lives (pass_of p l (take (length vs) vs) true true).event (anew p) (pass_of p l (take (length vs) vs) true true) us vs) (sym (take-length us))
+      (subst (λ (l : List ℕ). Lives (pass_of p us l true true).event (anew p) (pass_of p us l true true) us vs) (sym (take-length vs))
       (pass-lives us vs (length us) (anew p)
       (record {
         from = a;
@@ -205,7 +205,7 @@ module _ (p : Pass) (us vs : List ℕ) where
   Later n = (a b : ℕ) → (rest_of r.first a (drop r.here us)).ending ≡ clean → (rest_of r.second b (drop r.there vs)).ending ≡ clean → length
       (drop r.here us) + length (drop r.there vs) < n → SomeRun r (drop r.here us) (drop r.there vs)
 
-  onward : (n : ℕ) (v : Event) → r.event ≡ v → ((cs : List Call) (t : Type 0) → t → unlessLast v cs t) → length us + length vs < suc n → Further (anew p) r us vs → Later n → SomeRun p us vs
+  onward : (n : ℕ) (v : Event) → r.event ≡ v → ((cs : List Call) (t : Type 0) → t → unless_last v cs t) → length us + length vs < suc n → Further (anew p) r us vs → Later n → SomeRun p us vs
   onward n v w u h f ih =
       let q = f.rest in
       let s =
@@ -213,12 +213,12 @@ module _ (p : Pass) (us vs : List ℕ) where
       (ap (λ (l : List ℕ). (rest_of r.first q.from l).ending) (sym (append-nil (drop r.here us))) ∙ q.first)
       (ap (λ (l : List ℕ). (rest_of r.second q.till l).ending) (sym (append-nil (drop r.there vs))) ∙ q.second)
       (omega (arith, length-drop r.here us, length-drop r.there vs, q.here, q.there, f.more)) in
-      record { calls = c ∷ s.calls; run = (honest, subst (λ (z : Event). unlessLast z s.calls (Run s.calls r (drop r.here us) (drop r.there vs))) (sym w) (u s.calls _ s.run)) }
+      record { calls = c ∷ s.calls; run = (honest, subst (λ (z : Event). unless_last z s.calls (Run s.calls r (drop r.here us) (drop r.there vs))) (sym w) (u s.calls _ s.run)) }
 
   runs_on : (n : ℕ) → length us + length vs < suc n → Later n → (v : Event) → r.event ≡ v → Lives v (anew p) r us vs → SomeRun p us vs
   runs_on n h ih Same w l = onward n Same w (λ cs t z. z) h l ih
   runs_on n h ih (Said x) w l = onward n (Said x) w (λ cs t z. z) h l ih
-  runs_on n h ih (Last x) w l = record { calls = c ∷ []; run = (honest, subst (λ (z : Event). unlessLast z [] (Run [] r (drop r.here us) (drop r.there vs))) (sym w) refl) }
+  runs_on n h ih (Last x) w l = record { calls = c ∷ []; run = (honest, subst (λ (z : Event). unless_last z [] (Run [] r (drop r.here us) (drop r.there vs))) (sym w) refl) }
   runs_on n h ih Wait w l = absurd l
   runs_on n h ih Broken w l = absurd l
 
@@ -226,6 +226,6 @@ run-from : (n : ℕ) (p : Pass) (us vs : List ℕ) (a b : ℕ) → (rest_of p.fi
 run-from zero p us vs a b f s h = absurd (omega arith)
 run-from (suc n) p us vs a b f s h = runs_on p us vs n h (λ x y i j k. run-from n _ _ _ x y i j k) (called (all us vs) p us vs).event refl (whole-lives p us vs a b f s)
 
-pub some-run : (xs ys : List ℕ) → (reading_of xs).ending ≡ clean → (reading_of ys).ending ≡ clean → SomeRun freshPass xs ys
-some-run xs ys ex ey = run-from (suc (length xs + length ys)) freshPass xs ys 0 0 (ap (λ (q : Reading). q.ending) (rest-whole xs) ∙ ex)
+pub some-run : (xs ys : List ℕ) → (reading_of xs).ending ≡ clean → (reading_of ys).ending ≡ clean → SomeRun fresh_pass xs ys
+some-run xs ys ex ey = run-from (suc (length xs + length ys)) fresh_pass xs ys 0 0 (ap (λ (q : Reading). q.ending) (rest-whole xs) ∙ ex)
     (ap (λ (q : Reading). q.ending) (rest-whole ys) ∙ ey) (omega arith)

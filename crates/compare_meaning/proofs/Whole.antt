@@ -16,19 +16,19 @@ use Rattle.records.specs.declared.Phase.{Phase}
 use Rattle.records.specs.declared.Phase.TheVariants.{Start}
 use Rattle.records.specs.Kinds.{begins}
 use Rattle.records.specs.Reading.{Ending, clean, malformed, reading_of}
-use Rattle.records.specs.Frames.{capped, cappedEnding}
+use Rattle.records.specs.Frames.{capped, capped_ending}
 use Rattle.record_front.specs.declared.Sign.{Sign}
 use Rattle.record_front.specs.declared.Sign.TheVariants as sign
-use Rattle.record_front.specs.Fronts.{frontOf}
+use Rattle.record_front.specs.Fronts.{front_of}
 use Rattle.record_front.proofs.Fronts.{look-passes, Says, front-within}
 use Rattle.compare_events.specs.declared.Line.{Line}
 use Rattle.compare_events.specs.declared.Line.TheVariants.{FirstMalformed, SecondMalformed}
 use Rattle.compare_text.specs.Says.{text_of}
 use Rattle.compare.specs.declared.Formed.{Formed}
-use Rattle.compare.specs.Differences.{comparisonOf, comparedOf, cappedLine}
-use Rattle.compare.specs.Passing.{isRecord, formStep, formFrom, form_of, freshPass}
+use Rattle.compare.specs.Differences.{comparison_of, compared_of, capped_line}
+use Rattle.compare.specs.Passing.{is_record, form_step, form_from, form_of, fresh_pass}
 use Rattle.compare_meaning.proofs.Meaning.{Call, Run, printed, compare-prints, untrue}
-use Rattle.compare_meaning.proofs.Forms.{FormCall, FormRun, formed-by, unlessTold, form-tells}
+use Rattle.compare_meaning.proofs.Forms.{FormCall, FormRun, formed-by, unless_told, form-tells}
 use Rattle.compare_meaning.proofs.Runs.{some-run}
 use Rattle.compare_meaning.proofs.Runs as runs
 
@@ -36,21 +36,21 @@ use Rattle.compare_meaning.proofs.Runs as runs
 pub data Comparing (xs ys : List ℕ) : List Line → Type 0 where
   first-malformed : (cs : List FormCall) (p : ℕ) → FormRun cs Start 0 xs (malformed p) → Comparing xs ys (FirstMalformed p ∷ [])
   second-malformed : (cs ds : List FormCall) (p : ℕ) → FormRun cs Start 0 xs clean → FormRun ds Start 0 ys (malformed p) → Comparing xs ys (SecondMalformed p ∷ [])
-  side_by_side : (cs ds : List FormCall) (es : List Call) → FormRun cs Start 0 xs clean → FormRun ds Start 0 ys clean → Run es freshPass xs ys →
-      Comparing xs ys (printed es freshPass xs ys)
+  side_by_side : (cs ds : List FormCall) (es : List Call) → FormRun cs Start 0 xs clean → FormRun ds Start 0 ys clean → Run es fresh_pass xs ys →
+      Comparing xs ys (printed es fresh_pass xs ys)
 
 -- ---- what they print
 
-was-clean : (e : Ending) → clean ≡ cappedEnding e → e ≡ clean
+was-clean : (e : Ending) → clean ≡ capped_ending e → e ≡ clean
 was-clean clean h = refl
 was-clean (malformed p) h = absurd (let z : ◌≡◌ {A = ℕ} 0 1 = cc in omega arith)
 
-was-malformed : (e : Ending) (p : ℕ) → malformed p ≡ cappedEnding e → (q : ℕ) × (e ≡ malformed q) × (p ≡ capped q)
+was-malformed : (e : Ending) (p : ℕ) → malformed p ≡ capped_ending e → (q : ℕ) × (e ≡ malformed q) × (p ≡ capped q)
 was-malformed clean p h = absurd (let z : ◌≡◌ {A = ℕ} 0 1 = cc in omega arith)
 was-malformed (malformed q) p h = (q, refl, cc)
 
-pub comparing-prints : (xs ys : List ℕ) (ls : List Line) → Comparing xs ys ls → ls ≡ map cappedLine (comparedOf xs ys)
-unfolding comparisonOf
+pub comparing-prints : (xs ys : List ℕ) (ls : List Line) → Comparing xs ys ls → ls ≡ map capped_line (compared_of xs ys)
+unfolding comparison_of
 comparing-prints xs ys ls (first-malformed cs p h) =
     let (q, e, f) = was-malformed (reading_of xs).ending p (form-tells cs xs (malformed p) h) in
     rw e (ap (λ (n : ℕ). FirstMalformed n ∷ []) f)
@@ -61,7 +61,7 @@ comparing-prints xs ys ls (second-malformed cs ds p h k) =
 comparing-prints xs ys ls (side_by_side cs ds es h k r) =
     compare-prints es xs ys (was-clean (reading_of xs).ending (form-tells cs xs clean h)) (was-clean (reading_of ys).ending (form-tells ds ys clean k)) r
 
-pub comparing-text : (xs ys : List ℕ) (ls : List Line) → Comparing xs ys ls → text_of ls ≡ text_of (map cappedLine (comparedOf xs ys))
+pub comparing-text : (xs ys : List ℕ) (ls : List Line) → Comparing xs ys ls → text_of ls ≡ text_of (map capped_line (compared_of xs ys))
 comparing-text xs ys ls h = ap text_of (comparing-prints xs ys ls h)
 
 -- ---- there are such steps
@@ -73,15 +73,15 @@ Done sign.Gone = Unit {0}
 Done sign.More = ⊥
 Done sign.Bad = Unit {0}
 
-none_left : (p : Phase) (bs : List ℕ) → bs ≡ [] → Done (frontOf p bs true).sign
-unfolding frontOf
+none_left : (p : Phase) (bs : List ℕ) → bs ≡ [] → Done (front_of p bs true).sign
+unfolding front_of
 none_left p bs e = rw e (go (begins p))
   where
     go : (b : Bool) → Done (cond b sign.Gone sign.Bad)
     go true = tt
     go false = tt
 
-done-by : (s : Sign) → runs.Told s → isRecord s ≡ false → Done s
+done-by : (s : Sign) → runs.Told s → is_record s ≡ false → Done s
 done-by sign.Record t e = absurd (untrue (sym e))
 done-by sign.Gone t e = tt
 done-by sign.More t e = t
@@ -89,26 +89,26 @@ done-by sign.Bad t e = tt
 
 -- each record that is passed has a byte, so as many looks as there are bytes, and one, are enough
 module _ (bs : List ℕ) where
-  form-ends : (j : ℕ) (f : Formed) → f.used ≤ length bs → length bs ≤ f.used + j → Done (formFrom j f bs true).sign
-  unfolding formStep
+  form-ends : (j : ℕ) (f : Formed) → f.used ≤ length bs → length bs ≤ f.used + j → Done (form_from j f bs true).sign
+  unfolding form_step
   form-ends zero f h l = none_left f.phase (drop f.used bs) (drop_of_length-le bs {i = f.used} (omega arith))
-  form-ends (suc j) f h l = go (isRecord (formStep f bs true).sign) refl (form-ends j (formStep f bs true))
+  form-ends (suc j) f h l = go (is_record (form_step f bs true).sign) refl (form-ends j (form_step f bs true))
     where
-      fits : f.used + (frontOf f.phase (drop f.used bs) true).length ≤ length bs
+      fits : f.used + (front_of f.phase (drop f.used bs) true).length ≤ length bs
       fits = omega (arith, front-within f.phase (drop f.used bs) true, length-drop f.used bs)
 
-      some : (s : Sign) → isRecord s ≡ true → Says s f.phase 0 (drop f.used bs) [] (frontOf f.phase (drop f.used bs) true) → 1 ≤ (frontOf f.phase (drop f.used bs) true).length
+      some : (s : Sign) → is_record s ≡ true → Says s f.phase 0 (drop f.used bs) [] (front_of f.phase (drop f.used bs) true) → 1 ≤ (front_of f.phase (drop f.used bs) true).length
       some sign.Record e t = t.some
       some sign.Gone e t = absurd (untrue e)
       some sign.More e t = absurd (untrue e)
       some sign.Bad e t = absurd (untrue e)
 
-      go : (b : Bool) → isRecord (formStep f bs true).sign ≡ b → ((formStep f bs true).used ≤ length bs → length bs ≤ (formStep f bs true).used + j → Done (formFrom j (formStep f bs true) bs true).sign) →
-          Done (cond b (formFrom j (formStep f bs true) bs true) (formStep f bs true)).sign
+      go : (b : Bool) → is_record (form_step f bs true).sign ≡ b → ((form_step f bs true).used ≤ length bs → length bs ≤ (form_step f bs true).used + j → Done (form_from j (form_step f bs true) bs true).sign) →
+          Done (cond b (form_from j (form_step f bs true) bs true) (form_step f bs true)).sign
       go true e ih =
-          let s = some (formStep f bs true).sign e (look-passes f.phase 0 (drop f.used bs) true [] (λ _. refl)) in
+          let s = some (form_step f bs true).sign e (look-passes f.phase 0 (drop f.used bs) true [] (λ _. refl)) in
           ih fits (omega arith)
-      go false e ih = done-by (formStep f bs true).sign (runs.all_told f.phase (drop f.used bs)) e
+      go false e ih = done-by (form_step f bs true).sign (runs.all_told f.phase (drop f.used bs)) e
 
 pub record SomeForm (us : List ℕ) : Type 0 where
   pub calls : List FormCall
@@ -130,15 +130,15 @@ module _ (us : List ℕ) where
   pub some-form : SomeForm us
   some-form = go f.sign refl told
     where
-      made : (e : Ending) → unlessTold f.sign f.at [] e (FormRun [] f.phase f.at (drop f.used us) e) → SomeForm us
+      made : (e : Ending) → unless_told f.sign f.at [] e (FormRun [] f.phase f.at (drop f.used us) e) → SomeForm us
       made e h = record { calls = all ∷ []; ending = e; run = (λ _. drop-length us, h) }
 
       go : (s : Sign) → f.sign ≡ s → Done s → SomeForm us
       go sign.Record w d = absurd d
-      go sign.Gone w d = made clean (subst (λ (z : Sign). unlessTold z f.at [] clean (FormRun [] f.phase f.at (drop f.used us) clean)) (sym w) (refl, refl))
+      go sign.Gone w d = made clean (subst (λ (z : Sign). unless_told z f.at [] clean (FormRun [] f.phase f.at (drop f.used us) clean)) (sym w) (refl, refl))
       go sign.More w d = absurd d
       go sign.Bad w d =
-          made (malformed f.at) (subst (λ (z : Sign). unlessTold z f.at [] (malformed f.at) (FormRun [] f.phase f.at (drop f.used us) (malformed f.at))) (sym w) (refl, refl))
+          made (malformed f.at) (subst (λ (z : Sign). unless_told z f.at [] (malformed f.at) (FormRun [] f.phase f.at (drop f.used us) (malformed f.at))) (sym w) (refl, refl))
 
 pub some-comparing : (xs ys : List ℕ) → (ls : List Line) × Comparing xs ys ls
 some-comparing xs ys = go (some-form xs).ending (some-form ys).ending (some-form xs).run (some-form ys).run
@@ -150,4 +150,4 @@ some-comparing xs ys = go (some-form xs).ending (some-form ys).ending (some-form
         let x = was-clean (reading_of xs).ending (form-tells (some-form xs).calls xs clean h) in
         let y = was-clean (reading_of ys).ending (form-tells (some-form ys).calls ys clean k) in
         let r = some-run xs ys x y in
-        (printed r.calls freshPass xs ys, side_by_side (some-form xs).calls (some-form ys).calls r.calls h k r.run)
+        (printed r.calls fresh_pass xs ys, side_by_side (some-form xs).calls (some-form ys).calls r.calls h k r.run)

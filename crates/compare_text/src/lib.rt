@@ -3,7 +3,7 @@ ghost use Rattle.std.specs.Prelude.{◌++◌, ◌+◌, ◌≤◌, length, take};
 ghost use Rattle.text.specs.Bytes.{bytes};
 ghost use Rattle.page.specs.Page.{Puts};
 ghost use Rattle.phrases.specs.Phrase.{decimal};
-ghost use Rattle.compare_text.specs.Says.{lineText, Spells};
+ghost use Rattle.compare_text.specs.Says.{line_text, Spells};
 
 use compare_events::Line;
 
@@ -46,7 +46,7 @@ fn counted(head: [u8; 17], front: usize, n: u64) -> Parts
 }
 
 fn parts_of(line: Line) -> Parts
-    ensures { Spells (lineText line) result }
+    ensures { Spells (line_text line) result }
 {
     match line {
         Line::Differs(n) => numbered(n, *b" differs\n    ", 9),
@@ -71,7 +71,7 @@ fn around(page: &mut [u8], at: usize, head: &[u8], n: u64, tail: &[u8]) -> usize
 
 pub fn put_line(page: &mut [u8], at: usize, line: Line) -> usize
     requires { at + 40 ≤ length page.old }
-    ensures puts { Puts page.old at (lineText line) result page.new }
+    ensures puts { Puts page.old at (line_text line) result page.new }
     ensures upper_bound { result ≤ at + 40 }
 {
     let p = parts_of(line);

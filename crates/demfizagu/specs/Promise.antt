@@ -9,10 +9,10 @@ use Rattle.points.specs.declared.Accord.{Accord}
 use Rattle.openings.specs.declared.Start.{Start}
 use Rattle.openings.specs.declared.Opened.{Opened}
 use Rattle.openings.specs.Opening as opening
-use Rattle.c_states.specs.State.{senderIn, receiverIn}
+use Rattle.c_states.specs.State.{sender_in, receiver_in}
 use Rattle.card.specs.Card.{Card}
 use Rattle.card.specs.Promise.{Checks}
-use Rattle.demfizagu.specs.Calls.{Opening, receiverOpening, Sending, ListCall, Call}
+use Rattle.demfizagu.specs.Calls.{Opening, receiver_opening, Sending, ListCall, Call}
 
 pub record Opens {End : Type 0} (read : List ℕ → End) (c : Opening End) (n : ℕ) (state : List ℕ) : Type 0 where
   pub number : n ≡ c.number
@@ -21,25 +21,25 @@ pub record Opens {End : Type 0} (read : List ℕ → End) (c : Opening End) (n :
 
 -- whatever opening gave o, the state holds what that opening gives
 abbrev pub OpensAs : Opened → List ℕ → ℕ → List ℕ → Type 0
-OpensAs o state n after = (k : Accord) (w : ℕ) (b : Start) → opening.Opens k w b o → Opens receiverIn (receiverOpening state k w b) n after
+OpensAs o state n after = (k : Accord) (w : ℕ) (b : Start) → opening.Opens k w b o → Opens receiver_in (receiver_opening state k w b) n after
 
 pub record Sends (c : Sending) (n : ℕ) (state : List ℕ) (out : List ℤ) : Type 0 where
   pub number : n ≡ c.number
   pub state-is : state ≡ c.state
-  pub reads : senderIn state ≡ c.sender
+  pub reads : sender_in state ≡ c.sender
   pub out-is : out ≡ c.out
 
 pub record SendsList (c : ListCall) (n : ℕ) (state : List ℕ) (out : List ℤ) (told : List ℕ) : Type 0 where
   pub number : n ≡ c.number
   pub state-is : state ≡ c.state
-  pub reads : senderIn state ≡ c.sender
+  pub reads : sender_in state ≡ c.sender
   pub out-is : out ≡ c.out
   pub told_is : told ≡ c.told
 
 pub record Answers (c : Call) (n : ℕ) (state out told : List ℕ) : Type 0 where
   pub number : n ≡ c.number
   pub state-is : state ≡ c.state
-  pub reads : receiverIn state ≡ c.receiver
+  pub reads : receiver_in state ≡ c.receiver
   pub out-is : out ≡ c.out
   pub told_is : told ≡ c.told
 

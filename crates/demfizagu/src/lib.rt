@@ -3,25 +3,25 @@
 // Each function reads the state, calls the door that it wraps, and writes the state back where it changed. A state is read as closed
 // where it is too short, its tag is another, or the record in it is not sound (crate c_states).
 ghost use Rattle.std.specs.Prelude.{◌≡◌, ◌≤◌, length};
-ghost use Rattle.points.specs.Agreed.{ofWidth};
-ghost use Rattle.c_layout.specs.Accords.{accordBy};
+ghost use Rattle.points.specs.Agreed.{of_width};
+ghost use Rattle.c_layout.specs.Accords.{accord_by};
 ghost use Rattle.reasons.specs.Reason.{given_of};
-ghost use Rattle.receiver_meaning.specs.Piece.{pieceWith, markedPiece, piece_of};
-ghost use Rattle.openings.specs.Given.{plainWindow, start_at};
-ghost use Rattle.c_samples.specs.Counts.{toldOf};
-ghost use Rattle.c_samples.specs.Calls.{sampleCall, samplesCall, markedCall};
+ghost use Rattle.receiver_meaning.specs.Piece.{piece_with, marked_piece, piece_of};
+ghost use Rattle.openings.specs.Given.{plain_window, start_at};
+ghost use Rattle.c_samples.specs.Counts.{told_of};
+ghost use Rattle.c_samples.specs.Calls.{sample_call, samples_call, marked_call};
 ghost use Rattle.c_samples.specs.Promise.{Samples, Converts};
-ghost use Rattle.demfizagu.specs.Calls.{senderOpening, receiverOpening, sendCall, sendListCall, hearCall, finishCall, pendingIn, open_in};
+ghost use Rattle.demfizagu.specs.Calls.{sender_opening, receiver_opening, send_call, send_list_call, hear_call, finish_call, pending_in, open_in};
 ghost use Rattle.demfizagu.specs.Promise.{Opens, OpensAs, Sends, SendsList, Answers, ChecksCard};
-ghost use Rattle.c_layout.specs.Layout.{senderLength, receiverLength};
+ghost use Rattle.c_layout.specs.Layout.{sender_length, receiver_length};
 ghost use Rattle.recorder.specs.Promise.{OpenTaped};
 ghost use Rattle.c_recorder.specs.Calls as taped;
 ghost use Rattle.c_recorder.specs.Promise.{Records};
-ghost use Rattle.c_states.specs.State.{senderIn, receiverIn};
-ghost use Rattle.c_replay_state.specs.Table.{replayLength};
-ghost use Rattle.c_replay.specs.Calls.{startCall, feedCall, endCall};
+ghost use Rattle.c_states.specs.State.{sender_in, receiver_in};
+ghost use Rattle.c_replay_state.specs.Table.{replay_length};
+ghost use Rattle.c_replay.specs.Calls.{start_call, feed_call, end_call};
 ghost use Rattle.c_replay.specs.Promise.{Starts, Feeds, Ends};
-ghost use Rattle.card.specs.Promise.{cardOf};
+ghost use Rattle.card.specs.Promise.{card_of};
 
 use c_samples::tell;
 use c_states::{
@@ -40,21 +40,21 @@ pub extern "C" fn demfizagu_version() -> u32
 
 #[unsafe(no_mangle)]
 pub extern "C" fn demfizagu_sender_words() -> usize
-    ensures { result ≡ senderLength }
+    ensures { result ≡ sender_length }
 {
     c_layout::SENDER_WORDS
 }
 
 #[unsafe(no_mangle)]
 pub extern "C" fn demfizagu_receiver_words() -> usize
-    ensures { result ≡ receiverLength }
+    ensures { result ≡ receiver_length }
 {
     c_layout::RECEIVER_WORDS
 }
 
 #[unsafe(no_mangle)]
 pub extern "C" fn demfizagu_sender_open(state: &mut [u64], u: u32) -> u32
-    ensures { Opens senderIn (senderOpening state.old (ofWidth u)) result state.new }
+    ensures { Opens sender_in (sender_opening state.old (of_width u)) result state.new }
 {
     demfizagu_sender_open_map(state, 0, u)
 }
@@ -62,7 +62,7 @@ pub extern "C" fn demfizagu_sender_open(state: &mut [u64], u: u32) -> u32
 // The same on the map with this number: 0 is the round map, 1 the square map.
 #[unsafe(no_mangle)]
 pub extern "C" fn demfizagu_sender_open_map(state: &mut [u64], map: u32, u: u32) -> u32
-    ensures { Opens senderIn (senderOpening state.old (accordBy map u)) result state.new }
+    ensures { Opens sender_in (sender_opening state.old (accord_by map u)) result state.new }
 {
     if state.len() < c_layout::SENDER_WORDS {
         return 8;
@@ -77,7 +77,7 @@ pub extern "C" fn demfizagu_sender_open_map(state: &mut [u64], map: u32, u: u32)
 // Refused, in this order: a closed sender, a bit at or above 3 + 2u, an output shorter than four places.
 #[unsafe(no_mangle)]
 pub extern "C" fn demfizagu_send(state: &mut [u64], word: u32, out: &mut [i32]) -> u32
-    ensures { Sends (sendCall state.old word out.old) result state.new out.new }
+    ensures { Sends (send_call state.old word out.old) result state.new out.new }
 {
     let a = sender::send(load_sender(state), word, out);
     let why = a.why;
@@ -98,7 +98,7 @@ pub extern "C" fn demfizagu_send_list(
     out: &mut [i32],
     told: &mut [u64],
 ) -> u32
-    ensures { SendsList (sendListCall state.old words.now out.old told.old) result state.new out.new told.new }
+    ensures { SendsList (send_list_call state.old words.now out.old told.old) result state.new out.new told.new }
 {
     if told.len() < 3 {
         return 8;
@@ -130,7 +130,7 @@ fn opened(state: &mut [u64], o: Opened) -> u32
 
 #[unsafe(no_mangle)]
 pub extern "C" fn demfizagu_receiver_open(state: &mut [u64], u: u32, window: u32, start: u32) -> u32
-    ensures { Opens receiverIn (receiverOpening state.old (ofWidth u) window (start_at start)) result state.new }
+    ensures { Opens receiver_in (receiver_opening state.old (of_width u) window (start_at start)) result state.new }
 {
     demfizagu_receiver_open_map(state, 0, u, window, start)
 }
@@ -144,7 +144,7 @@ pub extern "C" fn demfizagu_receiver_open_map(
     window: u32,
     start: u32,
 ) -> u32
-    ensures { Opens receiverIn (receiverOpening state.old (accordBy map u) window (start_at start)) result state.new }
+    ensures { Opens receiver_in (receiver_opening state.old (accord_by map u) window (start_at start)) result state.new }
 {
     opened(
         state,
@@ -159,7 +159,7 @@ pub extern "C" fn demfizagu_receiver_open_map(
 // The plain opening of the receiver.
 #[unsafe(no_mangle)]
 pub extern "C" fn demfizagu_receiver_open_plain(state: &mut [u64], u: u32) -> u32
-    ensures { Opens receiverIn (receiverOpening state.old (ofWidth u) plainWindow Start.Free) result state.new }
+    ensures { Opens receiver_in (receiver_opening state.old (of_width u) plain_window Start.Free) result state.new }
 {
     opened(state, openings::open_plain(c_layout::accord_by(0, u)))
 }
@@ -167,7 +167,7 @@ pub extern "C" fn demfizagu_receiver_open_plain(state: &mut [u64], u: u32) -> u3
 // What a call came to, in the first three places of `told`. Gives its number.
 fn answer(told: &mut [u64], taken: usize, written: usize, why: Why) -> u32
     requires { 3 ≤ length told.old }
-    ensures { (result ≡ (given_of why).number) × (told.new ≡ toldOf taken written (given_of why).place told.old) }
+    ensures { (result ≡ (given_of why).number) × (told.new ≡ told_of taken written (given_of why).place told.old) }
 {
     let place = reasons::place(why);
     tell(told, taken, written, place as usize);
@@ -184,7 +184,7 @@ fn hear_piece(
     out: &mut [u32],
     told: &mut [u64],
 ) -> u32
-    ensures { Answers (hearCall state.old (pieceWith marked marks.now piece.now) out.old told.old) result
+    ensures { Answers (hear_call state.old (piece_with marked marks.now piece.now) out.old told.old) result
         state.new out.new told.new }
 {
     if told.len() < 3 {
@@ -225,7 +225,7 @@ pub extern "C" fn demfizagu_hear(
     out: &mut [u32],
     told: &mut [u64],
 ) -> u32
-    ensures { Answers (hearCall state.old (piece_of piece.now) out.old told.old) result state.new out.new told.new }
+    ensures { Answers (hear_call state.old (piece_of piece.now) out.old told.old) result state.new out.new told.new }
 {
     let none = [0u8; 0];
     hear_piece(state, false, &none, piece, out, told)
@@ -240,7 +240,7 @@ pub extern "C" fn demfizagu_hear_marked(
     out: &mut [u32],
     told: &mut [u64],
 ) -> u32
-    ensures { Answers (hearCall state.old (markedPiece marks.now piece.now) out.old told.old) result
+    ensures { Answers (hear_call state.old (marked_piece marks.now piece.now) out.old told.old) result
         state.new out.new told.new }
 {
     hear_piece(state, true, marks, piece, out, told)
@@ -249,7 +249,7 @@ pub extern "C" fn demfizagu_hear_marked(
 // The state is written back, closed, where the finish was done.
 #[unsafe(no_mangle)]
 pub extern "C" fn demfizagu_finish(state: &mut [u64], out: &mut [u32], told: &mut [u64]) -> u32
-    ensures { Answers (finishCall state.old out.old told.old) result state.new out.new told.new }
+    ensures { Answers (finish_call state.old out.old told.old) result state.new out.new told.new }
 {
     if told.len() < 3 {
         return 8;
@@ -268,7 +268,7 @@ pub extern "C" fn demfizagu_finish(state: &mut [u64], out: &mut [u32], told: &mu
 // 0 of a sender and of a closed state.
 #[unsafe(no_mangle)]
 pub extern "C" fn demfizagu_pending(state: &[u64]) -> u32
-    ensures { result ≡ pendingIn state.now }
+    ensures { result ≡ pending_in state.now }
 {
     let n = openings::pending(load_receiver(state));
     n as u32
@@ -289,7 +289,7 @@ pub extern "C" fn demfizagu_is_open(state: &[u64]) -> u32
 
 #[unsafe(no_mangle)]
 pub extern "C" fn demfizagu_sample(x: f32, y: f32, out: &mut [i32]) -> u32
-    ensures { Samples (sampleCall x y out.old) result out.new }
+    ensures { Samples (sample_call x y out.old) result out.new }
 {
     c_samples::convert_sample(x, y, out)
 }
@@ -297,7 +297,7 @@ pub extern "C" fn demfizagu_sample(x: f32, y: f32, out: &mut [i32]) -> u32
 // Refused as a whole where the length is odd.
 #[unsafe(no_mangle)]
 pub extern "C" fn demfizagu_samples(floats: &[f32], out: &mut [i32], told: &mut [u64]) -> u32
-    ensures { Converts (samplesCall floats.now out.old told.old) result out.new told.new }
+    ensures { Converts (samples_call floats.now out.old told.old) result out.new told.new }
 {
     c_samples::convert_list(floats, out, told)
 }
@@ -310,7 +310,7 @@ pub extern "C" fn demfizagu_samples_marked(
     out: &mut [i32],
     told: &mut [u64],
 ) -> u32
-    ensures { Converts (markedCall floats.now missing.now out.old told.old) result out.new told.new }
+    ensures { Converts (marked_call floats.now missing.now out.old told.old) result out.new told.new }
 {
     c_samples::convert_marked(floats, missing, out, told)
 }
@@ -318,7 +318,7 @@ pub extern "C" fn demfizagu_samples_marked(
 // The record of an opening: 8 where the bytes are too short for it, then 1, 2, 3. A refusal writes no byte.
 #[unsafe(no_mangle)]
 pub extern "C" fn demfizagu_record_open(u: u32, window: u32, start: u32, bytes: &mut [u8]) -> u32
-    ensures { OpenTaped (ofWidth u) window start bytes.old result bytes.new }
+    ensures { OpenTaped (of_width u) window start bytes.old result bytes.new }
 {
     demfizagu_record_open_map(0, u, window, start, bytes)
 }
@@ -332,7 +332,7 @@ pub extern "C" fn demfizagu_record_open_map(
     start: u32,
     bytes: &mut [u8],
 ) -> u32
-    ensures { OpenTaped (accordBy map u) window start bytes.old result bytes.new }
+    ensures { OpenTaped (accord_by map u) window start bytes.old result bytes.new }
 {
     recorder::record_open(c_layout::accord_by(map, u), window, start, bytes)
 }
@@ -345,7 +345,7 @@ pub extern "C" fn demfizagu_hear_recorded(
     bytes: &mut [u8],
     told: &mut [u64],
 ) -> u32
-    ensures { Records (taped.hearCall state.old (piece_of piece.now) out.old bytes.old told.old)
+    ensures { Records (taped.hear_call state.old (piece_of piece.now) out.old bytes.old told.old)
         result state.new out.new bytes.new told.new }
 {
     c_recorder::hear_recorded(state, piece, out, bytes, told)
@@ -360,7 +360,7 @@ pub extern "C" fn demfizagu_hear_marked_recorded(
     bytes: &mut [u8],
     told: &mut [u64],
 ) -> u32
-    ensures { Records (taped.hearCall state.old (markedPiece marks.now piece.now) out.old bytes.old told.old)
+    ensures { Records (taped.hear_call state.old (marked_piece marks.now piece.now) out.old bytes.old told.old)
         result state.new out.new bytes.new told.new }
 {
     c_recorder::hear_marked_recorded(state, piece, marks, out, bytes, told)
@@ -373,7 +373,7 @@ pub extern "C" fn demfizagu_finish_recorded(
     bytes: &mut [u8],
     told: &mut [u64],
 ) -> u32
-    ensures { Records (taped.finishCall state.old out.old bytes.old told.old)
+    ensures { Records (taped.finish_call state.old out.old bytes.old told.old)
         result state.new out.new bytes.new told.new }
 {
     c_recorder::finish_recorded(state, out, bytes, told)
@@ -381,14 +381,14 @@ pub extern "C" fn demfizagu_finish_recorded(
 
 #[unsafe(no_mangle)]
 pub extern "C" fn demfizagu_replay_words() -> usize
-    ensures { result ≡ replayLength }
+    ensures { result ≡ replay_length }
 {
     c_replay_state::table::WORDS
 }
 
 #[unsafe(no_mangle)]
 pub extern "C" fn demfizagu_replay_start(state: &mut [u64]) -> u32
-    ensures { Starts (startCall state.old) result state.new }
+    ensures { Starts (start_call state.old) result state.new }
 {
     c_replay::start(state)
 }
@@ -401,7 +401,7 @@ pub extern "C" fn demfizagu_replay_feed(
     line: &mut [u8],
     told: &mut [u64],
 ) -> u32
-    ensures { Feeds state.old lump.now (feedCall state.old lump.now line.old told.old) result
+    ensures { Feeds state.old lump.now (feed_call state.old lump.now line.old told.old) result
         state.new line.new told.new }
 {
     c_replay::feed(state, lump, line, told)
@@ -409,7 +409,7 @@ pub extern "C" fn demfizagu_replay_feed(
 
 #[unsafe(no_mangle)]
 pub extern "C" fn demfizagu_replay_end(state: &mut [u64], line: &mut [u8], told: &mut [u64]) -> u32
-    ensures { Ends (endCall state.old line.old told.old) result state.new line.new told.new }
+    ensures { Ends (end_call state.old line.old told.old) result state.new line.new told.new }
 {
     c_replay::end(state, line, told)
 }
@@ -424,7 +424,7 @@ pub extern "C" fn demfizagu_check_card(
     symbols: &[u32],
     numbers: &[u64],
 ) -> u32
-    ensures { ChecksCard (accordBy map u) (cardOf coordinates.now states.now symbols.now numbers.now) result }
+    ensures { ChecksCard (accord_by map u) (card_of coordinates.now states.now symbols.now numbers.now) result }
 {
     let k = c_layout::accord_by(map, u);
     if card::check(k, coordinates, states, symbols, numbers) {

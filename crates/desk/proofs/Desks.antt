@@ -16,25 +16,25 @@ use Rattle.requests.specs.declared.Request.{Request}
 use Rattle.requests.specs.Named.{Named}
 use Rattle.requests.specs.Verb.{Sizes, Fit}
 use Rattle.samples.specs.declared.Marked.{Marked}
-use Rattle.samples.specs.Sampled.{GivenSampled, markedGiven}
-use Rattle.samples.specs.Heard.{heardCoordinate, heardBits, bothOrFault, heardSample}
+use Rattle.samples.specs.Sampled.{GivenSampled, marked_given}
+use Rattle.samples.specs.Heard.{heard_coordinate, heard_bits, both_or_fault, heard_sample}
 use Rattle.sender.specs.declared.Sender.{Sender}
 use Rattle.sender.specs.declared.SentList.{SentList}
-use Rattle.sender.specs.Send.{number_of, sound, after, symbolFor, four, sending, Given}
-use Rattle.sender.specs.SendList.{sendingList}
+use Rattle.sender.specs.Send.{number_of, sound, after, symbol_for, four, sending, Given}
+use Rattle.sender.specs.SendList.{sending_list}
 use Rattle.sender.specs.Promise.{SendsList}
 use Rattle.sender.proofs.Lists.{Alike, list-alike, list-fits}
-use Rattle.wei.specs.Word.{isWord}
+use Rattle.wei.specs.Word.{is_word}
 use Rattle.reasons.specs.Reason.{given_of}
 use Rattle.receiver.specs.declared.Answer.{Answer}
 use Rattle.receiver.specs.Doors.{Ran}
 use Rattle.receiver.specs.Promise.{Is}
 use Rattle.desk.specs.declared.Desk.{Desk}
 use Rattle.desk.specs.declared.Done.{Done}
-use Rattle.answers.specs.Answer.{answerRoom, firstFour, sentLine, listLine, heardLine, sampleLine, sampledLine}
+use Rattle.answers.specs.Answer.{answer_room, first_four, sent_line, list_line, heard_line, sample_line, sampled_line}
 use Rattle.desk.specs.Room.{Long, Ready}
-use Rattle.phrases.specs.Phrase.{decimal, whole, afterSpaces}
-use Rattle.desk.specs.Desk.{Result, says, withSender, sendGives, listGives, lent, Does, Acts}
+use Rattle.phrases.specs.Phrase.{decimal, whole, after_spaces}
+use Rattle.desk.specs.Desk.{Result, says, with_sender, send_gives, list_gives, lent, Does, Acts}
 use Rattle.phrases.proofs.Phrases.{puts-as}
 
 -- ---- what was done
@@ -64,23 +64,23 @@ at_cap f {n} {cap} {most} {page} {at} {r} {page'} e g = subst (λ (k : ℕ). Doe
 
 -- ---- a send
 
-first-four : (a b c d : ℤ) (out : List ℤ) → firstFour (a ∷ b ∷ c ∷ d ∷ out) ≡ a ∷ b ∷ c ∷ d ∷ []
+first-four : (a b c d : ℤ) (out : List ℤ) → first_four (a ∷ b ∷ c ∷ d ∷ out) ≡ a ∷ b ∷ c ∷ d ∷ []
 first-four a b c d out = rw (le-leb 4 (length (a ∷ b ∷ c ∷ d ∷ out)) (omega arith))
 
 -- what the output held before makes no difference
-send-same : (d : Desk) (s : Sender) (w : ℕ) (out out' : List ℤ) → length out ≡ length out' → sendGives d (sending s w out) ≡ sendGives d (sending s w out')
-unfolding sending sentLine four
-send-same d s w out out' e = rw (← e) (by (sound s) (isWord s.accord.u w) (leb 4 (length out))) where
+send-same : (d : Desk) (s : Sender) (w : ℕ) (out out' : List ℤ) → length out ≡ length out' → send_gives d (sending s w out) ≡ send_gives d (sending s w out')
+unfolding sending sent_line four
+send-same d s w out out' e = rw (← e) (by (sound s) (is_word s.accord.u w) (leb 4 (length out))) where
   gives : Bool → Bool → Bool → List ℤ → Given
   gives a b c o =
       cond a
-      (cond b (cond c (record { number = 0; sender = after s w; output = four s.accord (symbolFor s w) ++ drop 4 o }) (record { number = 8; sender = s; output = o }))
+      (cond b (cond c (record { number = 0; sender = after s w; output = four s.accord (symbol_for s w) ++ drop 4 o }) (record { number = 8; sender = s; output = o }))
       (record { number = 4; sender = s; output = o }))
       (record { number = 9; sender = s; output = o })
 
-  by : (a b c : Bool) → sendGives d (gives a b c out) ≡ sendGives d (gives a b c out')
+  by : (a b c : Bool) → send_gives d (gives a b c out) ≡ send_gives d (gives a b c out')
   by true true true =
-      ap (λ (zs : List ℤ). says (withSender d (after s w)) (decimal 0 ++ afterSpaces (map whole zs) ++ bytes "\n"))
+      ap (λ (zs : List ℤ). says (with_sender d (after s w)) (decimal 0 ++ after_spaces (map whole zs) ++ bytes "\n"))
       (first-four _ _ _ _ (drop 4 out) ∙ sym (first-four _ _ _ _ (drop 4 out')))
   by true true false = refl
   by true false c = refl
@@ -88,27 +88,27 @@ send-same d s w out out' e = rw (← e) (by (sound s) (isWord s.accord.u w) (leb
 
 module _ (d : Desk) (s : Sender) (w : ℕ) (out : List ℤ) where
   abbrev sent : Result
-  sent = sendGives d (sending s w (lent (length out)))
+  sent = send_gives d (sending s w (lent (length out)))
 
-  same : sendGives d (sending s w out) ≡ sent
+  same : send_gives d (sending s w out) ≡ sent
   same = send-same d s w out (lent (length out)) (sym (length-replicate (length out) _))
 
-  pub sent-desk : {s' : Sender} → s' ≡ (sending s w out).sender → withSender d s' ≡ sent.desk
-  sent-desk e = ap (withSender d) e ∙ ap (λ (g : Result). g.desk) same
+  pub sent-desk : {s' : Sender} → s' ≡ (sending s w out).sender → with_sender d s' ≡ sent.desk
+  sent-desk e = ap (with_sender d) e ∙ ap (λ (g : Result). g.desk) same
 
-  pub sent-text : {n : ℕ} {o : List ℤ} → n ≡ (sending s w out).number → o ≡ (sending s w out).output → sentLine n o ≡ sent.text
+  pub sent-text : {n : ℕ} {o : List ℤ} → n ≡ (sending s w out).number → o ≡ (sending s w out).output → sent_line n o ≡ sent.text
   sent-text e f = rw (e, f) (ap (λ (g : Result). g.text) same)
 
 -- ---- a list
 
 module _ (d : Desk) (s : Sender) (ns : List ℕ) (out : List ℤ) {r : SentList} {o : List ℤ} (is : SendsList s ns out r o) where
-  alike : Alike (sendingList s ns out) (sendingList s ns (lent (length out)))
+  alike : Alike (sending_list s ns out) (sending_list s ns (lent (length out)))
   alike = list-alike s ns out (lent (length out)) (sym (length-replicate (length out) _))
 
-  pub list-desk : withSender d r.sender ≡ (listGives d (sendingList s ns (lent (length out)))).desk
-  list-desk = ap (withSender d) (is.sender ∙ alike.sender)
+  pub list-desk : with_sender d r.sender ≡ (list_gives d (sending_list s ns (lent (length out)))).desk
+  list-desk = ap (with_sender d) (is.sender ∙ alike.sender)
 
-  pub list-text : {n : ℕ} → n ≡ number_of r.why → listLine r.sent n (take (4 * r.sent) o) ≡ (listGives d (sendingList s ns (lent (length out)))).text
+  pub list-text : {n : ℕ} → n ≡ number_of r.why → list_line r.sent n (take (4 * r.sent) o) ≡ (list_gives d (sending_list s ns (lent (length out)))).text
   list-text e = rw (e, is.number, is.sent, is.output, ← alike.number, ← alike.written, ← alike.sent)
 
   pub list-room : 4 * r.sent ≤ length out
@@ -120,18 +120,18 @@ module _ {ran : Ran} {out : List ℕ} {a : Answer} {o : List ℕ} (is : Is ran o
   pub written-words : take a.written o ≡ ran.words
   written-words = rw (is.written, is.output) (take_at ran.words (drop (length ran.words) out) (length ran.words) refl)
 
-  pub heard-text : heardLine a.taken (given_of a.why) (take a.written o) ≡ heardLine ran.taken (given_of ran.why) ran.words
+  pub heard-text : heard_line a.taken (given_of a.why) (take a.written o) ≡ heard_line ran.taken (given_of ran.why) ran.words
   heard-text = rw (is.taken, is.given, written-words)
 
 -- ---- a sample
 
-pub answer-text : {p q : Marked} {g : GivenSampled} → p ≡ q → markedGiven p ≡ g → sampledLine (markedGiven q) ≡ sampledLine g
-answer-text e h = ap sampledLine (sym (ap markedGiven e) ∙ h)
+pub answer-text : {p q : Marked} {g : GivenSampled} → p ≡ q → marked_given p ≡ g → sampled_line (marked_given q) ≡ sampled_line g
+answer-text e h = ap sampled_line (sym (ap marked_given e) ∙ h)
 
-pub sample-text : (fx fy : Float) (x y : ℕ) → heardCoordinate fx ≡ heardBits x → heardCoordinate fy ≡ heardBits y
-    → sampleLine (heardSample fx fy) ≡ sampleLine (bothOrFault (heardBits x) (heardBits y))
-unfolding heardSample
-sample-text fx fy x y hx hy = ap sampleLine (ap (λ a. bothOrFault a (heardCoordinate fy)) hx ∙ ap (λ b. bothOrFault (heardBits x) b) hy)
+pub sample-text : (fx fy : Float) (x y : ℕ) → heard_coordinate fx ≡ heard_bits x → heard_coordinate fy ≡ heard_bits y
+    → sample_line (heard_sample fx fy) ≡ sample_line (both_or_fault (heard_bits x) (heard_bits y))
+unfolding heard_sample
+sample-text fx fy x y hx hy = ap sample_line (ap (λ a. both_or_fault a (heard_coordinate fy)) hx ∙ ap (λ b. both_or_fault (heard_bits x) b) hy)
 
 -- ---- sizes
 
@@ -147,7 +147,7 @@ long-on : {l l' : Named} → Long l → length l'.coordinates ≡ length l.coord
 long-on h a b c = record { coordinates-long = a ∙ h.coordinates-long; words_long = b ∙ h.words_long; marks-long = c ∙ h.marks-long }
 
 -- a request that was read into the lists can be answered, where the page has room
-pub ready : {asked : Request} {page : List ℕ} {at : ℕ} (l : Named) {l' : Named} → Long l → at + answerRoom ≤ length page
+pub ready : {asked : Request} {page : List ℕ} {at : ℕ} (l : Named) {l' : Named} → Long l → at + answer_room ≤ length page
     → length l'.coordinates ≡ length l.coordinates → length l'.words ≡ length l.words → length l'.marks ≡ length l.marks
     → Fit (length l.coordinates) asked → Ready asked page at l'
 ready {asked} l long h a b c f = record { fit = subst (λ (n : ℕ). Fit n asked) (sym a) f; room = h; long = long-on long a b c }

@@ -6,7 +6,7 @@ use Rattle.std.specs.Prelude.{ℕ, ◌+◌, ◌≤◌, ◌≡◌, List, length}
 use Rattle.requests.specs.declared.Request.{Request}
 use Rattle.requests.specs.Named.{Named}
 use Rattle.requests.specs.Verb.{Fit}
-use Rattle.answers.specs.Answer.{answerRoom}
+use Rattle.answers.specs.Answer.{answer_room}
 
 pub record Long (l : Named) : Type 0 where
   pub coordinates-long : length l.coordinates ≡ 4096
@@ -15,5 +15,5 @@ pub record Long (l : Named) : Type 0 where
 
 pub record Ready (asked : Request) (page : List ℕ) (at : ℕ) (l : Named) : Type 0 where
   pub fit : Fit (length l.coordinates) asked
-  pub room : at + answerRoom ≤ length page
+  pub room : at + answer_room ≤ length page
   pub long : Long l

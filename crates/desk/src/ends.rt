@@ -1,13 +1,13 @@
 // The two ends on the desk: one of them changed, the other as it was.
 ghost use Rattle.std.specs.Prelude.{◌≡◌};
-ghost use Rattle.desk.specs.Desk.{withSender, withReceiver};
+ghost use Rattle.desk.specs.Desk.{with_sender, with_receiver};
 
 use crate::{Desk, Done};
 use machine::Receiver;
 use sender::Sender;
 
 pub fn with_sender(desk: Desk, sender: Sender, at: usize) -> Done
-    ensures { result ≡ record { desk = withSender desk sender; at = at } }
+    ensures { result ≡ record { desk = with_sender desk sender; at = at } }
 {
     let receiver = desk.receiver;
     Done {
@@ -17,7 +17,7 @@ pub fn with_sender(desk: Desk, sender: Sender, at: usize) -> Done
 }
 
 pub fn with_receiver(desk: Desk, receiver: Receiver, at: usize) -> Done
-    ensures { result ≡ record { desk = withReceiver desk receiver; at = at } }
+    ensures { result ≡ record { desk = with_receiver desk receiver; at = at } }
 {
     let sender = desk.sender;
     Done {

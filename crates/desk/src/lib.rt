@@ -2,7 +2,7 @@
 // answer are those of specs/Desk.antt. Each verb is a file of src/verbs/; here stand the ends, and which verb a request is for.
 ghost use Rattle.std.specs.Prelude.{◌≡◌};
 ghost use Rattle.requests.specs.Named.{named};
-ghost use Rattle.desk.specs.Desk.{closedDesk, Acts};
+ghost use Rattle.desk.specs.Desk.{closed_desk, Acts};
 ghost use Rattle.desk.specs.Room.{Ready};
 
 use machine::Receiver;
@@ -26,7 +26,7 @@ pub struct Done {
 }
 
 pub fn closed() -> Desk
-    ensures { result ≡ closedDesk }
+    ensures { result ≡ closed_desk }
 {
     Desk {
         sender: sender::closed_sender(),

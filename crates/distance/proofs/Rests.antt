@@ -1,6 +1,6 @@
 -- The size of a signed difference, and what a squared distance leaves modulo 256.
 --   Spread d a b     d is the sum or the difference of a and b
---   natAbs-*         the size of a product
+--   nat_abs-*         the size of a product
 --   spread           the size of r - 128 c is such a sum or difference, of those of r and 128 c
 --   same_rest        all distances from one spot leave the same remainder modulo 256
 use mathlib.Core.Path.{◌≡◌, refl, sym, ap, ◌∙◌}
@@ -12,7 +12,7 @@ use borrow.Author.Tests.{ltb-true, ltb-false}
 use lib.Dec.{ltb}
 use lib.IntN.{ℤ, pos, negsuc, neg_ℤ, nat_abs, sub_ℕ, ◌-ℤ◌, ◌+ℤ◌, ◌*ℤ◌}
 use Rattle.points.specs.declared.Point.{Point}
-use Rattle.points.proofs.Signed.{natAbs-neg}
+use Rattle.points.proofs.Signed.{nat_abs-neg}
 use Rattle.distance.specs.declared.Spot.{Spot}
 use Rattle.distance.specs.Distance.{difference, square, distance}
 
@@ -41,16 +41,16 @@ spread-+ (negsuc a) (pos b) = swapped (spread-sub b (suc a))
 spread-+ (negsuc a) (negsuc b) = sum (omega arith)
 
 spread-- : (a b : ℤ) → Spread (nat_abs (a -ℤ b)) (nat_abs a) (nat_abs b)
-spread-- a b = rw natAbs-neg at (spread-+ a (neg_ℤ b))
+spread-- a b = rw nat_abs-neg at (spread-+ a (neg_ℤ b))
 
-pub natAbs-* : (a b : ℤ) → nat_abs (a *ℤ b) ≡ nat_abs a * nat_abs b
-natAbs-* (pos a) (pos b) = refl
-natAbs-* (pos a) (negsuc b) = natAbs-neg (pos (a * suc b))
-natAbs-* (negsuc a) (pos b) = natAbs-neg (pos (suc a * b))
-natAbs-* (negsuc a) (negsuc b) = refl
+pub nat_abs-* : (a b : ℤ) → nat_abs (a *ℤ b) ≡ nat_abs a * nat_abs b
+nat_abs-* (pos a) (pos b) = refl
+nat_abs-* (pos a) (negsuc b) = nat_abs-neg (pos (a * suc b))
+nat_abs-* (negsuc a) (pos b) = nat_abs-neg (pos (suc a * b))
+nat_abs-* (negsuc a) (negsuc b) = refl
 
 pub spread : (r c : ℤ) → Spread (nat_abs (difference r c)) (nat_abs r) (128 * nat_abs c)
-spread r c = rw (natAbs-* (pos 128) c) at (spread-- r (pos 128 *ℤ c))
+spread r c = rw (nat_abs-* (pos 128) c) at (spread-- r (pos 128 *ℤ c))
 
 -- (a + 128 b)² is a² and a multiple of 256
 square-plus : (a b : ℕ) → (a + 128 * b) * (a + 128 * b) ≡ a * a + 256 * (a * b + 64 * (b * b))

@@ -1,6 +1,6 @@
 -- How far a spot on the line is from a point, from 01, "What the receiver hears".
 --   SpotInRange s    both coordinates of the spot s are received coordinates
---   onLine c         where the point coordinate c stands
+--   on_line c         where the point coordinate c stands
 --   difference r c   the signed difference of r from the point coordinate c
 --   square z         the square of a signed number
 --   distance s p     the squared distance of the spot s from the point p
@@ -14,11 +14,11 @@ pub record SpotInRange (s : Spot) : Type 0 where
   pub y-in : nat_abs s.y ≤ 8192
 
 -- "Point coordinate c stands at 128·c"
-abbrev pub onLine : ℤ → ℤ
-onLine c = pos 128 *ℤ c
+abbrev pub on_line : ℤ → ℤ
+on_line c = pos 128 *ℤ c
 
 abbrev pub difference : ℤ → ℤ → ℤ
-difference r c = r -ℤ onLine c
+difference r c = r -ℤ on_line c
 
 abbrev pub square : ℤ → ℕ
 square z = nat_abs z * nat_abs z

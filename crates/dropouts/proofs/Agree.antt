@@ -15,22 +15,22 @@ use native.Mathlib.Decide.{ℕ_discrete}
 use native.Mathlib.Omega.{arith}
 use lib.Dec.{T}
 use lib.ListN.{length, take}
-use Rattle.wei.specs.State.{nextState}
-use Rattle.wei.specs.Symbol.{Symbol, firstLabel, lastLabel, Valid, AllowedFrom, symbol_of, symbols_from}
+use Rattle.wei.specs.State.{next_state}
+use Rattle.wei.specs.Symbol.{Symbol, first_label, last_label, Valid, AllowedFrom, symbol_of, symbols_from}
 use Rattle.points.specs.declared.Accord.{Accord}
 use Rattle.points.specs.declared.Point.{Point}
-use Rattle.points.specs.Agreed.{isAccord}
-use Rattle.maps.specs.PointMap.{pointAt, first_at, secondAt}
+use Rattle.points.specs.Agreed.{is_accord}
+use Rattle.maps.specs.PointMap.{point_at, first_at, second_at}
 use Rattle.maps.proofs.Both.{is-map}
 use Rattle.trellis.specs.Lists.{Every}
 use Rattle.trellis.specs.Code.{Code, Path, begin, step, symbols, Allowed, cost}
 use Rattle.trellis.specs.Best.{Answer}
-use Rattle.trellis.specs.Measure.{Start, mayStart, Two, cap, counted, firstFar, secondFar, farOf}
+use Rattle.trellis.specs.Measure.{Start, may_start, Two, cap, counted, first_far, second_far, far_of}
 use Rattle.distance.specs.declared.Spot.{Spot}
 use Rattle.distance.specs.Distance.{distance}
 use Rattle.nearest.specs.declared.Received.{Received}
 use Rattle.nearest.specs.declared.Received.TheVariants.{Heard, Missing}
-use Rattle.nearest.specs.Line.{lineDistance, lineMeasure}
+use Rattle.nearest.specs.Line.{line_distance, line_measure}
 use Rattle.receiver_meaning.specs.Told.{code_of}
 use Rattle.sender.specs.Send.{four}
 use Rattle.sender.specs.Run as sender
@@ -47,26 +47,26 @@ Same (Heard h) l w m v = (l ≡ m) × (w ≡ v)
 Same Missing l w m v = Unit {0}
 
 pub record Agrees (r : Two Received) (c d : Symbol) : Type 0 where
-  pub first-same : Same r.first (firstLabel c) c.w1 (firstLabel d) d.w1
-  pub second-same : Same r.second (lastLabel c) c.w2 (lastLabel d) d.w2
+  pub first-same : Same r.first (first_label c) c.w1 (first_label d) d.w1
+  pub second-same : Same r.second (last_label c) c.w2 (last_label d) d.w2
 
 pub record LeastAt (k : Accord) (r : Two Received) (d : Symbol) : Type 0 where
-  pub least : (c : Symbol) → Valid k.u c → (lineMeasure k).far r d ≤ (lineMeasure k).far r c
-  pub only : (c : Symbol) → Valid k.u c → (lineMeasure k).far r c ≤ (lineMeasure k).far r d → Agrees r c d
+  pub least : (c : Symbol) → Valid k.u c → (line_measure k).far r d ≤ (line_measure k).far r c
+  pub only : (c : Symbol) → Valid k.u c → (line_measure k).far r c ≤ (line_measure k).far r d → Agrees r c d
 
 pub record PartlyAt (k : Accord) (P : Spot → Point → Type 0) (r : Two Received) (c : Symbol) : Type 0 where
   pub at_first : IfHeard P r.first (first_at k c)
-  pub at_second : IfHeard P r.second (secondAt k c)
+  pub at_second : IfHeard P r.second (second_at k c)
 
 -- from the coordinates that a sender wrote to its symbols, from any state and turn
-pub partly-along : (k : Accord) (P : Spot → Point → Type 0) (s q : ℕ) (ns : List ℕ) (rs : List (Two Received)) → Partly P rs (sender.coordinatesOf k (symbols_from k.u s q ns)) →
+pub partly-along : (k : Accord) (P : Spot → Point → Type 0) (s q : ℕ) (ns : List ℕ) (rs : List (Two Received)) → Partly P rs (sender.coordinates_of k (symbols_from k.u s q ns)) →
     Along (PartlyAt k P) rs (symbols_from k.u s q (take (length rs) ns))
 unfolding symbols_from four
 partly-along k P s q ns [] h = tt
 partly-along k P s q [] (r ∷ rs) h = absurd h
 partly-along k P s q (n ∷ ns) (r ∷ rs) h =
     let c = symbol_of k.u s q n in
-    (record { at_first = h.0; at_second = h.1 }, partly-along k P (nextState s c.i1 c.i2) (firstLabel c) ns rs h.2)
+    (record { at_first = h.0; at_second = h.1 }, partly-along k P (next_state s c.i1 c.i2) (first_label c) ns rs h.2)
 
 -- ---- one point
 
@@ -74,48 +74,48 @@ counted-less : (a b : ℕ) → a < b → a < cap → counted a < counted b
 unfolding counted
 counted-less a b h k = omega arith
 
-module _ (k : Accord) (g : isAccord k ≡ true) (P : Spot → Point → Type 0) (S : Serves k P) where
+module _ (k : Accord) (g : is_accord k ≡ true) (P : Spot → Point → Type 0) (S : Serves k P) where
   -- the point with label m and number v was sent
   module _ (m v : ℕ) (hm : m < 4) (hv : v < 2 ^ k.u) where
     record NoNearer (h : Received) (l w : ℕ) : Type 0 where
-      near : counted (lineDistance k h m v) ≤ counted (lineDistance k h l w)
-      same : counted (lineDistance k h l w) ≤ counted (lineDistance k h m v) → Same h l w m v
+      near : counted (line_distance k h m v) ≤ counted (line_distance k h l w)
+      same : counted (line_distance k h l w) ≤ counted (line_distance k h m v) → Same h l w m v
 
-    point-near : (h : Received) → IfHeard P h (pointAt k m v) → (l w : ℕ) → l < 4 → w < 2 ^ k.u → NoNearer h l w
-    unfolding lineDistance
+    point-near : (h : Received) → IfHeard P h (point_at k m v) → (l w : ℕ) → l < 4 → w < 2 ^ k.u → NoNearer h l w
+    unfolding line_distance
     point-near Missing z l w hl hw = record { near = omega arith; same = λ _. tt }
     point-near (Heard h) z l w hl hw = go (ℕ_discrete l m) (ℕ_discrete w v)
       where
-        a : OnlyNearest k h (pointAt k m v)
+        a : OnlyNearest k h (point_at k m v)
         a = S h m v hm hv z
 
-        other : (pointAt k l w ≡ pointAt k m v → ⊥) → NoNearer (Heard h) l w
+        other : (point_at k l w ≡ point_at k m v → ⊥) → NoNearer (Heard h) l w
         other n =
-            let t : counted (distance h (pointAt k m v)) < counted (distance h (pointAt k l w)) =
-            counted-less (distance h (pointAt k m v)) (distance h (pointAt k l w)) (a.nearer l w hl hw n) a.counts in
+            let t : counted (distance h (point_at k m v)) < counted (distance h (point_at k l w)) =
+            counted-less (distance h (point_at k m v)) (distance h (point_at k l w)) (a.nearer l w hl hw n) a.counts in
             record { near = omega arith; same = λ e. absurd (omega arith) }
 
         go : Dec (l ≡ m) → Dec (w ≡ v) → NoNearer (Heard h) l w
         go (yes e) (yes f) =
-            let t : counted (distance h (pointAt k l w)) ≡ counted (distance h (pointAt k m v)) = ap₂ (λ (x y : ℕ). counted (distance h (pointAt k x y))) e f in
+            let t : counted (distance h (point_at k l w)) ≡ counted (distance h (point_at k m v)) = ap₂ (λ (x y : ℕ). counted (distance h (point_at k x y))) e f in
             record { near = omega arith; same = λ _. (e, f) }
         go (yes e) (no f) = other (λ p. f ((is-map k.map).apart k.u l m w v g hl hm hw hv p).1)
         go (no e) d = other (λ p. e ((is-map k.map).apart k.u l m w v g hl hm hw hv p).0)
 
   -- ---- one symbol
   symbol-least : (r : Two Received) (d : Symbol) → Valid k.u d → PartlyAt k P r d → LeastAt k r d
-  unfolding first_at secondAt farOf firstFar secondFar
+  unfolding first_at second_at far_of first_far second_far
   symbol-least r d vd z =
       record {
         least = λ c vc. omega (arith, (one c vc).near, (two c vc).near);
         only = λ c vc e. record { first-same = (one c vc).same (omega (arith, (two c vc).near)); second-same = (two c vc).same (omega (arith, (one c vc).near)) };
       }
     where
-      one : (c : Symbol) → Valid k.u c → NoNearer (firstLabel d) d.w1 (first_below k.u d vd) vd.w1-below r.first (firstLabel c) c.w1
-      one c vc = point-near (firstLabel d) d.w1 (first_below k.u d vd) vd.w1-below r.first z.at_first (firstLabel c) c.w1 (first_below k.u c vc) vc.w1-below
+      one : (c : Symbol) → Valid k.u c → NoNearer (first_label d) d.w1 (first_below k.u d vd) vd.w1-below r.first (first_label c) c.w1
+      one c vc = point-near (first_label d) d.w1 (first_below k.u d vd) vd.w1-below r.first z.at_first (first_label c) c.w1 (first_below k.u c vc) vc.w1-below
 
-      two : (c : Symbol) → Valid k.u c → NoNearer (lastLabel d) d.w2 (last-below d) vd.w2-below r.second (lastLabel c) c.w2
-      two c vc = point-near (lastLabel d) d.w2 (last-below d) vd.w2-below r.second z.at_second (lastLabel c) c.w2 (last-below c) vc.w2-below
+      two : (c : Symbol) → Valid k.u c → NoNearer (last_label d) d.w2 (last-below d) vd.w2-below r.second (last_label c) c.w2
+      two c vc = point-near (last_label d) d.w2 (last-below d) vd.w2-below r.second z.at_second (last_label c) c.w2 (last-below c) vc.w2-below
 
   pub partly-least : (rs : List (Two Received)) (ds : List Symbol) → Every (Valid k.u) ds → Along (PartlyAt k P) rs ds → Along (LeastAt k) rs ds
   partly-least = along-valid (Valid k.u) (PartlyAt k P) (LeastAt k) symbol-least
@@ -127,7 +127,7 @@ module _ (k : Accord) (b : Start) where
   K = code_of k b
 
   abbrev far : Two Received → Symbol → ℕ
-  far = (lineMeasure k).far
+  far = (line_measure k).far
 
   least-agrees : (ys : List (Two Received)) (p q : Path Symbol) → Allowed K ys p → Allowed K ys q → AlongPath (LeastAt k) ys q →
       (cost K ys q ≤ cost K ys p) × (cost K ys p ≤ cost K ys q → Beside Agrees (reverse ys) (symbols p) (symbols q))
@@ -150,10 +150,10 @@ module _ (k : Accord) (b : Start) where
       )
 
   -- what was sent from the state s
-  pub answer-agrees : (s : ℕ) → s < 16 → T (mayStart b s) → (xs : List (Two Received)) (ds : List Symbol) → Along (LeastAt k) xs ds → AllowedFrom k.u s ds →
+  pub answer-agrees : (s : ℕ) → s < 16 → T (may_start b s) → (xs : List (Two Received)) (ds : List Symbol) → Along (LeastAt k) xs ds → AllowedFrom k.u s ds →
       (p : Path Symbol) → Answer (code_of k b) (reverse xs) p → Beside Agrees xs (symbols p) ds
   answer-agrees s h t xs ds l a p A =
-      let q = sent-path k.u (lineMeasure k) b (LeastAt k) s h t xs ds l a in
+      let q = sent-path k.u (line_measure k) b (LeastAt k) s h t xs ds l a in
       let z : Beside Agrees (reverse (reverse xs)) (symbols p) (symbols q.path) =
       (least-agrees (reverse xs) p q.path A.allowed q.allowed q.along).1 (A.least q.path q.allowed).by-sum in
       rw (reverse-reverse, q.symbols-are) at z

@@ -9,7 +9,7 @@ use lib.ListN.{length, take}
 use mathlib.Core.Bool.{false}
 use Rattle.points.specs.declared.Accord.{Accord}
 use Rattle.trellis.specs.Measure.{Two}
-use Rattle.trellis.specs.Words.{asHeard}
+use Rattle.trellis.specs.Words.{as_heard}
 use Rattle.distance.specs.Distance.{distance}
 use Rattle.nearest.specs.declared.Received.{Received}
 use Rattle.openings.specs.declared.Start.{Start}
@@ -25,18 +25,18 @@ use Rattle.dropouts.proofs.Library as plain
 
 module _ (k : Accord) (words : List ℕ) (ps : List ℤ) (state : List ℕ) (s : LibrarySends k words ps state) (w : ℕ) (b : Start) (z : StartsAtZero b) where
   module _ (took : List (Two Received)) (r : T (rested 0 took)) (f : T (fixed (start_of b) took)) (ws : List ℕ) (e : LibraryMixedEnded k w b took ws) where
-    pub spoiled-back : Partly (OnlyNearest k) took ps → CameBack k.u false took (asHeard (start_of b) words) ws
+    pub spoiled-back : Partly (OnlyNearest k) took ps → CameBack k.u false took (as_heard (start_of b) words) ws
     spoiled-back c = plain.spoiled-back k words ps state s w b z took r f c ws (library-ended-plainly k w b e)
 
-    pub noisy : Partly (Near 127) took ps → CameBack k.u false took (asHeard (start_of b) words) ws
+    pub noisy : Partly (Near 127) took ps → CameBack k.u false took (as_heard (start_of b) words) ws
     noisy c = plain.noisy k words ps state s w b z took r f c ws (library-ended-plainly k w b e)
 
-    pub euclid : Partly (λ h p. distance h p < 16384) took ps → CameBack k.u false took (asHeard (start_of b) words) ws
+    pub euclid : Partly (λ h p. distance h p < 16384) took ps → CameBack k.u false took (as_heard (start_of b) words) ws
     euclid c = plain.euclid k words ps state s w b z took r f c ws (library-ended-plainly k w b e)
 
   module _ (took zs : List (Two Received)) (r : T (rested 0 (took ++ zs))) (f : T (fixed (start_of b) (took ++ zs))) (ws state' : List ℕ) (h : LibraryMixed k w b took ws state') where
-    pub begins : Partly (OnlyNearest k) (took ++ zs) ps → CameBack k.u false (take (length ws) (took ++ zs)) (asHeard (start_of b) words) ws
+    pub begins : Partly (OnlyNearest k) (took ++ zs) ps → CameBack k.u false (take (length ws) (took ++ zs)) (as_heard (start_of b) words) ws
     begins c = plain.begins k words ps state s w b z took zs r f c ws state' (library-plainly k w b h)
 
-    pub noisy-begins : Partly (Near 127) (took ++ zs) ps → CameBack k.u false (take (length ws) (took ++ zs)) (asHeard (start_of b) words) ws
+    pub noisy-begins : Partly (Near 127) (took ++ zs) ps → CameBack k.u false (take (length ws) (took ++ zs)) (as_heard (start_of b) words) ws
     noisy-begins c = plain.noisy-begins k words ps state s w b z took zs r f c ws state' (library-plainly k w b h)

@@ -7,7 +7,7 @@ use Rattle.std.specs.Prelude.{◌≡◌, Bool, cond, ◌||◌, List, [], ◌∷�
 use Rattle.wei.specs.Word.{unpacked, packed}
 use Rattle.trellis.specs.Measure.{Two}
 use Rattle.nearest.specs.declared.Received.{Received}
-use Rattle.dropouts.specs.Gaps.{isMissing, lostBoth}
+use Rattle.dropouts.specs.Gaps.{is_missing, lost_both}
 
 -- "every word is the word sent but for: the bits of a missing point's number, which are 0; and where both were missing, bit 2 of that word and of the next".
 -- So I1 and I2, bits 0 and 1, are never touched, and a word whose symbol is whole, after one that was not missing whole, is not spoiled (`as-sent`, proofs/Back)
@@ -18,8 +18,8 @@ spoiled u unsure r i n =
       i1 = p.i1;
       i2 = p.i2;
       i3 = cond unsure i p.i3;
-      w1 = cond (isMissing r.first) 0 p.w1;
-      w2 = cond (isMissing r.second) 0 p.w2;
+      w1 = cond (is_missing r.first) 0 p.w1;
+      w2 = cond (is_missing r.second) 0 p.w2;
     })
 
 -- bit 2 is I3, which is measured from the symbol before
@@ -28,4 +28,4 @@ CameBack u lost [] ns [] = Unit {0}
 CameBack u lost [] ns (w ∷ ws) = ⊥
 CameBack u lost (r ∷ rs) [] ws = ⊥
 CameBack u lost (r ∷ rs) (n ∷ ns) [] = ⊥
-CameBack u lost (r ∷ rs) (n ∷ ns) (w ∷ ws) = ((i : ℕ) × (i < 2) × (w ≡ spoiled u (lost || lostBoth r) r i n)) × CameBack u (lostBoth r) rs ns ws
+CameBack u lost (r ∷ rs) (n ∷ ns) (w ∷ ws) = ((i : ℕ) × (i < 2) × (w ≡ spoiled u (lost || lost_both r) r i n)) × CameBack u (lost_both r) rs ns ws

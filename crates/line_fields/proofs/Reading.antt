@@ -15,12 +15,12 @@ use native.Mathlib.Decide.{ℕ_discrete}
 use borrow.Author.Tests.{le-leb, lt-leb}
 use lib.ListN.{length, take, drop, set, length-drop, length-set}
 use lib.Seq.{drop-drop, take-suc-set, take_all, append_snoc}
-use Rattle.text.specs.Token.{tokens, lengthBefore, Cuts}
+use Rattle.text.specs.Token.{tokens, length_before, Cuts}
 use Rattle.text.proofs.Digits.{to_end}
 use Rattle.text.proofs.Tokens.{last-token, more-tokens, token_end}
 use Rattle.line_fields.specs.declared.Place.{Place}
 use Rattle.line_fields.specs.declared.Place.TheVariants as place
-use Rattle.line_fields.specs.Fields.{tokensAt, Field, withFirst, field_of, fieldIn, Gives}
+use Rattle.line_fields.specs.Fields.{tokens_at, Field, with_first, field_of, field_in, Gives}
 
 -- numbers more in front
 abbrev onto : {A : Type 0} → List A → Option (Field A) → Option (Field A)
@@ -31,23 +31,23 @@ onto-none : {A : Type 0} (o : Option (Field A)) → o ≡ onto [] o
 onto-none (some f) = refl
 onto-none none = refl
 
-onto-more : {A : Type 0} (xs : List A) (x : A) (o : Option (Field A)) → onto xs (withFirst (some x) o) ≡ onto (xs ++ (x ∷ [])) o
+onto-more : {A : Type 0} (xs : List A) (x : A) (o : Option (Field A)) → onto xs (with_first (some x) o) ≡ onto (xs ++ (x ∷ [])) o
 onto-more {A} xs x (some f) = ap (λ (l : List A). some (record { values = l; rest = f.rest })) (sym (append_snoc xs x f.values))
 onto-more xs x none = refl
 
 -- ---- the tokens from a place on
 
-none_left : (s : List ℕ) (from : ℕ) → length s < from → tokensAt s from ≡ []
+none_left : (s : List ℕ) (from : ℕ) → length s < from → tokens_at s from ≡ []
 none_left s from h = rw (lt-leb from (length s) h)
 
 one_token : (s : List ℕ) (from n : ℕ) → from ≤ length s → Cuts 32 (take (length s - from) (drop from s)) n →
-    tokensAt s from ≡ take n (drop from s) ∷ tokensAt s (from + n + 1)
+    tokens_at s from ≡ take n (drop from s) ∷ tokens_at s (from + n + 1)
 one_token s from n h cut = rw (le-leb from (length s) h) (go (ℕ_discrete (from + n) (length s)))
   where
-    is : n ≡ lengthBefore 32 (drop from s)
+    is : n ≡ length_before 32 (drop from s)
     is = cut.is ∙ rw (to_end from s)
 
-    go : Dec (from + n ≡ length s) → tokens (drop from s) ≡ take n (drop from s) ∷ tokensAt s (from + n + 1)
+    go : Dec (from + n ≡ length s) → tokens (drop from s) ≡ take n (drop from s) ∷ tokens_at s (from + n + 1)
     go (yes e) =
         let all : n ≡ length (drop from s) = rw length-drop (omega arith) in
         rw (none_left s (from + n + 1) (omega arith), take_all n (drop from s) (omega arith)) (last-token (drop from s) (omega (arith, is)))
@@ -63,11 +63,11 @@ pub record Read {A : Type 0} (p : List ℕ → Option A) (s : List ℕ) (at n fr
   pub left : ℕ
   pub counts : k + left ≡ n
   pub long : length list ≡ n
-  pub field : field_of p n (tokensAt s at) ≡ onto (take k list) (field_of p left (tokensAt s from))
+  pub field : field_of p n (tokens_at s at) ≡ onto (take k list) (field_of p left (tokens_at s from))
 
 -- a first token t that writes x
 one-read : {A : Type 0} (p : List ℕ → Option A) {left l : ℕ} {t : List ℕ} {ts tts : List (List ℕ)} {x : A} → left ≡ suc l → tts ≡ t ∷ ts → p t ≡ some x →
-    field_of p left tts ≡ withFirst (some x) (field_of p l ts)
+    field_of p left tts ≡ with_first (some x) (field_of p l ts)
 one-read p a b c = rw (a, b, c)
 
 module _ {A : Type 0} (p : List ℕ → Option A) (s : List ℕ) (at : ℕ) where
@@ -80,7 +80,7 @@ module _ {A : Type 0} {p : List ℕ → Option A} {s : List ℕ} {at n from k : 
       let done : r.left ≡ 0 = omega (arith, r.counts, r.long) in
       let all : take k list ++ [] ≡ list = append-nil (take k list) ∙ take_all k list h in
       record {
-        field = sym (r.field ∙ rw done (ap (λ (l : List A). some (record { values = l; rest = tokensAt s from })) all));
+        field = sym (r.field ∙ rw done (ap (λ (l : List A). some (record { values = l; rest = tokens_at s from })) all));
         long = r.long;
       }
 
@@ -104,7 +104,7 @@ module _ {A : Type 0} {p : List ℕ → Option A} {s : List ℕ} {at n from k : 
       more v x same h =
           let got : p (take m (drop from s)) ≡ some x = sym (rw (add-sub_cancel_left from m) at h) ∙ ap (λ (a : A). some a) (sym same) in
           let stored : take (k + 1) (set list k x) ≡ take k list ++ (x ∷ []) = rw add-one (take-suc-set list k x space) in
-          let o = field_of p (r.left - 1) (tokensAt s (from + m + 1)) in
+          let o = field_of p (r.left - 1) (tokens_at s (from + m + 1)) in
           record {
             left = r.left - 1;
             counts = omega (arith, r.counts, r.long);
@@ -119,5 +119,5 @@ module _ {A : Type 0} {p : List ℕ → Option A} {s : List ℕ} {at n from k : 
 -- ---- settled
 
 pub one_field : {A : Type 0} {p : List ℕ → Option A} {s : List ℕ} {at n : ℕ} {r r' : Place} {list list' : List A} → Gives p s at n r list → Gives p s at n r' list' →
-    fieldIn s list r ≡ fieldIn s list' r'
+    field_in s list r ≡ field_in s list' r'
 one_field a b = a.field ∙ sym b.field

@@ -11,80 +11,80 @@ use lib.Dec.{leb}
 use lib.ListN.{length, get_or, set, take, drop, length-append, length-drop, drop_of_length-le}
 use lib.Seq.{drop-cons, take-suc, take_all, length-take-le}
 use Rattle.lists.proofs.Filled.{set_next}
-use Rattle.line_fields.specs.Row.{isMark, allMarks, marksOf, is_row, row_of, count_of, Row}
+use Rattle.line_fields.specs.Row.{is_mark, all_marks, marks_of, is_row, row_of, count_of, Row}
 use Rattle.text.specs.Bytes.{bytes}
-use Rattle.text.specs.Token.{sameBytes}
+use Rattle.text.specs.Token.{same_bytes}
 use Rattle.number_lists.specs.declared.Many.TheVariants as many
 
 module _ (t : List ℕ) (i : ℕ) (in-range : i < length t) where
-  pub too-low : get_or t i 0 < 48 → allMarks (drop i t) ≡ false
-  unfolding isMark
+  pub too-low : get_or t i 0 < 48 → all_marks (drop i t) ≡ false
+  unfolding is_mark
   too-low h = rw (drop-cons t i 0 in-range) (simp (lt-leb 48 (get_or t i 0) h))
 
-  pub too-high : 51 < get_or t i 0 → allMarks (drop i t) ≡ false
-  unfolding isMark
+  pub too-high : 51 < get_or t i 0 → all_marks (drop i t) ≡ false
+  unfolding is_mark
   too-high h = rw (drop-cons t i 0 in-range) (simp (le-leb 48 (get_or t i 0) (omega arith), lt-leb (get_or t i 0) 51 h))
 
-  pub one_more : 48 ≤ get_or t i 0 → get_or t i 0 ≤ 51 → allMarks (drop (i + 1) t) ≡ allMarks (drop i t)
-  unfolding isMark
+  pub one_more : 48 ≤ get_or t i 0 → get_or t i 0 ≤ 51 → all_marks (drop (i + 1) t) ≡ all_marks (drop i t)
+  unfolding is_mark
   one_more a b = rw (add-one, drop-cons t i 0 in-range) (simp (le-leb 48 (get_or t i 0) a, le-leb (get_or t i 0) 51 b))
 
-pub all_seen : (t : List ℕ) (i : ℕ) → length t ≤ i → allMarks (drop i t) ≡ true
+pub all_seen : (t : List ℕ) (i : ℕ) → length t ≤ i → all_marks (drop i t) ≡ true
 all_seen t i h = rw (drop_of_length-le t h)
 
-pub marks-length : (t : List ℕ) → length (marksOf t) ≡ length t
+pub marks-length : (t : List ℕ) → length (marks_of t) ≡ length t
 marks-length [] = refl
 marks-length (b ∷ t) = ap suc (marks-length t)
 
-mark-at : (t : List ℕ) (i : ℕ) → i < length t → get_or (marksOf t) i 0 ≡ get_or t i 0 - 48
+mark-at : (t : List ℕ) (i : ℕ) → i < length t → get_or (marks_of t) i 0 ≡ get_or t i 0 - 48
 mark-at [] i h = absurd (omega arith)
 mark-at (b ∷ t) zero h = refl
 mark-at (b ∷ t) (suc i) h = mark-at t i (omega arith)
 
 -- a byte of a row is a digit
-pub row-byte : (t : List ℕ) (i : ℕ) → allMarks t ≡ true → i < length t → 48 ≤ get_or t i 0
-unfolding isMark
+pub row-byte : (t : List ℕ) (i : ℕ) → all_marks t ≡ true → i < length t → 48 ≤ get_or t i 0
+unfolding is_mark
 row-byte [] i e h = absurd (omega arith)
-row-byte (b ∷ t) i e h = go (isMark b) refl e (λ j f k. row-byte t j f k) i h
+row-byte (b ∷ t) i e h = go (is_mark b) refl e (λ j f k. row-byte t j f k) i h
   where
-    low : isMark b ≡ true → 48 ≤ b
+    low : is_mark b ≡ true → 48 ≤ b
     low f = by (leb 48 b) refl f where
       by : (x : Bool) → leb 48 b ≡ x → cond x (leb b 51) false ≡ true → 48 ≤ b
       by true g f = leb-true 48 b g
       by false g f = absurd (false≢true f)
 
-    go : (x : Bool) → isMark b ≡ x → cond x (allMarks t) false ≡ true → ((j : ℕ) → allMarks t ≡ true → j < length t → 48 ≤ get_or t j 0) → (j : ℕ) → j < length (b ∷ t) → 48 ≤ get_or (b ∷ t) j 0
+    go : (x : Bool) → is_mark b ≡ x → cond x (all_marks t) false ≡ true → ((j : ℕ) → all_marks t ≡ true → j < length t → 48 ≤ get_or t j 0) → (j : ℕ) → j < length (b ∷ t) → 48 ≤ get_or (b ∷ t) j 0
     go false g f r j k = absurd (false≢true f)
     go true g f r zero k = low g
     go true g f r (suc j) k = r j f (omega arith)
 
 -- i marks of the row t stand in front of a list that was l₀
-module _ (t l₀ : List ℕ) {l : List ℕ} (i : ℕ) (is : l ≡ take i (marksOf t) ++ drop i l₀) (room : length t ≤ length l₀) where
-  front : i ≤ length t → length (take i (marksOf t)) ≡ i
-  front h = length-take-le i (marksOf t) (omega (arith, marks-length t))
+module _ (t l₀ : List ℕ) {l : List ℕ} (i : ℕ) (is : l ≡ take i (marks_of t) ++ drop i l₀) (room : length t ≤ length l₀) where
+  front : i ≤ length t → length (take i (marks_of t)) ≡ i
+  front h = length-take-le i (marks_of t) (omega (arith, marks-length t))
 
   pub filled-length : i ≤ length t → length l ≡ length l₀
-  filled-length h = ap length is ∙ length-append (take i (marksOf t)) (drop i l₀) ∙ rw (front h, length-drop) (omega arith)
+  filled-length h = ap length is ∙ length-append (take i (marks_of t)) (drop i l₀) ∙ rw (front h, length-drop) (omega arith)
 
-  pub filled_more : i < length t → set l i (get_or t i 0 - 48) ≡ take (i + 1) (marksOf t) ++ drop (i + 1) l₀
+  pub filled_more : i < length t → set l i (get_or t i 0 - 48) ≡ take (i + 1) (marks_of t) ++ drop (i + 1) l₀
   filled_more h =
-      rw (is, set_next (take i (marksOf t)) l₀ i 0 (get_or t i 0 - 48) (front (omega arith)) (omega arith), ← mark-at t i h, add-one i, take-suc (marksOf t) i 0 (omega (arith, marks-length t)))
+      rw (is, set_next (take i (marks_of t)) l₀ i 0 (get_or t i 0 - 48) (front (omega arith)) (omega arith), ← mark-at t i h, add-one i, take-suc (marks_of t) i 0 (omega (arith, marks-length t)))
 
-  pub all-filled : i ≡ length t → l ≡ marksOf t ++ drop (length t) l₀
-  all-filled e = is ∙ rw (e, take_all (length t) (marksOf t) (omega (arith, marks-length t)))
+  pub all-filled : i ≡ length t → l ≡ marks_of t ++ drop (length t) l₀
+  all-filled e = is ∙ rw (e, take_all (length t) (marks_of t) (omega (arith, marks-length t)))
 
 -- what is read of a token
 module _ (t l : List ℕ) where
-  pub no-marks : sameBytes t (bytes "-") ≡ true → Row t l (many.Got 0) l
+  pub no-marks : same_bytes t (bytes "-") ≡ true → Row t l (many.Got 0) l
   unfolding row_of
   no-marks e = record { count = rw e; filled = rw e }
 
-  module _ (other : sameBytes t (bytes "-") ≡ false) where
+  module _ (other : same_bytes t (bytes "-") ≡ false) where
     pub no_row : is_row (length l) t ≡ false → Row t l many.Bad l
     unfolding row_of
     no_row e = record { count = rw (other, e); filled = rw (other, e) }
 
-    pub a-row : {l' : List ℕ} → is_row (length l) t ≡ true → l' ≡ marksOf t ++ drop (length t) l → Row t l (many.Got (length t)) l'
+    pub a-row : {l' : List ℕ} → is_row (length l) t ≡ true → l' ≡ marks_of t ++ drop (length t) l → Row t l (many.Got (length t)) l'
     unfolding row_of
     a-row e f = record { count = rw (other, e, marks-length t); filled = f ∙ rw (other, e, marks-length t) }
 
@@ -104,22 +104,22 @@ module _ (t : List ℕ) (room : ℕ) where
       unfolding is_row
       crowded-row h = simp (le-leb 1 (length t) some, le-leb (length t) 1024 few, lt-leb (length t) room h)
 
-      pub by_bytes : length t ≤ room → is_row room t ≡ allMarks t
+      pub by_bytes : length t ≤ room → is_row room t ≡ all_marks t
       unfolding is_row
       by_bytes h = simp (le-leb 1 (length t) some, le-leb (length t) 1024 few, le-leb (length t) room h)
 
 -- a row is marks, and there is room for them
 module _ (t : List ℕ) (room : ℕ) (row : is_row room t ≡ true) where
-  is-row : (leb 1 (length t) ≡ true) × (leb (length t) 1024 ≡ true) × (leb (length t) room ≡ true) × (allMarks t ≡ true)
+  is-row : (leb 1 (length t) ≡ true) × (leb (length t) 1024 ≡ true) × (leb (length t) room ≡ true) × (all_marks t ≡ true)
   unfolding is_row
   is-row = by (leb 1 (length t)) (leb (length t) 1024) (leb (length t) room) row where
-    by : (a b c : Bool) → cond a (cond b (cond c (allMarks t) false) false) false ≡ true → (a ≡ true) × (b ≡ true) × (c ≡ true) × (allMarks t ≡ true)
+    by : (a b c : Bool) → cond a (cond b (cond c (all_marks t) false) false) false ≡ true → (a ≡ true) × (b ≡ true) × (c ≡ true) × (all_marks t ≡ true)
     by true true true e = (refl, refl, refl, e)
     by true true false e = absurd (false≢true e)
     by true false c e = absurd (false≢true e)
     by false b c e = absurd (false≢true e)
 
-  pub row-marks : allMarks t ≡ true
+  pub row-marks : all_marks t ≡ true
   row-marks = is-row.3
 
   pub row_room : length t ≤ room
@@ -131,8 +131,8 @@ module _ (t : List ℕ) (room : ℕ) (row : is_row room t ≡ true) where
 -- no more marks than a line can have
 pub row-most : (room : ℕ) (t : List ℕ) {n : ℕ} → many.Got n ≡ count_of (row_of room t) → n ≤ 1024
 unfolding row_of
-row-most room t {n} e = by (sameBytes t (bytes "-")) (is_row room t) refl e where
-  by : (a b : Bool) → is_row room t ≡ b → many.Got n ≡ count_of (cond a (some []) (cond b (some (marksOf t)) none)) → n ≤ 1024
+row-most room t {n} e = by (same_bytes t (bytes "-")) (is_row room t) refl e where
+  by : (a b : Bool) → is_row room t ≡ b → many.Got n ≡ count_of (cond a (some []) (cond b (some (marks_of t)) none)) → n ≤ 1024
   by true b f g = let is : n ≡ 0 = cc in omega arith
-  by false true f g = let is : n ≡ length (marksOf t) = cc in omega (arith, marks-length t, few t room f)
+  by false true f g = let is : n ≡ length (marks_of t) = cc in omega (arith, marks-length t, few t room f)
   by false false f g = let z : ◌≡◌ {A = ℕ} 0 1 = cc in absurd (omega arith)

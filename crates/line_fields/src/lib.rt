@@ -7,8 +7,8 @@ pub mod map_names;
 pub mod marks;
 
 ghost use Rattle.std.specs.Prelude.{◌≡◌, length};
-ghost use Rattle.number_lists.specs.Many.{wholeIn, number_in};
-ghost use Rattle.line_fields.specs.Fields.{wideIn, wideGot, Gives};
+ghost use Rattle.number_lists.specs.Many.{whole_in, number_in};
+ghost use Rattle.line_fields.specs.Fields.{wide_in, wide_got, Gives};
 
 use text::number::{Number, Whole};
 use text::{number, token};
@@ -32,7 +32,7 @@ const TENTH: u64 = 1844674407370955161;
 
 // The number that decimal digits write, at least one and any number of zeros in front, if 64 bits hold it.
 fn wide_of(s: &[u8]) -> Wide
-    ensures { wideGot result ≡ wideIn s.now }
+    ensures { wide_got result ≡ wide_in s.now }
 {
     if s.len() == 0 {
         return Wide::Bad;
@@ -58,7 +58,7 @@ fn wide_of(s: &[u8]) -> Wide
 
 // Whole numbers of 32 bits.
 pub fn signed(s: &[u8], at: usize, list: &mut [i32]) -> Place
-    ensures { Gives wholeIn s.now at (length list.old) result list.new }
+    ensures { Gives whole_in s.now at (length list.old) result list.new }
 {
     let mut from = at;
     let mut k = 0;
@@ -100,7 +100,7 @@ pub fn numbers(s: &[u8], at: usize, list: &mut [u32]) -> Place
 
 // The same for numbers of 64 bits.
 pub fn wides(s: &[u8], at: usize, list: &mut [u64]) -> Place
-    ensures { Gives wideIn s.now at (length list.old) result list.new }
+    ensures { Gives wide_in s.now at (length list.old) result list.new }
 {
     let mut from = at;
     let mut k = 0;

@@ -4,7 +4,7 @@
 // it allows are equal.
 ghost use Rattle.std.specs.Prelude.{◌≡◌, drop};
 ghost use Rattle.text.specs.Token.{tokens, Cuts};
-ghost use Rattle.line_fields.specs.Names.{mapNamed, numberedOf};
+ghost use Rattle.line_fields.specs.Names.{map_named, numbered_of};
 
 use points::Map;
 use text::number::Number;
@@ -25,7 +25,7 @@ pub enum Numbered {
 // The map that the tokens after the first name, which ends at n.
 pub fn map_after(rest: &[u8], n: usize) -> Which
     requires { Cuts 32 rest.now n }
-    ensures { result ≡ mapNamed (drop 1 (tokens rest.now)) }
+    ensures { result ≡ map_named (drop 1 (tokens rest.now)) }
 {
     if n == rest.len() {
         return Which::On(Map::Round);
@@ -38,7 +38,7 @@ pub fn map_after(rest: &[u8], n: usize) -> Which
 
 // A number, and the map after it.
 pub fn number_and_map(rest: &[u8]) -> Numbered
-    ensures { result ≡ numberedOf (tokens rest.now) }
+    ensures { result ≡ numbered_of (tokens rest.now) }
 {
     let n = token::before(rest, b' ');
     let Number::Got(number) = number::decimal(&rest[..n], 4294967295) else {

@@ -1,7 +1,7 @@
 // The marks of a piece as a line writes them: a row of digits 0 to 3, one for each symbol, or `-` for none. They go to the start of a list
 // that is lent. specs/Row.antt says which rows there are; the bytes of a token are those of `text`.
 ghost use Rattle.std.specs.Prelude.{◌≡◌, true, ◌++◌, ◌≤◌, length, drop};
-ghost use Rattle.line_fields.specs.Row.{allMarks, marksOf, is_row, Row};
+ghost use Rattle.line_fields.specs.Row.{all_marks, marks_of, is_row, Row};
 
 use number_lists::Many;
 use text::token;
@@ -10,7 +10,7 @@ use text::token;
 const MOST: usize = 1024;
 
 fn are_marks(row: &[u8]) -> bool
-    ensures { result ≡ allMarks row.now }
+    ensures { result ≡ all_marks row.now }
 {
     let mut i = 0;
     while i < row.len() {
@@ -26,8 +26,8 @@ fn are_marks(row: &[u8]) -> bool
 }
 
 fn put(row: &[u8], marks: &mut [u8])
-    requires { (allMarks row.now ≡ true) × (length row.now ≤ length marks.old) }
-    ensures { marks.new ≡ marksOf row.now ++ drop (length row.now) marks.old }
+    requires { (all_marks row.now ≡ true) × (length row.now ≤ length marks.old) }
+    ensures { marks.new ≡ marks_of row.now ++ drop (length row.now) marks.old }
 {
     let mut i = 0;
     while i < row.len() {

@@ -1,8 +1,8 @@
 // Lines: the answer to a line that has come to its end. The line so far is `line_buffer`'s.
 // What a line asks for is `protocol`'s, what it does is the `desk`'s; specs/Line.antt puts the two together.
 ghost use Rattle.std.specs.Prelude.{◌≡◌, List, ℕ, ◌+◌, ◌≤◌, length};
-ghost use Rattle.answers.specs.Answer.{answerRoom};
-ghost use Rattle.protocol.specs.Request.{requestOf};
+ghost use Rattle.answers.specs.Answer.{answer_room};
+ghost use Rattle.protocol.specs.Request.{request_of};
 ghost use Rattle.desk.specs.Desk.{Acts};
 ghost use Rattle.line_buffer.specs.Part.{Gathered};
 ghost use Rattle.line_reply.specs.Line.{named_by, answering, Replies};
@@ -21,8 +21,8 @@ pub struct Lab {
 
 // What a line within its buffer asks for, done. The lists that it is read into last no longer than the line.
 fn obey(desk: Desk, line: &[u8], page: &mut [u8], at: usize) -> Done
-    requires { at + answerRoom ≤ length page.old }
-    ensures { Acts desk (requestOf 4096 4096 1024 line.now) (named_by line.now) page.old at result page.new }
+    requires { at + answer_room ≤ length page.old }
+    ensures { Acts desk (request_of 4096 4096 1024 line.now) (named_by line.now) page.old at result page.new }
 {
     let mut coordinates = [0i32; 4096];
     let mut words = [0u32; 4096];
@@ -33,8 +33,8 @@ fn obey(desk: Desk, line: &[u8], page: &mut [u8], at: usize) -> Done
 
 // Answers the line that has come to its end.
 pub fn reply(lab: Lab, line: &[u8], page: &mut [u8]) -> Lab
-    requires { (lab.at + answerRoom ≤ length page.old) × (lab.part.held ≤ length line.now) }
-    ensures at_bound { (result.at ≤ lab.at + answerRoom) × (result.part.held ≡ 0) }
+    requires { (lab.at + answer_room ≤ length page.old) × (lab.part.held ≤ length line.now) }
+    ensures at_bound { (result.at ≤ lab.at + answer_room) × (result.part.held ≡ 0) }
     ensures by_index { (s : List ℕ) → Gathered line.now lab.part s → Replies (answering (length line.now) lab.desk s) lab page.old result page.new }
 {
     let at = lab.at;

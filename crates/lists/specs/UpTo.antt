@@ -1,7 +1,7 @@
 -- A bound on every number of a list, as a test.
---   allUpTo m l   no number of l is above m
+--   all_up_to m l   no number of l is above m
 use Rattle.std.specs.Prelude.{ℕ, Bool, true, ◌&&◌, List, [], ◌∷◌, leb}
 
-unfoldable pub allUpTo : ℕ → List ℕ → Bool
-allUpTo m [] = true
-allUpTo m (x ∷ l) = leb x m && allUpTo m l
+unfoldable pub all_up_to : ℕ → List ℕ → Bool
+all_up_to m [] = true
+all_up_to m (x ∷ l) = leb x m && all_up_to m l

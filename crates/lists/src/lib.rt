@@ -2,11 +2,11 @@
 // proofs/Filled), those of which it asks whether any number is above a bound (specs/UpTo, proofs/UpTo), and those whose rest is lent to a
 // call (proofs/Lent). The functions ask it of bytes, and copy words.
 ghost use Rattle.std.specs.Prelude.{◌≡◌, ◌++◌, ◌≤◌, length, drop};
-ghost use Rattle.lists.specs.UpTo.{allUpTo};
+ghost use Rattle.lists.specs.UpTo.{all_up_to};
 
 // Whether no byte is above `most`.
 pub fn bytes_up_to(list: &[u8], most: u8) -> bool
-    ensures { result ≡ allUpTo most list.now }
+    ensures { result ≡ all_up_to most list.now }
 {
     let mut j: usize = 0;
     while j < list.len() {

@@ -23,20 +23,20 @@ use Rattle.trellis.specs.Choose.{keep, better, choose, raise, tag, bare, up, sta
 use Rattle.trellis.specs.Search.{range}
 use Rattle.trellis.specs.Cells.{acs, end-state, Off}
 use Rattle.trellis.specs.Measure.{Start, Two}
-use Rattle.trellis.specs.Pick.{keepN, least, befores}
+use Rattle.trellis.specs.Pick.{keep_n, least, befores}
 use Rattle.trellis.proofs.Select.{choose-ext}
 use Rattle.trellis.proofs.Off.{off_next, off_less}
 use Rattle.trellis.proofs.Least.{least-is}
 use Rattle.trellis.proofs.Branches.{befores-below}
 use Rattle.wei.specs.State.{before, between}
 use Rattle.nearest.specs.declared.Received.{Received}
-use Rattle.nearest.specs.Line.{lineMeasure}
-use Rattle.nearest.specs.Found.{weighedOf}
-use Rattle.select.specs.Select.{limit, sixteen, arrive, winner, sum_at, fromAt, lowered, row_of}
+use Rattle.nearest.specs.Line.{line_measure}
+use Rattle.nearest.specs.Found.{weighed_of}
+use Rattle.select.specs.Select.{limit, sixteen, arrive, winner, sum_at, from_at, lowered, row_of}
 use Rattle.sums.specs.Sums.{end_of, lowest}
 use Rattle.sums.proofs.Least.{lowest-le}
 use Rattle.select.proofs.Lists.{sixteen-at}
-use Rattle.receiver_meaning.proofs.Search.{searchOf, pick_of, laws, cost-at}
+use Rattle.receiver_meaning.proofs.Search.{search_of, pick_of, laws, cost-at}
 use Rattle.points.specs.declared.Accord.{Accord}
 
 abbrev pub sealed : {P : Type 0} → ℕ → P → Surv P
@@ -97,7 +97,7 @@ choose-least h g (suc n) =
     ∙ better-sealed (h (g m)) (h (g (suc n))) (g m) (g (suc n))
     ∙ kept m (suc n) (ltb (h (g (suc n))) (h (g m)))
   where
-    kept : (m k : ℕ) (b : Bool) → cond b (sealed (h (g k)) (g k)) (sealed (h (g m)) (g m)) ≡ sealed (h (g (keepN b m k))) (g (keepN b m k))
+    kept : (m k : ℕ) (b : Bool) → cond b (sealed (h (g k)) (g k)) (sealed (h (g m)) (g m)) ≡ sealed (h (g (keep_n b m k))) (g (keep_n b m k))
     kept m k true = refl
     kept m k false = refl
 
@@ -125,37 +125,37 @@ raise-sealed v d t h = go (ltb v limit) refl
     go true e = rw (lt-ltb (v + d) limit (h (ltb-true v limit e)))
     go false e = rw (le-ltb (v + d) limit (omega (arith, ltb-false v limit e)))
 
-module _ (ac : Accord) (b : Start) (y : Two Received) (sums : List ℕ) (room : Room sums (weighedOf ac y).costs) where
+module _ (ac : Accord) (b : Start) (y : Two Received) (sums : List ℕ) (room : Room sums (weighed_of ac y).costs) where
   abbrev costs : List ℕ
-  costs = (weighedOf ac y).costs
+  costs = (weighed_of ac y).costs
 
-  abbrev sumVia : ℕ → ℕ → ℕ
-  sumVia t s = get_or sums s 0 + get_or costs (between s t) 0
+  abbrev sum_via : ℕ → ℕ → ℕ
+  sum_via t s = get_or sums s 0 + get_or costs (between s t) 0
 
-  via : (t s : ℕ) → s < 16 → tag s (raise ((lineMeasure ac).far y (pick_of ac y s t)) (row_of sums s)) ≡ sealed (sumVia t s) s
+  via : (t s : ℕ) → s < 16 → tag s (raise ((line_measure ac).far y (pick_of ac y s t)) (row_of sums s)) ≡ sealed (sum_via t s) s
   via t s h =
       ap (λ (d : ℕ). tag s (raise d (row_of sums s))) (cost-at ac y s t)
       ∙ raise-sealed (get_or sums s 0) (get_or costs (between s t) 0) s (room s t h)
 
-  acs-is : (t : ℕ) → t < 16 → acs (searchOf ac b) y (row_of sums) t ≡ sealed (sum_at sums costs t) (before t (winner sums costs t))
+  acs-is : (t : ℕ) → t < 16 → acs (search_of ac b) y (row_of sums) t ≡ sealed (sum_at sums costs t) (before t (winner sums costs t))
   unfolding acs arrive winner sum_at
   acs-is t h =
-      choose-ext (λ s. tag s (raise ((lineMeasure ac).far y (pick_of ac y s t)) (row_of sums s))) (λ s. sealed (sumVia t s) s) (befores t)
+      choose-ext (λ s. tag s (raise ((line_measure ac).far y (pick_of ac y s t)) (row_of sums s))) (λ s. sealed (sum_via t s) s) (befores t)
       (λ s i. via t s (befores-below s t h i))
-      ∙ choose-least (sumVia t) (before t) 3
+      ∙ choose-least (sum_via t) (before t) 3
 
   -- the new sums, and the states before
-  pub row_next : (t : ℕ) → t < 16 → row_of (sixteen (sum_at sums (weighedOf ac y).costs)) t ≡ bare (acs (searchOf ac b) y (row_of sums) t)
+  pub row_next : (t : ℕ) → t < 16 → row_of (sixteen (sum_at sums (weighed_of ac y).costs)) t ≡ bare (acs (search_of ac b) y (row_of sums) t)
   row_next t h =
       ap (λ (v : ℕ). sealed v tt) (sixteen-at (sum_at sums costs) t h)
       ∙ sym (through bare (ltb (sum_at sums costs t) limit) (alive (sum_at sums costs t) (before t (winner sums costs t))) absent) ∙ ap bare (sym (acs-is t h))
 
   -- the state before a reached one
-  pub from_is : (t : ℕ) → t < 16 → get_or (sixteen (sum_at sums (weighedOf ac y).costs)) t 0 < limit → state_of (acs (searchOf ac b) y (row_of sums) t) ≡ fromAt sums (weighedOf ac y).costs t
+  pub from_is : (t : ℕ) → t < 16 → get_or (sixteen (sum_at sums (weighed_of ac y).costs)) t 0 < limit → state_of (acs (search_of ac b) y (row_of sums) t) ≡ from_at sums (weighed_of ac y).costs t
   from_is t h k = ap state_of (acs-is t h) ∙ rw (lt-ltb (sum_at sums costs t) limit (omega (arith, sixteen-at (sum_at sums costs) t h)))
 
-  pub off-new : (ys : List (Two Received)) (m : ℕ) → Off (searchOf ac b) ys m (row_of sums) → Off (searchOf ac b) (y ∷ ys) m (row_of (sixteen (sum_at sums (weighedOf ac y).costs)))
-  off-new ys m off s h = off_next (searchOf ac b) (laws ac b) ys m (row_of sums) off y s h ∙ ap (raise m) (sym (row_next s h))
+  pub off-new : (ys : List (Two Received)) (m : ℕ) → Off (search_of ac b) ys m (row_of sums) → Off (search_of ac b) (y ∷ ys) m (row_of (sixteen (sum_at sums (weighed_of ac y).costs)))
+  off-new ys m off s h = off_next (search_of ac b) (laws ac b) ys m (row_of sums) off y s h ∙ ap (raise m) (sym (row_next s h))
 
 -- ── less the least ──
 row-lowered : (sums : List ℕ) (s : ℕ) → s < 16 → row_of sums s ≡ raise (lowest sums) (row_of (sixteen (lowered sums)) s)
@@ -173,12 +173,12 @@ row-lowered sums s h =
         sym (rw (lt-ltb (v - lowest sums) limit l) (ap (λ (n : ℕ). alive n tt) (sym d)))
     go false e = refl
 
-pub off-lowered : (ac : Accord) (b : Start) (ys : List (Two Received)) (m : ℕ) (sums : List ℕ) → Off (searchOf ac b) ys m (row_of sums) →
-    Off (searchOf ac b) ys (m + lowest sums) (row_of (sixteen (lowered sums)))
-off-lowered ac b ys m sums off = off_less (searchOf ac b) (laws ac b) ys m (row_of sums) off (lowest sums) (row_of (sixteen (lowered sums))) (row-lowered sums)
+pub off-lowered : (ac : Accord) (b : Start) (ys : List (Two Received)) (m : ℕ) (sums : List ℕ) → Off (search_of ac b) ys m (row_of sums) →
+    Off (search_of ac b) ys (m + lowest sums) (row_of (sixteen (lowered sums)))
+off-lowered ac b ys m sums off = off_less (search_of ac b) (laws ac b) ys m (row_of sums) off (lowest sums) (row_of (sixteen (lowered sums))) (row-lowered sums)
 
 -- ── the end ──
-pub end_is : (ac : Accord) (b : Start) (sums : List ℕ) (s : ℕ) → s < 16 → get_or sums s 0 < limit → end_of sums ≡ end-state (searchOf ac b) (row_of sums)
+pub end_is : (ac : Accord) (b : Start) (sums : List ℕ) (s : ℕ) → s < 16 → get_or sums s 0 < limit → end_of sums ≡ end-state (search_of ac b) (row_of sums)
 unfolding end_of end-state range
 end_is ac b sums s h k =
     let m : ℕ = least (λ t. get_or sums t 0) 15 in

@@ -20,14 +20,14 @@ use Rattle.trellis.proofs.Spread.{wei-mixes}
 use Rattle.trellis.proofs.Spread as spread
 use Rattle.wei.specs.State.{between}
 use Rattle.nearest.specs.declared.Received.{Received}
-use Rattle.nearest.specs.Line.{lineMeasure}
-use Rattle.nearest.specs.Found.{weighedOf}
+use Rattle.nearest.specs.Line.{line_measure}
+use Rattle.nearest.specs.Found.{weighed_of}
 use Rattle.nearest.proofs.Laws.{far-most, costs-most}
 use Rattle.select.specs.Select.{limit, sixteen, lowered, row_of}
 use Rattle.sums.specs.Sums.{end_of, lowest}
 use Rattle.sums.proofs.Least.{end_below, lowest-le}
 use Rattle.select.proofs.Lists.{sixteen-at, sixteen-most}
-use Rattle.receiver_meaning.proofs.Search.{searchOf, laws}
+use Rattle.receiver_meaning.proofs.Search.{search_of, laws}
 use Rattle.machine.proofs.Arrivals.{Room}
 use Rattle.points.specs.declared.Accord.{Accord}
 
@@ -36,7 +36,7 @@ pub record Lowest (sums : List ℕ) : Type 0 where
   pub below : state < 16
   pub is-least : get_or sums state 0 ≡ 0
 
-module _ (ac : Accord) (b : Start) (ys : List (Two Received)) (sums : List ℕ) (m : ℕ) (off : Off (searchOf ac b) ys m (row_of sums)) (low : Lowest sums) where
+module _ (ac : Accord) (b : Start) (ys : List (Two Received)) (sums : List ℕ) (m : ℕ) (off : Off (search_of ac b) ys m (row_of sums)) (low : Lowest sums) where
   row_is : (s : ℕ) → get_or sums s 0 < limit → row_of sums s ≡ alive (get_or sums s 0) tt
   row_is s k = rw (lt-ltb (get_or sums s 0) limit k)
 
@@ -45,9 +45,9 @@ module _ (ac : Accord) (b : Start) (ys : List (Two Received)) (sums : List ℕ) 
 
   pub kept-most : (s : ℕ) → s < 16 → get_or sums s 0 < limit → get_or sums s 0 ≤ 1048576
   kept-most s h k =
-      spread.kept-most (searchOf ac b) (laws ac b) ys m (row_of sums) off low.state low.below zero_is 524288 (far-most ac) (wei-mixes ac.u (lineMeasure ac) b) s (get_or sums s 0) h (row_is s k)
+      spread.kept-most (search_of ac b) (laws ac b) ys m (row_of sums) off low.state low.below zero_is 524288 (far-most ac) (wei-mixes ac.u (line_measure ac) b) s (get_or sums s 0) h (row_is s k)
 
-  pub room : (y : Two Received) → Room sums (weighedOf ac y).costs
+  pub room : (y : Two Received) → Room sums (weighed_of ac y).costs
   room y s t h k = omega (arith, kept-most s h k, costs-most ac y (between s t))
 
 -- ── one more symbol ──

@@ -18,12 +18,12 @@ use Rattle.trellis.proofs.Spread.{row-best, best-row}
 use Rattle.trellis.proofs.Spread as spread
 use Rattle.wei.specs.Symbol.{Symbol}
 use Rattle.nearest.specs.declared.Received.{Received}
-use Rattle.nearest.specs.Line.{lineMeasure}
+use Rattle.nearest.specs.Line.{line_measure}
 use Rattle.nearest.proofs.Laws.{far-most}
 use Rattle.select.specs.Select.{limit, row_of}
 use Rattle.receiver_meaning.specs.Told.{Told, code_of, Fine}
 use Rattle.machine.specs.Machine.{machine_of}
-use Rattle.receiver_meaning.proofs.Search.{searchOf, laws}
+use Rattle.receiver_meaning.proofs.Search.{search_of, laws}
 use Rattle.machine.proofs.Bounds.{kept-most, zero_is}
 use Rattle.machine.proofs.Owes.{Owes, owes}
 
@@ -34,7 +34,7 @@ pub record Less (t : Told) (sums : List ℕ) : Type 0 where
   pub fits : (s : ℕ) (p : Path Symbol) → Best (code_of t.accord t.start) t.heard s p → get_or sums s 0 ≤ 1048576
   -- a sum that is compared: with what one more symbol counts for
   pub compared : (s : ℕ) (p : Path Symbol) → Best (code_of t.accord t.start) t.heard s p →
-      (y : Two Received) (c : Symbol) → get_or sums s 0 + (lineMeasure t.accord).far y c ≤ 1572864
+      (y : Two Received) (c : Symbol) → get_or sums s 0 + (line_measure t.accord).far y c ≤ 1572864
   pub others : (s : ℕ) → s < 16 → (Reached (code_of t.accord t.start) t.heard s → ⊥) → get_or sums s 0 ≡ 2097152
 
 row-sum : (sums : List ℕ) (s v : ℕ) → row_of sums s ≡ alive v tt → (get_or sums s 0 ≡ v) × (get_or sums s 0 < limit)
@@ -57,7 +57,7 @@ module _ (t : Told) (f : Fine t) where
   -- what a reached state keeps
   reached-sum : (s : ℕ) (p : Path Symbol) → Best (code_of t.accord t.start) t.heard s p → get_or sums s 0 < limit
   reached-sum s p b =
-      let (v, e, c) = best-row (searchOf t.accord t.start) (laws t.accord t.start) t.heard m (row_of sums) o.keeps.holds.off s p b in
+      let (v, e, c) = best-row (search_of t.accord t.start) (laws t.accord t.start) t.heard m (row_of sums) o.keeps.holds.off s p b in
       (row-sum sums s v e).1
 
   least-sum : (s : ℕ) (p q : Path Symbol) → Best (code_of t.accord t.start) t.heard s p → Answer (code_of t.accord t.start) t.heard q →
@@ -65,7 +65,7 @@ module _ (t : Told) (f : Fine t) where
   least-sum s p q b a =
       let off = o.keeps.holds.off in
       let low = o.keeps.low in
-      let (v, e, c) = spread.kept-is (searchOf t.accord t.start) (laws t.accord t.start) t.heard m (row_of sums) off
+      let (v, e, c) = spread.kept-is (search_of t.accord t.start) (laws t.accord t.start) t.heard m (row_of sums) off
       low.state low.below (zero_is t.accord t.start t.heard sums m off low) s p q b a in
       ap (λ (n : ℕ). n + cost (code_of t.accord t.start) t.heard q) (row-sum sums s v e).0 ∙ c
 
@@ -81,7 +81,7 @@ module _ (t : Told) (f : Fine t) where
       go : (b : Bool) → ltb (get_or sums s 0) limit ≡ b → get_or sums s 0 ≡ 2097152
       go false e = omega (arith, ltb-false (get_or sums s 0) limit e, o.keeps.top s)
       go true e =
-          let (p, b, c) = row-best (searchOf t.accord t.start) (laws t.accord t.start) t.heard m (row_of sums) o.keeps.holds.off s (get_or sums s 0) h (rw e) in
+          let (p, b, c) = row-best (search_of t.accord t.start) (laws t.accord t.start) t.heard m (row_of sums) o.keeps.holds.off s (get_or sums s 0) h (rw e) in
           absurd (n (record { by = p; allowed = b.allowed; ends = b.ends }))
 
   pub less-told : Less t (machine_of t).sums

@@ -22,9 +22,9 @@ use Rattle.trellis.specs.Measure.{Start, Two}
 use Rattle.trellis.proofs.Spoken.{spoken-reach}
 use Rattle.nearest.specs.declared.Received.{Received}
 use Rattle.nearest.proofs.Laws.{line-chooses}
-use Rattle.nearest.specs.Line.{BothInRange, lineMeasure, lineChoice}
-use Rattle.machine.specs.Machine.{sound, agreedOf, keptOf, grown, taking, lastWords, opened, machineAfter, machine_of}
-use Rattle.receiver_meaning.specs.Told.{Told, withHeard, speakerOf, pendingAfter, judgeSymbol, Fine}
+use Rattle.nearest.specs.Line.{BothInRange, line_measure, line_choice}
+use Rattle.machine.specs.Machine.{sound, agreed_of, kept_of, grown, taking, last_words, opened, machine_after, machine_of}
+use Rattle.receiver_meaning.specs.Told.{Told, with_heard, speaker_of, pending_after, judge_symbol, Fine}
 use Rattle.machine.proofs.Owes.{owes, owes-step, owes-sound}
 use Rattle.machine.proofs.Finish.{last-words, last-many}
 use Rattle.machine.proofs.Telling.{telling-machine}
@@ -41,48 +41,48 @@ module _ (t : Told) (f : Fine t) where
   pub accord-told : (machine_of t).core.accord ≡ t.accord
   accord-told = (owes t f).keeps.accord
 
-  pub pending-told : (machine_of t).core.pending ≡ pendingAfter t t.heard
+  pub pending-told : (machine_of t).core.pending ≡ pending_after t t.heard
   pending-told =
-      omega (arith, (owes t f).keeps.holds.count, spoken-reach t.accord.u (lineMeasure t.accord) (lineChoice t.accord) (line-chooses t.accord) t.start f.good_start t.heard)
+      omega (arith, (owes t f).keeps.holds.count, spoken-reach t.accord.u (line_measure t.accord) (line_choice t.accord) (line-chooses t.accord) t.start f.good_start t.heard)
 
   pub pending-fits : (machine_of t).core.pending ≤ t.window
   pending-fits = (owes t f).fits
 
   -- ── one more symbol ──
   module _ (y : Two Received) where
-    pub kept-told : keptOf (machine_of t) y ≡ pendingAfter t (y ∷ t.heard)
+    pub kept-told : kept_of (machine_of t) y ≡ pending_after t (y ∷ t.heard)
     kept-told = (owes-step t f y).kept
 
-    pub agreed-told : agreedOf (machine_of t) y ≡ length (fresh (speakerOf t) t.heard y)
+    pub agreed-told : agreed_of (machine_of t) y ≡ length (fresh (speaker_of t) t.heard y)
     agreed-told = (owes-step t f y).agreed
 
     -- as many as were pending and the new one are released or stay pending
-    pub fresh_kept : length (fresh (speakerOf t) t.heard y) + pendingAfter t (y ∷ t.heard) ≡ pendingAfter t t.heard + 1
+    pub fresh_kept : length (fresh (speaker_of t) t.heard y) + pending_after t (y ∷ t.heard) ≡ pending_after t t.heard + 1
     fresh_kept = omega (arith, agreed-told, kept-told, pending-told, (owes-step t f y).few)
 
-    pub fresh-few : length (fresh (speakerOf t) t.heard y) ≤ (machine_of t).core.pending
+    pub fresh-few : length (fresh (speaker_of t) t.heard y) ≤ (machine_of t).core.pending
     fresh-few = omega (arith, agreed-told, (owes-step t f y).few)
 
-    pub fresh-most : length (fresh (speakerOf t) t.heard y) ≤ 64
+    pub fresh-most : length (fresh (speaker_of t) t.heard y) ≤ 64
     fresh-most = omega (arith, fresh-few, pending-fits, f.small-window)
 
-  pub grown-told : (y : Two Received) → machine_of (withHeard t (y ∷ t.heard)) ≡ grown (machine_of t) y
+  pub grown-told : (y : Two Received) → machine_of (with_heard t (y ∷ t.heard)) ≡ grown (machine_of t) y
   grown-told y = telling-machine t y
 
-  pub taking-told : (y : Two Received) → BothInRange y → (room : ℕ) → Judged t y (judgeSymbol t t.heard y room) (taking (machine_of t) y room)
+  pub taking-told : (y : Two Received) → BothInRange y → (room : ℕ) → Judged t y (judge_symbol t t.heard y room) (taking (machine_of t) y room)
   taking-told y r room = judged t f y r room
 
   -- ── finish ──
-  pub last-told : lastWords (machine_of t) ≡ rest (speakerOf t) t.heard
+  pub last-told : last_words (machine_of t) ≡ rest (speaker_of t) t.heard
   last-told = last-words t.accord t.start f.good_start t.heard (machine_of t) (owes t f).keeps
 
-  pub rest-many : length (rest (speakerOf t) t.heard) ≡ (machine_of t).core.pending
+  pub rest-many : length (rest (speaker_of t) t.heard) ≡ (machine_of t).core.pending
   rest-many = ap length (sym last-told) ∙ last-many (machine_of t)
 
-  pub rest-most : length (rest (speakerOf t) t.heard) ≤ 64
+  pub rest-most : length (rest (speaker_of t) t.heard) ≤ 64
   rest-most = omega (arith, rest-many, pending-fits, f.small-window)
 
 -- ── an opening ──
 pub opened-told : (ac : Accord) (window : ℕ) (b : Start) → machine_of (unheard ac window b) ≡ opened ac window b
-unfolding machineAfter
+unfolding machine_after
 opened-told ac window b = refl

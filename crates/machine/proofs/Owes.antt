@@ -9,11 +9,11 @@ use mathlib.Core.Bool.{true}
 use mathlib.Core.List.{List, [], ◌∷◌}
 use Prim.Native.Nat.{◌≤◌}
 use native.Mathlib.Omega.{arith}
-use Rattle.points.specs.Agreed.{isAccord}
+use Rattle.points.specs.Agreed.{is_accord}
 use Rattle.trellis.specs.Measure.{GoodStart, Two}
 use Rattle.nearest.specs.declared.Received.{Received}
 use Rattle.machine.specs.declared.Receiver.{Receiver}
-use Rattle.machine.specs.Machine.{opened, grown, keptOf, sound, machineAfter, machine_of}
+use Rattle.machine.specs.Machine.{opened, grown, kept_of, sound, machine_after, machine_of}
 use Rattle.receiver_meaning.specs.Told.{Told, FineList, Fine}
 use Rattle.machine.proofs.Trellis.{turn_below}
 use Rattle.machine.proofs.Keeps.{Keeps, keeps-start}
@@ -26,18 +26,18 @@ pub record Owes (t : Told) (ys : List (Two Received)) (rx : Receiver) : Type 0 w
   pub fits : rx.core.pending ≤ t.window
 
 module _ (t : Told) where
-  module _ (agreed : isAccord t.accord ≡ true) (small : t.window ≤ 64) (g : GoodStart t.start) where
+  module _ (agreed : is_accord t.accord ≡ true) (small : t.window ≤ 64) (g : GoodStart t.start) where
     next : (ys : List (Two Received)) (y : Two Received) (rx : Receiver) → FineList t (y ∷ ys) → Owes t ys rx → Owes t (y ∷ ys) (grown rx y)
     unfolding grown
     next ys y rx f o =
         let s : Stepped t.accord t.start ys y rx = stepped t.accord t.start ys y rx agreed g o.keeps in
-        let h : keptOf rx y ≤ t.window = omega (arith, f.1, s.kept) in
+        let h : kept_of rx y ≤ t.window = omega (arith, f.1, s.kept) in
         record { keeps = s.next (omega arith); window = o.window; fits = h }
 
-    pub owes-after : (ys : List (Two Received)) → FineList t ys → Owes t ys (machineAfter t ys)
-    unfolding machineAfter opened
+    pub owes-after : (ys : List (Two Received)) → FineList t ys → Owes t ys (machine_after t ys)
+    unfolding machine_after opened
     owes-after [] f = record { keeps = keeps-start t.accord t.window t.start g; window = refl; fits = omega arith }
-    owes-after (y ∷ ys) f = next ys y (machineAfter t ys) f (owes-after ys f.2)
+    owes-after (y ∷ ys) f = next ys y (machine_after t ys) f (owes-after ys f.2)
 
 pub owes : (t : Told) → Fine t → Owes t t.heard (machine_of t)
 owes t f = owes-after t f.agreed f.small-window f.good_start t.heard f.each
@@ -52,7 +52,7 @@ owes-sound t f =
     let k : Keeps t.accord t.start t.heard (machine_of t) = o.keeps in
     sound-from (machine_of t) k.is_live
     (record {
-      agreed = ap isAccord k.accord ∙ f.agreed;
+      agreed = ap is_accord k.accord ∙ f.agreed;
       some-window = omega (arith, o.window, f.some-window);
       small-window = omega (arith, o.window, f.small-window);
       turn_below = omega (arith, k.turn, turn_below t.accord t.start f.good_start t.heard);

@@ -14,10 +14,10 @@ use Rattle.trellis.specs.Common.{common}
 use Rattle.trellis.specs.Cells.{Off}
 use Rattle.trellis.specs.Measure.{Start, GoodStart, Two}
 use Rattle.trellis.specs.Speak.{after, carried}
-use Rattle.trellis.specs.Words.{turnAfter, firstTurn}
+use Rattle.trellis.specs.Words.{turn_after, first_turn}
 use Rattle.trellis.proofs.Words.{first-turn}
 use Rattle.receiver_meaning.specs.Told.{code_of}
-use Rattle.receiver_meaning.proofs.Search.{searchOf, laws, onward}
+use Rattle.receiver_meaning.proofs.Search.{search_of, laws, onward}
 use Rattle.trellis.proofs.Optimal.{best-below}
 use Rattle.trellis.proofs.Answer.{reached-best, best-surv}
 use Rattle.trellis.proofs.Off.{off-up}
@@ -26,26 +26,26 @@ use Rattle.trellis.proofs.Common.{common-common}
 use Rattle.trellis.proofs.Onward.{some-reached, some-answer}
 use Rattle.trellis.proofs.Paths.{allowed-runs}
 use Rattle.trellis.proofs.IvEight.{allowed-valid}
-use Rattle.wei.specs.Symbol.{Symbol, firstLabel, Valid}
+use Rattle.wei.specs.Symbol.{Symbol, first_label, Valid}
 use Rattle.nearest.specs.declared.Received.{Received}
-use Rattle.nearest.specs.Line.{lineMeasure}
+use Rattle.nearest.specs.Line.{line_measure}
 use Rattle.points.specs.declared.Accord.{Accord}
 
 module _ (ac : Accord) (b : Start) (g : GoodStart b) where
-  pub some_up : (ys : List (Two Received)) (m : ℕ) (row : ℕ → Surv (Unit {0})) → Off (searchOf ac b) ys m row → (s : ℕ) × (s < 16) × T (up (row s))
+  pub some_up : (ys : List (Two Received)) (m : ℕ) (row : ℕ → Surv (Unit {0})) → Off (search_of ac b) ys m row → (s : ℕ) × (s < 16) × T (up (row s))
   some_up ys m row off =
       let (s, r) = some-reached (code_of ac b) (onward ac b g) ys in
-      let (p, q) = reached-best (searchOf ac b) (laws ac b) ys s r in
+      let (p, q) = reached-best (search_of ac b) (laws ac b) ys s r in
       let h : s < 16 = best-below (code_of ac b) ys s p q in
-      (s, h, subst T (sym (off-up (searchOf ac b) (laws ac b) ys m row off s h ∙ ap up (best-surv (searchOf ac b) (laws ac b) ys s p q))) tt)
+      (s, h, subst T (sym (off-up (search_of ac b) (laws ac b) ys m row off s h ∙ ap up (best-surv (search_of ac b) (laws ac b) ys s p q))) tt)
 
   -- what is final begins an allowed sequence
-  common-valid : (ys : List (Two Received)) → Every (Valid ac.u) (common (searchOf ac b) ys)
+  common-valid : (ys : List (Two Received)) → Every (Valid ac.u) (common (search_of ac b) ys)
   common-valid ys =
-      let (p, a) = some-answer (searchOf ac b) (laws ac b) (onward ac b g) ys in
-      let r = allowed-runs ac.u (lineMeasure ac) b ys p a.allowed in
-      front (common (searchOf ac b) ys) (symbols p)
-      (common-final (searchOf ac b) (laws ac b) [] ys (common (searchOf ac b) ys) (common-common (searchOf ac b) (laws ac b) ys) p a)
+      let (p, a) = some-answer (search_of ac b) (laws ac b) (onward ac b g) ys in
+      let r = allowed-runs ac.u (line_measure ac) b ys p a.allowed in
+      front (common (search_of ac b) ys) (symbols p)
+      (common-final (search_of ac b) (laws ac b) [] ys (common (search_of ac b) ys) (common-common (search_of ac b) (laws ac b) ys) p a)
       (allowed-valid ac.u r.from (symbols p) r.allowed)
     where
       front : (l m : List Symbol) → IsPrefix l m → Every (Valid ac.u) m → Every (Valid ac.u) l
@@ -56,10 +56,10 @@ module _ (ac : Accord) (b : Start) (g : GoodStart b) where
           let z₂ : l ++ r ≡ m = cc in
           (subst (Valid ac.u) (sym z₁) v.0, front l m (r, z₂) v.1)
 
-  pub turn_below : (ys : List (Two Received)) → carried (searchOf ac b) turnAfter (firstTurn b) ys ≤ 4
+  pub turn_below : (ys : List (Two Received)) → carried (search_of ac b) turn_after (first_turn b) ys ≤ 4
   unfolding carried after
-  turn_below ys = go (firstTurn b) (common (searchOf ac b) ys) (common-valid ys) (first-turn b)
+  turn_below ys = go (first_turn b) (common (search_of ac b) ys) (common-valid ys) (first-turn b)
     where
-      go : (q : ℕ) (cs : List Symbol) → Every (Valid ac.u) cs → q ≤ 4 → after turnAfter q cs ≤ 4
+      go : (q : ℕ) (cs : List Symbol) → Every (Valid ac.u) cs → q ≤ 4 → after turn_after q cs ≤ 4
       go q [] v h = h
-      go q (c ∷ cs) v h = go (firstLabel c) cs v.1 (omega (arith, v.0.i2-below, v.0.i3-below))
+      go q (c ∷ cs) v h = go (first_label c) cs v.1 (omega (arith, v.0.i2-below, v.0.i3-below))

@@ -3,8 +3,8 @@
 // words of the answer, for a symbol that releases some and for the end of a line, on lent arrays.
 ghost use Rattle.std.specs.Prelude.{◌≡◌, ◌++◌, ◌≤◌, ◌<◌, length, take, drop};
 ghost use Rattle.trellis.specs.Speak.{after};
-ghost use Rattle.trellis.specs.Words.{wordsFrom, turnAfter};
-ghost use Rattle.machine.specs.Machine.{wayFrom};
+ghost use Rattle.trellis.specs.Words.{words_from, turn_after};
+ghost use Rattle.machine.specs.Machine.{way_from};
 ghost use Rattle.machine.specs.Parts.{CoreFits};
 
 use points::Accord;
@@ -39,8 +39,8 @@ pub fn write_words(
     out: &mut [u32],
 ) -> u32
     requires { CoreFits core × (s < 16) × (n ≤ core.pending) × (n ≤ length out.old) × (length picks.now ≡ 72) }
-    ensures value { result ≡ after turnAfter core.turn (take n (wayFrom core registers.now picks.now s)) }
-    ensures out_after { out.new ≡ wordsFrom core.accord.u core.turn (take n (wayFrom core registers.now picks.now s)) ++ drop n out.old }
+    ensures value { result ≡ after turn_after core.turn (take n (way_from core registers.now picks.now s)) }
+    ensures out_after { out.new ≡ words_from core.accord.u core.turn (take n (way_from core registers.now picks.now s)) ++ drop n out.old }
 {
     let oldest = core.slot + 64 - core.pending;
     let mut turn = core.turn;

@@ -9,7 +9,7 @@ use lib.IntN.{ℤ}
 use lib.Pow.{pow_mono}
 use borrow.Author.Tests.{leb-true}
 use Rattle.points.specs.declared.Point.{Point}
-use Rattle.points.specs.Points.{aPoint}
+use Rattle.points.specs.Points.{a_point}
 use Rattle.points.specs.Turn.{turned, turns, point_of}
 use Rattle.points.proofs.Signed.{neg-neg}
 use Rattle.points.proofs.Agreed.{width-le}
@@ -18,7 +18,7 @@ use Rattle.points.proofs.Apart.{points-apart}
 use Rattle.maps.proofs.SquareLaws as square
 use Rattle.points.specs.declared.Map.{Map}
 use Rattle.points.specs.declared.Map.TheVariants.{Round, Square}
-use Rattle.maps.specs.PointMap.{IsPointMap, mapOf}
+use Rattle.maps.specs.PointMap.{IsPointMap, map_of}
 
 -- ---- the round map
 
@@ -33,10 +33,10 @@ unfolding point_of
 round-turn zero w h = refl
 round-turn (suc zero) w h = refl
 round-turn (suc (suc zero)) w h = refl
-round-turn (suc (suc (suc zero))) w h = four-turns (aPoint w)
+round-turn (suc (suc (suc zero))) w h = four-turns (a_point w)
 round-turn (suc (suc (suc (suc l)))) w h = absurd (omega arith)
 
-is-round : IsPointMap (mapOf Round)
+is-round : IsPointMap (map_of Round)
 is-round =
     record {
       width-le = width-le Round;
@@ -51,7 +51,7 @@ is-round =
 
 -- ---- the square map
 
-is-square : IsPointMap (mapOf Square)
+is-square : IsPointMap (map_of Square)
 is-square =
     record {
       width-le = width-le Square;
@@ -64,6 +64,6 @@ is-square =
       turn-four = λ u w g b. square.number-four u g w b;
     }
 
-pub is-map : (n : Map) → IsPointMap (mapOf n)
+pub is-map : (n : Map) → IsPointMap (map_of n)
 is-map Round = is-round
 is-map Square = is-square

@@ -6,7 +6,7 @@
 --   one_place       different labels or numbers give different points
 --   place           every point of the grid has a label and a number
 --   label_is        and its label is the one whose remainders modulo 4 it has
---   turned-square   a quarter turn adds 1 to the label modulo 4, as on the round map, and takes the number to `numberTurned`
+--   turned-square   a quarter turn adds 1 to the label modulo 4, as on the round map, and takes the number to `number_turned`
 --   number-below, number-four   which permutes the numbers; four turns are none
 --   place-settled   what the inverse answers is settled
 use mathlib.Core.Path.{◌≡◌, sym, ap, ap₂, subst, ◌∙◌}
@@ -19,10 +19,10 @@ use lib.Pow.{pow-add, pow_mono}
 use Rattle.wei.proofs.Finite.{at, equal1}
 use Rattle.points.specs.declared.Map.TheVariants.{Square}
 use Rattle.points.specs.declared.Point.{Point}
-use Rattle.points.specs.Turn.{turned, Labelled, remainderX, remainderY}
+use Rattle.points.specs.Turn.{turned, Labelled, remainder_x, remainder_y}
 use Rattle.points.proofs.Agreed.{width-le}
 use Rattle.maps.specs.declared.square.Place.{Place}
-use Rattle.maps.specs.SquareMap.{isWidth, everySecond, twos, gridPoint, low_bits, allBits, squareOf, OnGrid, numberTurned}
+use Rattle.maps.specs.SquareMap.{is_width, every_second, twos, grid_point, low_bits, all_bits, square_of, OnGrid, number_turned}
 use Rattle.maps.specs.SquareInverse.{IsPlace}
 use Rattle.maps.specs.SquareBits.{gathered, woven, coordinate, field_of, bits_of, label_of}
 use Rattle.maps.proofs.SquareTests as tests
@@ -39,26 +39,26 @@ low_below (suc zero) = omega arith
 low_below (suc (suc zero)) = omega arith
 low_below (suc (suc (suc l))) = omega arith
 
-pub label-of : (l w : ℕ) → l < 4 → label_of (allBits l w) ≡ l
-label-of l w h = ap low_bits (let e : allBits l w % 4 ≡ low_bits l = omega (arith, low_below l) in e) ∙ low-low l h
+pub label-of : (l w : ℕ) → l < 4 → label_of (all_bits l w) ≡ l
+label-of l w h = ap low_bits (let e : all_bits l w % 4 ≡ low_bits l = omega (arith, low_below l) in e) ∙ low-low l h
 
-pub all-bits : (v : ℕ) → allBits (label_of v) (v / 4) ≡ v
+pub all-bits : (v : ℕ) → all_bits (label_of v) (v / 4) ≡ v
 all-bits v = omega (arith, low-low (v % 4) (omega arith))
 
 -- the label from its remainders modulo 4
-labelFrom : ℕ → ℕ → ℕ
-labelFrom x y = x - 1 + ((x - 1) / 2 + (y - 1) / 2) % 2
+label_from : ℕ → ℕ → ℕ
+label_from x y = x - 1 + ((x - 1) / 2 + (y - 1) / 2) % 2
 
-label-from : (l : ℕ) → l < 4 → labelFrom (remainderX l) (remainderY l) ≡ l
-unfolding labelFrom
-label-from = equal1 4 (λ l. labelFrom (remainderX l) (remainderY l)) (λ l. l) tt
+label-from : (l : ℕ) → l < 4 → label_from (remainder_x l) (remainder_y l) ≡ l
+unfolding label_from
+label-from = equal1 4 (λ l. label_from (remainder_x l) (remainder_y l)) (λ l. l) tt
 
 -- ---- a width and its half
 
 width-ok : ℕ → Bool
-width-ok u = cond (isWidth u) (eqb (2 ^ u) (4 ^ (u / 2))) true
+width-ok u = cond (is_width u) (eqb (2 ^ u) (4 ^ (u / 2))) true
 
-module _ (u : ℕ) (g : isWidth u ≡ true) where
+module _ (u : ℕ) (g : is_width u ≡ true) where
   pub half-below : u / 2 < 5
   half-below = omega (arith, width-le Square u g)
 
@@ -72,13 +72,13 @@ module _ (u : ℕ) (g : isWidth u ≡ true) where
   abbrev m : ℕ
   m = u / 2
 
-  point-is : (v : ℕ) → gridPoint (u + 2) v ≡ record { x = tests.xOf m v; y = tests.yOf m v }
-  unfolding gridPoint
+  point-is : (v : ℕ) → grid_point (u + 2) v ≡ record { x = tests.x_of m v; y = tests.y_of m v }
+  unfolding grid_point
   point-is v =
       let e : (u + 2) / 2 ≡ m + 1 = omega arith in
-      ap (λ (n : ℕ). record { x = twos (everySecond n 1 v); y = twos (everySecond n 0 v) }) e
+      ap (λ (n : ℕ). record { x = twos (every_second n 1 v); y = twos (every_second n 0 v) }) e
 
-  bits_below : (l w : ℕ) → w < 2 ^ u → allBits l w < 4 ^ (m + 1)
+  bits_below : (l w : ℕ) → w < 2 ^ u → all_bits l w < 4 ^ (m + 1)
   bits_below l w h = omega (arith, low_below l, pairs_of, pow-add 4 m 1)
 
   number-of : (v : ℕ) → v < 4 ^ (m + 1) → v / 4 < 2 ^ u
@@ -89,20 +89,20 @@ module _ (u : ℕ) (g : isWidth u ≡ true) where
 
   module _ (l w : ℕ) (b : w < 2 ^ u) where
     abbrev v : ℕ
-    v = allBits l w
+    v = all_bits l w
 
     here : v < 4 ^ (m + 1)
     here = bits_below l w b
 
-    square-is : squareOf u l w ≡ record { x = tests.xOf m v; y = tests.yOf m v }
-    unfolding squareOf
+    square-is : square_of u l w ≡ record { x = tests.x_of m v; y = tests.y_of m v }
+    unfolding square_of
     square-is = point-is v
 
     -- by the gathered bits, which are in range
-    pub square-x : (squareOf u l w).x ≡ coordinate m (gathered (v / 2))
+    pub square-x : (square_of u l w).x ≡ coordinate m (gathered (v / 2))
     square-x = ap (λ (p : Point). p.x) square-is ∙ tests.x-is m v half-below here
 
-    pub square-y : (squareOf u l w).y ≡ coordinate m (gathered v)
+    pub square-y : (square_of u l w).y ≡ coordinate m (gathered v)
     square-y = ap (λ (p : Point). p.y) square-is ∙ tests.y-is m v half-below here
 
     pub x_below : gathered (v / 2) < 2 ^ (m + 1)
@@ -114,12 +114,12 @@ module _ (u : ℕ) (g : isWidth u ≡ true) where
     pub woven-of : woven (gathered (v / 2)) (gathered v) ≡ v
     woven-of = tests.woven_back m v half-below here
 
-    pub labelled : l < 4 → Labelled l (squareOf u l w)
+    pub labelled : l < 4 → Labelled l (square_of u l w)
     labelled a =
         subst (Labelled l) (sym square-is)
-        (record { x-is = tests.x-rest m v half-below here ∙ ap remainderX (label-of l w a); y-is = tests.y-rest m v half-below here ∙ ap remainderY (label-of l w a) })
+        (record { x-is = tests.x-rest m v half-below here ∙ ap remainder_x (label-of l w a); y-is = tests.y-rest m v half-below here ∙ ap remainder_y (label-of l w a) })
 
-    pub on-grid : OnGrid u (squareOf u l w)
+    pub on-grid : OnGrid u (square_of u l w)
     on-grid =
         subst (OnGrid u) (sym square-is)
         (record {
@@ -129,41 +129,41 @@ module _ (u : ℕ) (g : isWidth u ≡ true) where
           y-in = tests.y-in m v half-below here;
         })
 
-    pub small : (nat_abs (squareOf u l w).x ≤ 31) × (nat_abs (squareOf u l w).y ≤ 31)
+    pub small : (nat_abs (square_of u l w).x ≤ 31) × (nat_abs (square_of u l w).y ≤ 31)
     small = (omega (arith, on-grid.x-in, side-is), omega (arith, on-grid.y-in, side-is))
 
     -- the bits can be read off the point
-    bits-of : bits_of m (squareOf u l w) ≡ allBits l w
+    bits-of : bits_of m (square_of u l w) ≡ all_bits l w
     bits-of = ap (bits_of m) square-is ∙ tests.bits_back m v half-below here
 
-    turned-bits : (k : ℕ) (e : low_bits k ≡ 2 * (low_bits l % 2) + (1 - low_bits l / 2)) → numberTurned (suc m) v ≡ allBits k (numberTurned m w)
-    unfolding numberTurned
+    turned-bits : (k : ℕ) (e : low_bits k ≡ 2 * (low_bits l % 2) + (1 - low_bits l / 2)) → number_turned (suc m) v ≡ all_bits k (number_turned m w)
+    unfolding number_turned
     turned-bits k e =
         let f : v / 4 ≡ w = omega (arith, low_below l) in
         let x : v / 2 % 2 ≡ low_bits l / 2 = omega (arith, low_below l) in
         let y : v % 2 ≡ low_bits l % 2 = omega arith in
-        ap (λ (n : ℕ). 4 * numberTurned m n + 2 * (v % 2) + (1 - v / 2 % 2)) f ∙ omega (arith, e)
+        ap (λ (n : ℕ). 4 * number_turned m n + 2 * (v % 2) + (1 - v / 2 % 2)) f ∙ omega (arith, e)
 
-    pub turned-square : l < 4 → turned (squareOf u l w) ≡ squareOf u ((l + 1) % 4) (numberTurned m w)
-    unfolding squareOf
+    pub turned-square : l < 4 → turned (square_of u l w) ≡ square_of u ((l + 1) % 4) (number_turned m w)
+    unfolding square_of
     turned-square a =
         let e = turned-bits ((l + 1) % 4) (equal1 4 (λ l. low_bits ((l + 1) % 4)) (λ l. 2 * (low_bits l % 2) + (1 - low_bits l / 2)) tt l a) in
-        let f : turned (squareOf u l w) ≡ record { x = tests.yOf m v; y = neg_ℤ (tests.xOf m v) } = ap turned square-is in
+        let f : turned (square_of u l w) ≡ record { x = tests.y_of m v; y = neg_ℤ (tests.x_of m v) } = ap turned square-is in
         f
         ∙ ap₂ {C = Point} (λ (x y : ℤ). record { x = x; y = y }) (sym (tests.x-turned m v half-below here)) (sym (tests.y-turned m v half-below here))
-        ∙ sym (point-is (numberTurned (suc m) v))
-        ∙ ap (gridPoint (u + 2)) e
+        ∙ sym (point-is (number_turned (suc m) v))
+        ∙ ap (grid_point (u + 2)) e
 
   module _ (w : ℕ) (b : w < 2 ^ u) where
-    pub number-below : numberTurned m w < 2 ^ u
+    pub number-below : number_turned m w < 2 ^ u
     number-below = omega (arith, pairs_of, tests.turned-below m w half-below (omega (arith, pairs_of)))
 
-    pub number-four : numberTurned m (numberTurned m (numberTurned m (numberTurned m w))) ≡ w
+    pub number-four : number_turned m (number_turned m (number_turned m (number_turned m w))) ≡ w
     number-four = tests.turned-four m w half-below (omega (arith, pairs_of))
 
-  pub one_place : (l k w n : ℕ) → l < 4 → k < 4 → w < 2 ^ u → n < 2 ^ u → squareOf u l w ≡ squareOf u k n → (l ≡ k) × (w ≡ n)
+  pub one_place : (l k w n : ℕ) → l < 4 → k < 4 → w < 2 ^ u → n < 2 ^ u → square_of u l w ≡ square_of u k n → (l ≡ k) × (w ≡ n)
   one_place l k w n a b c d e =
-      let f : allBits l w ≡ allBits k n = sym (bits-of l w c) ∙ ap (bits_of m) e ∙ bits-of k n d in
+      let f : all_bits l w ≡ all_bits k n = sym (bits-of l w c) ∙ ap (bits_of m) e ∙ bits-of k n d in
       (sym (label-of l w a) ∙ ap label_of f ∙ label-of k n b, omega (arith, low_below l, low_below k))
 
   -- ---- every point of the grid
@@ -197,7 +197,7 @@ module _ (u : ℕ) (g : isWidth u ≡ true) where
     woven-in : bits_of m p < 4 ^ (m + 1)
     woven-in = omega (arith, tests.spread-below m i half-below (field_below p.x o.x-in), tests.spread-below m j half-below (field_below p.y o.y-in))
 
-    made : gridPoint (u + 2) (bits_of m p) ≡ p
+    made : grid_point (u + 2) (bits_of m p) ≡ p
     made =
         let b = bits_of m p in
         let x = tests.x-is m b half-below woven-in ∙ ap (coordinate m) (tests.woven-x i j i-below j-below) ∙ field_is p.x o.x-odd o.x-in in
@@ -205,12 +205,12 @@ module _ (u : ℕ) (g : isWidth u ≡ true) where
         point-is b ∙ ap₂ {C = Point} (λ (x y : ℤ). record { x = x; y = y }) x y
 
     pub place : IsPlace u p (record { l = label_of (bits_of m p); w = bits_of m p / 4 })
-    unfolding squareOf
+    unfolding square_of
     place =
         record {
           l-below = low_below (bits_of m p % 4);
           w-below = number-of (bits_of m p) woven-in;
-          is-there = ap (gridPoint (u + 2)) (all-bits (bits_of m p)) ∙ made;
+          is-there = ap (grid_point (u + 2)) (all-bits (bits_of m p)) ∙ made;
         }
 
     -- and the label whose remainders it has
@@ -218,11 +218,11 @@ module _ (u : ℕ) (g : isWidth u ≡ true) where
     label_is l h a =
         let k = label_of (bits_of m p) in
         let b : Labelled k p = subst (Labelled k) place.is-there (labelled k (bits_of m p / 4) place.w-below place.l-below) in
-        let x : remainderX k ≡ remainderX l = sym b.x-is ∙ a.x-is in
-        let y : remainderY k ≡ remainderY l = sym b.y-is ∙ a.y-is in
-        sym (label-from k place.l-below) ∙ ap₂ labelFrom x y ∙ label-from l h
+        let x : remainder_x k ≡ remainder_x l = sym b.x-is ∙ a.x-is in
+        let y : remainder_y k ≡ remainder_y l = sym b.y-is ∙ a.y-is in
+        sym (label-from k place.l-below) ∙ ap₂ label_from x y ∙ label-from l h
 
-pub place-settled : (u : ℕ) (p : Point) (r s : Place) → isWidth u ≡ true → IsPlace u p r → IsPlace u p s → r ≡ s
+pub place-settled : (u : ℕ) (p : Point) (r s : Place) → is_width u ≡ true → IsPlace u p r → IsPlace u p s → r ≡ s
 place-settled u p r s g a b =
     let e = one_place u g r.l s.l r.w s.w a.l-below b.l-below a.w-below b.w-below (a.is-there ∙ sym b.is-there) in
     λ i. record { l = e.0 i; w = e.1 i }

@@ -17,8 +17,8 @@ use lib.Dec.{T, ltb, eqb, eqb→eq, ltb→lt}
 use lib.IntN.{ℤ, pos, negsuc, neg_ℤ, nat_abs}
 use Rattle.wei.proofs.Finite.{upto, at, equal2}
 use Rattle.points.specs.Points.{mod4}
-use Rattle.points.specs.Turn.{remainderX, remainderY}
-use Rattle.maps.specs.SquareMap.{everySecond, twos, numberTurned}
+use Rattle.points.specs.Turn.{remainder_x, remainder_y}
+use Rattle.maps.specs.SquareMap.{every_second, twos, number_turned}
 use Rattle.maps.specs.SquareBits.{gathered, spread, woven, coordinate, field_of, label_of}
 
 -- ---- tests at each width, and at each number below what the width says
@@ -36,40 +36,40 @@ module _ (n : ℕ → ℕ) where
   pub less : (f g : ℕ → ℕ → ℕ) → Each n (λ m v. ltb (f m v) (g m v)) → (m v : ℕ) → m < 5 → v < n m → f m v < g m v
   less f g t m v a b = ltb→lt (f m v) (g m v) (each_at (λ m v. ltb (f m v) (g m v)) t m v a b)
 
-unfoldable pub sameZ : ℤ → ℤ → Bool
-sameZ (pos a) (pos b) = eqb a b
-sameZ (negsuc a) (negsuc b) = eqb a b
-sameZ (pos a) (negsuc b) = false
-sameZ (negsuc a) (pos b) = false
+unfoldable pub same_z : ℤ → ℤ → Bool
+same_z (pos a) (pos b) = eqb a b
+same_z (negsuc a) (negsuc b) = eqb a b
+same_z (pos a) (negsuc b) = false
+same_z (negsuc a) (pos b) = false
 
-sameZ-is : (a b : ℤ) → T (sameZ a b) → a ≡ b
-unfolding sameZ
-sameZ-is (pos a) (pos b) t = ap pos (eqb→eq a b t)
-sameZ-is (negsuc a) (negsuc b) t = ap negsuc (eqb→eq a b t)
-sameZ-is (pos a) (negsuc b) t = absurd t
-sameZ-is (negsuc a) (pos b) t = absurd t
+same_z-is : (a b : ℤ) → T (same_z a b) → a ≡ b
+unfolding same_z
+same_z-is (pos a) (pos b) t = ap pos (eqb→eq a b t)
+same_z-is (negsuc a) (negsuc b) t = ap negsuc (eqb→eq a b t)
+same_z-is (pos a) (negsuc b) t = absurd t
+same_z-is (negsuc a) (pos b) t = absurd t
 
-pub equalZ : (n : ℕ → ℕ) (f g : ℕ → ℕ → ℤ) → Each n (λ m v. sameZ (f m v) (g m v)) → (m v : ℕ) → m < 5 → v < n m → f m v ≡ g m v
-equalZ n f g t m v a b = sameZ-is (f m v) (g m v) (each_at n (λ m v. sameZ (f m v) (g m v)) t m v a b)
+pub equal_z : (n : ℕ → ℕ) (f g : ℕ → ℕ → ℤ) → Each n (λ m v. same_z (f m v) (g m v)) → (m v : ℕ) → m < 5 → v < n m → f m v ≡ g m v
+equal_z n f g t m v a b = same_z-is (f m v) (g m v) (each_at n (λ m v. same_z (f m v) (g m v)) t m v a b)
 
 -- ---- over all bits v
 
-abbrev pub xOf : ℕ → ℕ → ℤ
-xOf m v = twos (everySecond (m + 1) 1 v)
+abbrev pub x_of : ℕ → ℕ → ℤ
+x_of m v = twos (every_second (m + 1) 1 v)
 
-abbrev pub yOf : ℕ → ℕ → ℤ
-yOf m v = twos (everySecond (m + 1) 0 v)
+abbrev pub y_of : ℕ → ℕ → ℤ
+y_of m v = twos (every_second (m + 1) 0 v)
 
 abbrev bits : ℕ → ℕ
 bits m = 4 ^ (m + 1)
 
-pub x-is : (m v : ℕ) → m < 5 → v < 4 ^ (m + 1) → xOf m v ≡ coordinate m (gathered (v / 2))
-unfolding sameZ coordinate gathered
-x-is = equalZ bits xOf (λ m v. coordinate m (gathered (v / 2))) tt
+pub x-is : (m v : ℕ) → m < 5 → v < 4 ^ (m + 1) → x_of m v ≡ coordinate m (gathered (v / 2))
+unfolding same_z coordinate gathered
+x-is = equal_z bits x_of (λ m v. coordinate m (gathered (v / 2))) tt
 
-pub y-is : (m v : ℕ) → m < 5 → v < 4 ^ (m + 1) → yOf m v ≡ coordinate m (gathered v)
-unfolding sameZ coordinate gathered
-y-is = equalZ bits yOf (λ m v. coordinate m (gathered v)) tt
+pub y-is : (m v : ℕ) → m < 5 → v < 4 ^ (m + 1) → y_of m v ≡ coordinate m (gathered v)
+unfolding same_z coordinate gathered
+y-is = equal_z bits y_of (λ m v. coordinate m (gathered v)) tt
 
 pub x_below : (m v : ℕ) → m < 5 → v < 4 ^ (m + 1) → gathered (v / 2) < 2 ^ (m + 1)
 unfolding gathered
@@ -83,46 +83,46 @@ pub woven_back : (m v : ℕ) → m < 5 → v < 4 ^ (m + 1) → woven (gathered (
 unfolding gathered spread
 woven_back = equal bits (λ m v. woven (gathered (v / 2)) (gathered v)) (λ m v. v) tt
 
-pub bits_back : (m v : ℕ) → m < 5 → v < 4 ^ (m + 1) → woven (field_of m (xOf m v)) (field_of m (yOf m v)) ≡ v
+pub bits_back : (m v : ℕ) → m < 5 → v < 4 ^ (m + 1) → woven (field_of m (x_of m v)) (field_of m (y_of m v)) ≡ v
 unfolding field_of spread
-bits_back = equal bits (λ m v. woven (field_of m (xOf m v)) (field_of m (yOf m v))) (λ m v. v) tt
+bits_back = equal bits (λ m v. woven (field_of m (x_of m v)) (field_of m (y_of m v))) (λ m v. v) tt
 
-pub x-rest : (m v : ℕ) → m < 5 → v < 4 ^ (m + 1) → mod4 (xOf m v) ≡ remainderX (label_of v)
-x-rest = equal bits (λ m v. mod4 (xOf m v)) (λ m v. remainderX (label_of v)) tt
+pub x-rest : (m v : ℕ) → m < 5 → v < 4 ^ (m + 1) → mod4 (x_of m v) ≡ remainder_x (label_of v)
+x-rest = equal bits (λ m v. mod4 (x_of m v)) (λ m v. remainder_x (label_of v)) tt
 
-pub y-rest : (m v : ℕ) → m < 5 → v < 4 ^ (m + 1) → mod4 (yOf m v) ≡ remainderY (label_of v)
-y-rest = equal bits (λ m v. mod4 (yOf m v)) (λ m v. remainderY (label_of v)) tt
+pub y-rest : (m v : ℕ) → m < 5 → v < 4 ^ (m + 1) → mod4 (y_of m v) ≡ remainder_y (label_of v)
+y-rest = equal bits (λ m v. mod4 (y_of m v)) (λ m v. remainder_y (label_of v)) tt
 
-pub x-odd : (m v : ℕ) → m < 5 → v < 4 ^ (m + 1) → nat_abs (xOf m v) % 2 ≡ 1
-x-odd = equal bits (λ m v. nat_abs (xOf m v) % 2) (λ m v. 1) tt
+pub x-odd : (m v : ℕ) → m < 5 → v < 4 ^ (m + 1) → nat_abs (x_of m v) % 2 ≡ 1
+x-odd = equal bits (λ m v. nat_abs (x_of m v) % 2) (λ m v. 1) tt
 
-pub y-odd : (m v : ℕ) → m < 5 → v < 4 ^ (m + 1) → nat_abs (yOf m v) % 2 ≡ 1
-y-odd = equal bits (λ m v. nat_abs (yOf m v) % 2) (λ m v. 1) tt
+pub y-odd : (m v : ℕ) → m < 5 → v < 4 ^ (m + 1) → nat_abs (y_of m v) % 2 ≡ 1
+y-odd = equal bits (λ m v. nat_abs (y_of m v) % 2) (λ m v. 1) tt
 
-pub x-in : (m v : ℕ) → m < 5 → v < 4 ^ (m + 1) → nat_abs (xOf m v) < 2 ^ (m + 1)
-x-in = less bits (λ m v. nat_abs (xOf m v)) (λ m v. 2 ^ (m + 1)) tt
+pub x-in : (m v : ℕ) → m < 5 → v < 4 ^ (m + 1) → nat_abs (x_of m v) < 2 ^ (m + 1)
+x-in = less bits (λ m v. nat_abs (x_of m v)) (λ m v. 2 ^ (m + 1)) tt
 
-pub y-in : (m v : ℕ) → m < 5 → v < 4 ^ (m + 1) → nat_abs (yOf m v) < 2 ^ (m + 1)
-y-in = less bits (λ m v. nat_abs (yOf m v)) (λ m v. 2 ^ (m + 1)) tt
+pub y-in : (m v : ℕ) → m < 5 → v < 4 ^ (m + 1) → nat_abs (y_of m v) < 2 ^ (m + 1)
+y-in = less bits (λ m v. nat_abs (y_of m v)) (λ m v. 2 ^ (m + 1)) tt
 
-pub x-turned : (m v : ℕ) → m < 5 → v < 4 ^ (m + 1) → xOf m (numberTurned (suc m) v) ≡ yOf m v
-unfolding sameZ numberTurned
-x-turned = equalZ bits (λ m v. xOf m (numberTurned (suc m) v)) yOf tt
+pub x-turned : (m v : ℕ) → m < 5 → v < 4 ^ (m + 1) → x_of m (number_turned (suc m) v) ≡ y_of m v
+unfolding same_z number_turned
+x-turned = equal_z bits (λ m v. x_of m (number_turned (suc m) v)) y_of tt
 
-pub y-turned : (m v : ℕ) → m < 5 → v < 4 ^ (m + 1) → yOf m (numberTurned (suc m) v) ≡ neg_ℤ (xOf m v)
-unfolding sameZ numberTurned
-y-turned = equalZ bits (λ m v. yOf m (numberTurned (suc m) v)) (λ m v. neg_ℤ (xOf m v)) tt
+pub y-turned : (m v : ℕ) → m < 5 → v < 4 ^ (m + 1) → y_of m (number_turned (suc m) v) ≡ neg_ℤ (x_of m v)
+unfolding same_z number_turned
+y-turned = equal_z bits (λ m v. y_of m (number_turned (suc m) v)) (λ m v. neg_ℤ (x_of m v)) tt
 
 -- ---- over all coordinates
 
 -- the n-th odd coordinate above 0 and below 0
 pub above : (m n : ℕ) → m < 5 → n < 2 ^ m → coordinate m (field_of m (pos (2 * n + 1))) ≡ pos (2 * n + 1)
-unfolding sameZ coordinate field_of
-above = equalZ (λ m. 2 ^ m) (λ m n. coordinate m (field_of m (pos (2 * n + 1)))) (λ m n. pos (2 * n + 1)) tt
+unfolding same_z coordinate field_of
+above = equal_z (λ m. 2 ^ m) (λ m n. coordinate m (field_of m (pos (2 * n + 1)))) (λ m n. pos (2 * n + 1)) tt
 
 pub under : (m n : ℕ) → m < 5 → n < 2 ^ m → coordinate m (field_of m (negsuc (2 * n))) ≡ negsuc (2 * n)
-unfolding sameZ coordinate field_of
-under = equalZ (λ m. 2 ^ m) (λ m n. coordinate m (field_of m (negsuc (2 * n)))) (λ m n. negsuc (2 * n)) tt
+unfolding same_z coordinate field_of
+under = equal_z (λ m. 2 ^ m) (λ m n. coordinate m (field_of m (negsuc (2 * n)))) (λ m n. negsuc (2 * n)) tt
 
 -- what is woven of the coordinates' bits is gathered again
 pub woven-x : (i j : ℕ) → i < 32 → j < 32 → gathered (woven i j / 2) ≡ i
@@ -139,10 +139,10 @@ spread-below = less (λ m. 2 ^ (m + 1)) (λ m k. 3 * spread k) (λ m k. 4 ^ (m +
 
 -- ---- over all numbers w
 
-pub turned-below : (m w : ℕ) → m < 5 → w < 4 ^ m → numberTurned m w < 4 ^ m
-unfolding numberTurned
-turned-below = less (λ m. 4 ^ m) numberTurned (λ m w. 4 ^ m) tt
+pub turned-below : (m w : ℕ) → m < 5 → w < 4 ^ m → number_turned m w < 4 ^ m
+unfolding number_turned
+turned-below = less (λ m. 4 ^ m) number_turned (λ m w. 4 ^ m) tt
 
-pub turned-four : (m w : ℕ) → m < 5 → w < 4 ^ m → numberTurned m (numberTurned m (numberTurned m (numberTurned m w))) ≡ w
-unfolding numberTurned
-turned-four = equal (λ m. 4 ^ m) (λ m w. numberTurned m (numberTurned m (numberTurned m (numberTurned m w)))) (λ m w. w) tt
+pub turned-four : (m w : ℕ) → m < 5 → w < 4 ^ m → number_turned m (number_turned m (number_turned m (number_turned m w))) ≡ w
+unfolding number_turned
+turned-four = equal (λ m. 4 ^ m) (λ m w. number_turned m (number_turned m (number_turned m (number_turned m w)))) (λ m w. w) tt

@@ -8,15 +8,15 @@ pub mod square;
 
 ghost use Rattle.std.specs.Prelude.{◌≡◌, true, ◌^◌, ◌<◌};
 ghost use Rattle.points.specs.Points.{coordinates};
-ghost use Rattle.points.specs.Agreed.{hasWidth};
-ghost use Rattle.maps.specs.PointMap.{pointOn};
+ghost use Rattle.points.specs.Agreed.{has_width};
+ghost use Rattle.maps.specs.PointMap.{point_on};
 
 use points::{Map, Point};
 
 // The point with label l and number w.
 pub fn point_on(t: &[i8; 512], map: Map, u: u32, l: u32, w: u32) -> Point
-    requires { (t.now ≡ coordinates) × (hasWidth map u ≡ true) × (l < 4) × (w < 2 ^ u) }
-    ensures { result ≡ pointOn map u l w }
+    requires { (t.now ≡ coordinates) × (has_width map u ≡ true) × (l < 4) × (w < 2 ^ u) }
+    ensures { result ≡ point_on map u l w }
 {
     match map {
         Map::Round => points::point_of(t, l, w as usize),

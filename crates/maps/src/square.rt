@@ -7,7 +7,7 @@
 // `point_of` answers the one point that its contract names. `place_of` answers the label and the number of which `point_of` makes the
 // point that was given, and no other pair makes it (proofs/SquareLaws, `one_place`).
 ghost use Rattle.std.specs.Prelude.{◌≡◌, true, ◌+◌, ◌^◌, ◌<◌, nat_abs};
-ghost use Rattle.maps.specs.SquareMap.{isWidth, squareOf, OnGrid};
+ghost use Rattle.maps.specs.SquareMap.{is_width, square_of, OnGrid};
 ghost use Rattle.maps.specs.SquareBits.{gathered, spread, coordinate, field_of};
 ghost use Rattle.maps.specs.SquareInverse.{IsPlace};
 
@@ -61,8 +61,8 @@ fn field(m: u32, z: i32) -> u32
 
 // The point with label l and number w. A label's bits v1 and v0 are its number in Gray's code: 0, 1, 3, 2.
 pub fn point_of(u: u32, l: u32, w: u32) -> Point
-    requires { (isWidth u ≡ true) × (l < 4) × (w < 2 ^ u) }
-    ensures { result ≡ squareOf u l w }
+    requires { (is_width u ≡ true) × (l < 4) × (w < 2 ^ u) }
+    ensures { result ≡ square_of u l w }
 {
     let v = (w << 2) | (l ^ (l >> 1));
     let m = u >> 1;
@@ -76,7 +76,7 @@ pub fn point_of(u: u32, l: u32, w: u32) -> Point
 
 // The label and the number of a point of the grid.
 pub fn place_of(u: u32, p: Point) -> Place
-    requires { (isWidth u ≡ true) × OnGrid u p }
+    requires { (is_width u ≡ true) × OnGrid u p }
     ensures { IsPlace u p result }
 {
     let m = u >> 1;

@@ -8,14 +8,14 @@ use mathlib.Core.List.{List, [], ◌∷◌}
 use Prim.Native.Nat.{ℕ, ◌+◌, ◌*◌, ◌/◌, ◌%◌, ◌≤◌, ◌<◌}
 use lib.Pow.{pow_pos}
 use native.Mathlib.Omega.{arith}
-use Rattle.wei.specs.State.{bitW4, nextState, carryI1, carryI2}
+use Rattle.wei.specs.State.{bit_w4, next_state, carry_i1, carry_i2}
 use Rattle.wei.specs.Symbol.{Symbol, Valid, Carries}
 use Rattle.trellis.specs.Code.{Code, Path, begin, step, last, Allowed, cost}
 use Rattle.trellis.specs.Best.{Best}
-use Rattle.trellis.specs.Measure.{Start, Measure, weiCode}
+use Rattle.trellis.specs.Measure.{Start, Measure, wei_code}
 use Rattle.trellis.proofs.Optimal.{allowed-below, best-below}
 use Rattle.trellis.proofs.Branches.{low-before, befores-lead}
-use Rattle.wei.proofs.States.{carryI1-below, carryI2-below}
+use Rattle.wei.proofs.States.{carry_i1-below, carry_i2-below}
 use Rattle.trellis.proofs.Sent.{AlongPath}
 use Rattle.margins.proofs.Potential.{level, middle, Low, high, last-only, before-only, low-is}
 
@@ -34,13 +34,13 @@ Handy u M E x c = (y i j : ℕ) → y < 2 → i < 2 → j < 2 → Instead u M E 
 -- ---- two steps from one state to another
 
 abbrev plain : ℕ → ℕ → Symbol
-plain s t = record { y0 = bitW4 s; i1 = carryI1 s t; i2 = carryI2 s t; i3 = 0; w1 = 0; w2 = 0 }
+plain s t = record { y0 = bit_w4 s; i1 = carry_i1 s t; i2 = carry_i2 s t; i3 = 0; w1 = 0; w2 = 0 }
 
 module _ (u : ℕ) where
   plain-carries : (s t : ℕ) → s < 16 → t < 16 → s % 4 ≡ t / 4 → Carries u s t (plain s t)
   plain-carries s t h k e =
       record {
-        valid = record { y0-below = omega arith; i1-below = carryI1-below s t; i2-below = carryI2-below s t; i3-below = omega arith; w1-below = pow_pos u; w2-below = pow_pos u };
+        valid = record { y0-below = omega arith; i1-below = carry_i1-below s t; i2-below = carry_i2-below s t; i3-below = omega arith; w1-below = pow_pos u; w2-below = pow_pos u };
         parity = refl;
         leads = befores-lead s t k (low-before s t h e);
       }
@@ -61,7 +61,7 @@ module _ (u : ℕ) (M : Measure) (b : Start) (E : ℕ) where
   open M use {Heard, far}
 
   abbrev K : Code
-  K = weiCode u M b
+  K = wei_code u M b
 
   -- in place of any symbol between two states
   module _ (x : Heard) (c : Symbol) (H : Handy u M E x c) (s t : ℕ) (d : Symbol) (k : Carries u s t d) where
@@ -74,7 +74,7 @@ module _ (u : ℕ) (M : Measure) (b : Start) (E : ℕ) where
     instead-carries : Carries u s t instead
     unfolding instead
     instead-carries =
-        record { valid = found.by-valid; parity = found.has-y0 ∙ k.parity; leads = ap₂ (nextState s) found.has-i1 found.has-i2 ∙ k.leads }
+        record { valid = found.by-valid; parity = found.has-y0 ∙ k.parity; leads = ap₂ (next_state s) found.has-i1 found.has-i2 ∙ k.leads }
 
     instead-costs : far x instead ≤ far x c + E
     unfolding instead
@@ -118,10 +118,10 @@ module _ (u : ℕ) (M : Measure) (b : Start) (E : ℕ) where
       k : s < 16
       k = best-below K (z ∷ y ∷ ys) s p g
 
-      low : Low (last q) s r (nextState r c.i1 c.i2) c.i1 c.i2
+      low : Low (last q) s r (next_state r c.i1 c.i2) c.i1 c.i2
       low =
           let w = a.2.1 in
-          subst (λ (x : ℕ). Low (last q) s x (nextState x c.i1 c.i2) c.i1 c.i2) w.leads
+          subst (λ (x : ℕ). Low (last q) s x (next_state x c.i1 c.i2) c.i1 c.i2) w.leads
           (low-is (last q) s d.i1 d.i2 c.i1 c.i2 i k w.valid.i1-below w.valid.i2-below a.1.valid.i1-below a.1.valid.i2-below)
 
       go : Low (last q) s r t c.i1 c.i2 → cost K (z ∷ y ∷ ys) p ≤ cost K (z ∷ y ∷ ys) (step (step q d r) c t) + E

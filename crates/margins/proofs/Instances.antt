@@ -28,20 +28,20 @@ use Rattle.openings.specs.declared.Start.{Start}
 use Rattle.openings.specs.declared.Start.TheVariants.{At}
 use Rattle.openings.specs.Given.{start_of}
 use Rattle.promises.specs.Clean.{StartsAtZero}
-use Rattle.margins.specs.Latest.{crowded, latestOf, latest}
+use Rattle.margins.specs.Latest.{crowded, latest_of, latest}
 use Rattle.margins.specs.Guarantee.{Guaranteed}
 use Rattle.margins.proofs.NoSix.{guaranteed}
 use Rattle.margins.proofs.Library.{library-guaranteed}
 
 -- in the order of the table
-pub numbers : latestOf false measure.free 61 ∷ latestOf false (measure.named 0) 66 ∷ latestOf true measure.free 56 ∷ latestOf true (measure.named 0) 65 ∷ latestOf false (measure.named 0) 20
-    ∷ latestOf false measure.free 3 ∷ latestOf false measure.free 0 ∷ latestOf false (measure.named 0) 0 ∷ latestOf true measure.free 0 ∷ latestOf true (measure.named 0) 0 ∷ []
+pub numbers : latest_of false measure.free 61 ∷ latest_of false (measure.named 0) 66 ∷ latest_of true measure.free 56 ∷ latest_of true (measure.named 0) 65 ∷ latest_of false (measure.named 0) 20
+    ∷ latest_of false measure.free 3 ∷ latest_of false measure.free 0 ∷ latest_of false (measure.named 0) 0 ∷ latest_of true measure.free 0 ∷ latest_of true (measure.named 0) 0 ∷ []
     ≡ 64 ∷ 64 ∷ 32 ∷ 32 ∷ 32 ∷ 32 ∷ 32 ∷ 26 ∷ 14 ∷ 8 ∷ []
 numbers = refl
 
 -- the first six are the most that the bound gives
-pub beyond : latestOf false measure.free 62 ∷ latestOf false (measure.named 0) 67 ∷ latestOf true measure.free 57 ∷ latestOf true (measure.named 0) 66 ∷ latestOf false (measure.named 0) 21
-    ∷ latestOf false measure.free 4 ∷ []
+pub beyond : latest_of false measure.free 62 ∷ latest_of false (measure.named 0) 67 ∷ latest_of true measure.free 57 ∷ latest_of true (measure.named 0) 66 ∷ latest_of false (measure.named 0) 21
+    ∷ latest_of false measure.free 4 ∷ []
     ≡ 65 ∷ 65 ∷ 33 ∷ 33 ∷ 33 ∷ 33 ∷ []
 beyond = refl
 
@@ -50,14 +50,14 @@ both-guaranteed ac b z n w l h = record { ends = guaranteed ac b z n w l h; call
 
 -- on any accord, and on a crowded one
 module _ (ac : Accord) (b : Start) (z : StartsAtZero b) (n w : ℕ) (l : n ≤ 127) where
-  any-window : ((c : Bool) → latestOf c (start_of b) n ≤ w) → Guaranteed ac b n w
+  any-window : ((c : Bool) → latest_of c (start_of b) n ≤ w) → Guaranteed ac b n w
   any-window h = both-guaranteed ac b z n w l (h (crowded ac))
 
-  crowded-window : crowded ac ≡ true → latestOf true (start_of b) n ≤ w → Guaranteed ac b n w
-  crowded-window e h = both-guaranteed ac b z n w l (subst (λ (c : Bool). latestOf c (start_of b) n ≤ w) (sym e) h)
+  crowded-window : crowded ac ≡ true → latest_of true (start_of b) n ≤ w → Guaranteed ac b n w
+  crowded-window e h = both-guaranteed ac b z n w l (subst (λ (c : Bool). latest_of c (start_of b) n ≤ w) (sym e) h)
 
 -- free or 0: what holds with a free start holds with start 0
-both-starts : (c : Bool) (b : measure.Start) (n w : ℕ) → latestOf c measure.free n ≤ w → latestOf c b n ≤ w
+both-starts : (c : Bool) (b : measure.Start) (n w : ℕ) → latest_of c measure.free n ≤ w → latest_of c b n ≤ w
 both-starts c measure.free n w h = h
 both-starts c (measure.named s) n w h = omega arith
 
@@ -67,8 +67,8 @@ each P x y false = y
 
 module _ (ac : Accord) where
   module _ (b : Start) (z : StartsAtZero b) where
-    from-free : (n w : ℕ) → n ≤ 127 → latestOf true measure.free n ≤ w → latestOf false measure.free n ≤ w → Guaranteed ac b n w
-    from-free n w l h k = any-window ac b z n w l (λ c. both-starts c (start_of b) n w (each (λ c. latestOf c measure.free n ≤ w) h k c))
+    from-free : (n w : ℕ) → n ≤ 127 → latest_of true measure.free n ≤ w → latest_of false measure.free n ≤ w → Guaranteed ac b n w
+    from-free n w l h k = any-window ac b z n w l (λ c. both-starts c (start_of b) n w (each (λ c. latest_of c measure.free n ≤ w) h k c))
 
     pub window-64 : Guaranteed ac b 61 64
     window-64 = from-free 61 64 (omega arith) (omega arith) (omega arith)
@@ -86,8 +86,8 @@ module _ (ac : Accord) where
       pub clean : Guaranteed ac b 0 14
       clean = crowded-window ac b z 0 14 (omega arith) e (both-starts true (start_of b) 0 14 (omega arith))
 
-  named-any : (n w : ℕ) → n ≤ 127 → latestOf true (measure.named 0) n ≤ w → latestOf false (measure.named 0) n ≤ w → Guaranteed ac (At 0) n w
-  named-any n w l h k = any-window ac (At 0) tt n w l (each (λ c. latestOf c (measure.named 0) n ≤ w) h k)
+  named-any : (n w : ℕ) → n ≤ 127 → latest_of true (measure.named 0) n ≤ w → latest_of false (measure.named 0) n ≤ w → Guaranteed ac (At 0) n w
+  named-any n w l h k = any-window ac (At 0) tt n w l (each (λ c. latest_of c (measure.named 0) n ≤ w) h k)
 
   pub window-64-named : Guaranteed ac (At 0) 66 64
   window-64-named = named-any 66 64 (omega arith) (omega arith) (omega arith)

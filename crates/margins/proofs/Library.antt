@@ -6,7 +6,7 @@ use native.Mathlib.Omega.{arith}
 use lib.ListN.{length, get_or}
 use Rattle.points.specs.declared.Accord.{Accord}
 use Rattle.openings.specs.declared.Start.{Start}
-use Rattle.c_states.specs.State.{senderIn, receiverIn}
+use Rattle.c_states.specs.State.{sender_in, receiver_in}
 use Rattle.promises.specs.Clean.{StartsAtZero}
 use Rattle.promises.specs.Library.{taken, written}
 use Rattle.promises.proofs.Follows.{follows}
@@ -19,10 +19,10 @@ pub library-guaranteed : (ac : Accord) (b : Start) → StartsAtZero b → (n w :
 library-guaranteed ac b z n w l wide =
     record {
       no_six = λ sent ps s k took ws state h q c out told long m state' o told' a.
-          fair ac sent ps (senderIn s) (library.sent ac sent ps s k) n l b z w wide took q c (follows ac w b took ws (receiverIn state) (library.talks ac w b took ws state h)).fine.good_start
+          fair ac sent ps (sender_in s) (library.sent ac sent ps s k) n l b z w wide took q c (follows ac w b took ws (receiver_in state) (library.talks ac w b took ws state h)).fine.good_start
           (length out) (taken told') (written told') (record { number = m; place = get_or told' 2 0 }) (library.numbers ac w b took ws state h q out told long m state' o told' a);
       pending = λ sent ps s k v took ws state h c.
-          omega (arith, few ac sent ps (senderIn s) (library.sent ac sent ps s k) n l b z v took ws (receiverIn state) (library.talks ac v b took ws state h) c, wide);
+          omega (arith, few ac sent ps (sender_in s) (library.sent ac sent ps s k) n l b z v took ws (receiver_in state) (library.talks ac v b took ws state h) c, wide);
       no-late = λ sent ps s k v took ws state h c.
-          all_but ac sent ps (senderIn s) (library.sent ac sent ps s k) n l b z v took ws (receiverIn state) (library.talks ac v b took ws state h) c w wide;
+          all_but ac sent ps (sender_in s) (library.sent ac sent ps s k) n l b z v took ws (receiver_in state) (library.talks ac v b took ws state h) c w wide;
     }

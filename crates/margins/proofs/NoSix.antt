@@ -21,12 +21,12 @@ use lib.Seq.{take-take, take_at}
 use Rattle.points.specs.declared.Accord.{Accord}
 use Rattle.trellis.specs.Lists.{Every}
 use Rattle.trellis.specs.Measure.{Two, GoodStart}
-use Rattle.trellis.specs.Words.{asHeard}
+use Rattle.trellis.specs.Words.{as_heard}
 use Rattle.trellis.proofs.Lists.{take-prefix}
 use Rattle.nearest.specs.declared.Received.{Received}
 use Rattle.nearest.specs.Line.{BothInRange}
 use Rattle.reasons.specs.Reason.{Reason, given_of}
-use Rattle.receiver_meaning.specs.Told.{pendingAfter}
+use Rattle.receiver_meaning.specs.Told.{pending_after}
 use Rattle.receiver_meaning.specs.Piece.{Piece}
 use Rattle.receiver_meaning.proofs.Telling.{no-fault}
 use Rattle.openings.specs.declared.Start.{Start}
@@ -40,7 +40,7 @@ use Rattle.promises.specs.Talk.{Talk}
 use Rattle.promises.specs.Clean.{StartsAtZero}
 use Rattle.promises.specs.Noise.{Near, Carried}
 use Rattle.promises.specs.Table as table
-use Rattle.promises.proofs.Follows.{toldOf, follows}
+use Rattle.promises.proofs.Follows.{told_of, follows}
 use Rattle.promises.proofs.Clean.{agreed-sent}
 use Rattle.promises.proofs.Carried.{carried-front, near-serves}
 use Rattle.promises.proofs.Served.{served-begins}
@@ -66,10 +66,10 @@ module _ (ac : Accord) (sent : List ℕ) (ps : List ℤ) (s : Sender) (k : sende
         let f = follows ac w b took ws rx h in
         omega (arith, few-pending ac sent ps s k n l took c b z f.fine.good_start w, ap length f.said, length-reverse took)
 
-    pub all_but : (v : ℕ) → latest ac b n ≤ v → IsPrefix (take (length took - v) (asHeard (start_of b) sent)) ws
+    pub all_but : (v : ℕ) → latest ac b n ≤ v → IsPrefix (take (length took - v) (as_heard (start_of b) sent)) ws
     all_but v i =
         let m : ℕ = length took - v in
-        let e = begun-with ws (asHeard (start_of b) sent) m (served-begins ac sent ps s k (Near n) (near-serves ac (agreed-sent ac sent ps s k) n l) took c w b z ws rx h) (omega (arith, few)) in
+        let e = begun-with ws (as_heard (start_of b) sent) m (served-begins ac sent ps s k (Near n) (near-serves ac (agreed-sent ac sent ps s k) n l) took c w b z ws rx h) (omega (arith, few)) in
         subst (λ (v : List ℕ). IsPrefix v ws) (sym e) (take-prefix m ws)
 
   -- ---- what a piece is answered with
@@ -90,14 +90,14 @@ module _ (ac : Accord) (sent : List ℕ) (ps : List ℤ) (s : Sender) (k : sende
       backwards =
           reverse-append took (take m q.symbols ++ (y ∷ [])) ∙ ap (λ (x : List (Two Received)). x ++ reverse took) (reverse-append (take m q.symbols) (y ∷ []))
 
-    symbol-fair : (ys : List (Two Received)) (y : Two Received) (room : ℕ) (g : Reason) → BothInRange y → pendingAfter (toldOf ac w b took) (y ∷ ys) ≤ w →
-        table.SymbolGives (toldOf ac w b took) ys y room g → Fair g.number
+    symbol-fair : (ys : List (Two Received)) (y : Two Received) (room : ℕ) (g : Reason) → BothInRange y → pending_after (told_of ac w b took) (y ∷ ys) ≤ w →
+        table.SymbolGives (told_of ac w b took) ys y room g → Fair g.number
     symbol-fair ys y room g i few (table.SymbolGives.five a) = absurd (omega (arith, no-fault y i))
     symbol-fair ys y room g i few (table.SymbolGives.six a d) = absurd (omega arith)
     symbol-fair ys y room g i few (table.SymbolGives.eight a d e) = inr (inl refl)
     symbol-fair ys y room g i few (table.SymbolGives.taken a d e) = inl refl
 
-    pub fair : GoodStart (start_of b) → (room m v : ℕ) (g : Reason) → table.PieceGives (toldOf ac w b took) q room m v g → Fair g.number
+    pub fair : GoodStart (start_of b) → (room m v : ℕ) (g : Reason) → table.PieceGives (told_of ac w b took) q room m v g → Fair g.number
     fair i room m v g (table.PieceGives.ten x y j) = inr (inr refl)
     fair i room m v g (table.PieceGives.whole x y j) = inl refl
     fair i room m v g (table.PieceGives.stopped x y later d t g' j a) =
@@ -106,13 +106,13 @@ module _ (ac : Accord) (sent : List ℕ) (ps : List ℤ) (s : Sender) (k : sende
         let few = few-pending ac sent ps s k n l (up_to m y) to b z i w in
         symbol-fair (reverse front ++ reverse took) y (room - v) g
         (every-right BothInRange front (y ∷ []) (every-right BothInRange took (front ++ (y ∷ [])) (carried-in ac sent ps s k n l (up_to m y) to))).0
-        (omega (arith, subst (λ (e : List (Two Received)). pendingAfter (toldOf ac w b took) e ≤ latest ac b n) (backwards m y) few, wide)) a
+        (omega (arith, subst (λ (e : List (Two Received)). pending_after (told_of ac w b took) e ≤ latest ac b n) (backwards m y) few, wide)) a
 
     only-room : (ws : List ℕ) (rx : Receiver) → Talk ac w b took ws rx → (out o : List ℕ) (r : Answer) → Hears rx q out r o → Fair (given_of r.why).number
     only-room ws rx h out o r p =
         let f = follows ac w b took ws rx h in
         fair f.fine.good_start (length out) r.taken r.written (given_of r.why)
-        ((hears (toldOf ac w b took) f.fine rx f.machine out r o q p (given_of r.why)).0 refl)
+        ((hears (told_of ac w b took) f.fine rx f.machine out r o q p (given_of r.why)).0 refl)
 
 -- one theorem for every noise n and every window w that holds what can be pending then
 pub guaranteed : (ac : Accord) (b : Start) → StartsAtZero b → (n w : ℕ) → n ≤ 127 → latest ac b n ≤ w → Guarantee ac b n w

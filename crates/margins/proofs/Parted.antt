@@ -23,10 +23,10 @@ use lib.Seq.{take-take, take_at}
 use Rattle.wei.specs.Symbol.{Symbol, Valid}
 use Rattle.trellis.specs.Code.{Code, Path, begin, step, last, symbols, Allowed, cost}
 use Rattle.trellis.specs.Best.{Best, Common, Longest}
-use Rattle.trellis.specs.Measure.{Start, Measure, weiCode}
+use Rattle.trellis.specs.Measure.{Start, Measure, wei_code}
 use Rattle.trellis.specs.Search.{Search, Laws}
-use Rattle.trellis.specs.Same.{sameSymbol}
-use Rattle.trellis.specs.Pick.{Choice, Chooses, weiSearch}
+use Rattle.trellis.specs.Same.{same_symbol}
+use Rattle.trellis.specs.Pick.{Choice, Chooses, wei_search}
 use Rattle.trellis.proofs.Optimal.{allowed-below}
 use Rattle.trellis.proofs.Lists.{take-prefix}
 use Rattle.trellis.proofs.Final.{came}
@@ -38,12 +38,12 @@ use Rattle.trellis.proofs.Closest.{least-only}
 use Rattle.margins.specs.Latest.{begun}
 use Rattle.margins.proofs.Potential.{weight, level, climbed, steps-rise, level-begun, level-least, level-same}
 
-abbrev pub weightOf : Symbol → Symbol → ℕ
-weightOf c d = weight c.y0 c.i1 c.i2 d.y0 d.i1 d.i2
+abbrev pub weight_of : Symbol → Symbol → ℕ
+weight_of c d = weight c.y0 c.i1 c.i2 d.y0 d.i1 d.i2
 
 pub record Clear (u : ℕ) (M : Measure) (L : ℕ) (x : M.Heard) (c : Symbol) : Type 0 where
   pub closest : Closest u M x c
-  pub gap : (d : Symbol) → Valid u d → M.far x c + L * weightOf d c ≤ M.far x d
+  pub gap : (d : Symbol) → Valid u d → M.far x c + L * weight_of d c ≤ M.far x d
 
 -- p ends in s and costs no more than q and two detours, or one, if s stands low beside q's end
 pub record Strayed (K : Code) (D : ℕ) (ys : List K.Y) (s : ℕ) (p q : Path K.C) : Type 0 where
@@ -75,7 +75,7 @@ module _ (u : ℕ) (M : Measure) (b : Start) (L : ℕ) where
   open M use {Heard, far}
 
   abbrev K : Code
-  K = weiCode u M b
+  K = wei_code u M b
 
   pub clear-closest : (ys : List Heard) (q : Path Symbol) → AlongPath (Clear u M L) ys q → AlongPath (Closest u M) ys q
   clear-closest = path-map (Clear u M L) (Closest u M) (λ x c h. h.closest)
@@ -89,13 +89,13 @@ module _ (u : ℕ) (M : Measure) (b : Start) (L : ℕ) where
   parted-costs (y ∷ ys) (step p c s) (begin t) a k h = absurd k
   parted-costs (y ∷ ys) (step p c s) (step q d t) a k h = go (eqb s t) refl (parted-costs ys p q a.2 k.2 h.1)
     where
-      g : far y d + L * weightOf c d ≤ far y c
+      g : far y d + L * weight_of c d ≤ far y c
       g = h.0.gap c a.1.valid
 
       l : cost K ys q ≤ cost K ys p
       l = (least-only u M b ys p q a.2 k.2 (clear-closest ys q h.1)).0
 
-      rise : climbed s t ≤ 3 * weightOf c d + level (last p) (last q)
+      rise : climbed s t ≤ 3 * weight_of c d + level (last p) (last q)
       rise =
           let r =
           steps-rise (last p) (last q) c.i1 c.i2 d.i1 d.i2 (allowed-below K ys p a.2) (allowed-below K ys q k.2) a.1.valid.i1-below a.1.valid.i2-below k.1.valid.i1-below
@@ -109,10 +109,10 @@ module _ (u : ℕ) (M : Measure) (b : Start) (L : ℕ) where
           let w : L * (0 + level s t) ≡ L * 0 = ap (λ (n : ℕ). L * (0 + n)) z in
           omega (arith, l, g, w)
       go false e i =
-          let r : suc (level s t) ≤ 3 * weightOf c d + level (last p) (last q) = rw e at rise in
-          let m : L * (suc (parted p q) + level s t) ≤ L * (3 * weightOf c d + (parted p q + level (last p) (last q))) =
-          mul-le-mul_left L (let z : suc (parted p q) + level s t ≤ 3 * weightOf c d + (parted p q + level (last p) (last q)) = omega (arith, r) in z) in
-          omega (arith, m, mul-add L (3 * weightOf c d) (parted p q + level (last p) (last q)), mul_left_comm L 3 (weightOf c d), g, i)
+          let r : suc (level s t) ≤ 3 * weight_of c d + level (last p) (last q) = rw e at rise in
+          let m : L * (suc (parted p q) + level s t) ≤ L * (3 * weight_of c d + (parted p q + level (last p) (last q))) =
+          mul-le-mul_left L (let z : suc (parted p q) + level s t ≤ 3 * weight_of c d + (parted p q + level (last p) (last q)) = omega (arith, r) in z) in
+          omega (arith, m, mul-add L (3 * weight_of c d) (parted p q + level (last p) (last q)), mul_left_comm L 3 (weight_of c d), g, i)
 
   -- ---- a bound
   met : (p q : Path Symbol) → eqb (last p) (last q) ≡ true → parted p q ≡ 0
@@ -151,7 +151,7 @@ module _ {A : Type 0} where
 module _ (u : ℕ) (M : Measure) (H : Choice M) (C : Chooses u M H) (b : Start) where
   open M use {Heard}
 
-  pub best-agrees : (ys : List Heard) (p q : Path Symbol) → Best (weiCode u M b) ys (last p) p → Allowed (weiCode u M b) ys q → AlongPath (Closest u M) ys q →
+  pub best-agrees : (ys : List Heard) (p q : Path Symbol) → Best (wei_code u M b) ys (last p) p → Allowed (wei_code u M b) ys q → AlongPath (Closest u M) ys q →
       take (length ys - parted p q) (symbols p) ≡ take (length ys - parted p q) (symbols q)
   best-agrees [] (begin s) (begin t) g k h = refl
   best-agrees [] (begin s) (step q d t) g k h = absurd k
@@ -159,7 +159,7 @@ module _ (u : ℕ) (M : Measure) (H : Choice M) (C : Chooses u M H) (b : Start) 
   best-agrees (y ∷ ys) (begin s) q g k h = absurd g.allowed
   best-agrees (y ∷ ys) (step p c s) (begin t) g k h = absurd k
   best-agrees (y ∷ ys) (step p c s) (step q d t) g k h =
-      go (eqb s t) refl (best-agrees ys p q (best-before (weiSearch u M H sameSymbol b) (wei-laws u M H C sameSymbol b) y ys p c s g) k.2 h.1)
+      go (eqb s t) refl (best-agrees ys p q (best-before (wei_search u M H same_symbol b) (wei-laws u M H C same_symbol b) y ys p c s g) k.2 h.1)
     where
       go : (m : Bool) → eqb s t ≡ m → take (length ys - parted p q) (symbols p) ≡ take (length ys - parted p q) (symbols q) →
           take (suc (length ys) - cond m 0 (suc (parted p q))) (symbols p ++ (c ∷ [])) ≡ take (suc (length ys) - cond m 0 (suc (parted p q))) (symbols q ++ (d ∷ []))
@@ -168,21 +168,21 @@ module _ (u : ℕ) (M : Measure) (H : Choice M) (C : Chooses u M H) (b : Start) 
       go false e i =
           let n : ℕ = suc (length ys) - suc (parted p q) in
           let z : n ≡ length ys - parted p q = omega arith in
-          shorten n (symbols p) (c ∷ []) (omega (arith, path-length (weiCode u M b) ys p g.allowed.2))
+          shorten n (symbols p) (c ∷ []) (omega (arith, path-length (wei_code u M b) ys p g.allowed.2))
           ∙ subst (λ (m : ℕ). take m (symbols p) ≡ take m (symbols q)) (sym z) i
-          ∙ sym (shorten n (symbols q) (d ∷ []) (omega (arith, path-length (weiCode u M b) ys q k.2)))
+          ∙ sym (shorten n (symbols q) (d ∷ []) (omega (arith, path-length (wei_code u M b) ys q k.2)))
 
-  module _ (L D B : ℕ) (R : Roomy L D (begun b) B) (ys : List Heard) (q : Path Symbol) (k : Allowed (weiCode u M b) ys q) (h : AlongPath (Clear u M L) ys q)
-      (close : (s : ℕ) (p : Path Symbol) → Best (weiCode u M b) ys s p → Strayed (weiCode u M b) D ys s p q) where
-    all-begin : Common (weiCode u M b) ys (take (length ys - B) (symbols q))
+  module _ (L D B : ℕ) (R : Roomy L D (begun b) B) (ys : List Heard) (q : Path Symbol) (k : Allowed (wei_code u M b) ys q) (h : AlongPath (Clear u M L) ys q)
+      (close : (s : ℕ) (p : Path Symbol) → Best (wei_code u M b) ys s p → Strayed (wei_code u M b) D ys s p q) where
+    all-begin : Common (wei_code u M b) ys (take (length ys - B) (symbols q))
     all-begin s p g =
         let n : ℕ = length ys in
-        let g' : Best (weiCode u M b) ys (last p) p = subst (λ (t : ℕ). Best (weiCode u M b) ys t p) (sym g.ends) g in
+        let g' : Best (wei_code u M b) ys (last p) p = subst (λ (t : ℕ). Best (wei_code u M b) ys t p) (sym g.ends) g in
         let l : n - B ≤ n - parted p q = omega (arith, parted-few u M b L D B R ys s p q g k h (close s p g)) in
         let e : take (n - B) (symbols p) ≡ take (n - B) (symbols q) =
         sym (take-take (n - B) (n - parted p q) (symbols p) l) ∙ ap (take (n - B)) (best-agrees ys p q g' k (clear-closest u M b L ys q h)) ∙ take-take (n - B) (n - parted p q) (symbols q) l in
         subst (λ (z : List Symbol). IsPrefix z (symbols p)) e (take-prefix (n - B) (symbols p))
 
-    pub pending-few : (m : List Symbol) → Longest (weiCode u M b) ys m → length ys - length m ≤ B
+    pub pending-few : (m : List Symbol) → Longest (wei_code u M b) ys m → length ys - length m ≤ B
     pending-few m z =
-        omega (arith, z.longest (take (length ys - B) (symbols q)) all-begin, length-take (length ys - B) (symbols q), path-length (weiCode u M b) ys q k)
+        omega (arith, z.longest (take (length ys - B) (symbols q)) all-begin, length-take (length ys - B) (symbols q), path-length (wei_code u M b) ys q k)

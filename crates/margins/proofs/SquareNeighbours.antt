@@ -9,12 +9,12 @@ use lib.IntN.{ℤ, pos, negsuc, nat_abs}
 use Rattle.wei.proofs.Finite.{equal2}
 use Rattle.points.specs.declared.Point.{Point}
 use Rattle.points.specs.Points.{mod4}
-use Rattle.points.specs.Turn.{remainderX, remainderY, Labelled}
-use Rattle.maps.specs.SquareMap.{isWidth, squareOf, OnGrid}
+use Rattle.points.specs.Turn.{remainder_x, remainder_y, Labelled}
+use Rattle.maps.specs.SquareMap.{is_width, square_of, OnGrid}
 use Rattle.maps.specs.SquareBits.{bits_of}
 use Rattle.maps.proofs.SquareLaws as square
-use Rattle.round_places.specs.Places.{standOf}
-use Rattle.round_columns.specs.Cells.{apartOf}
+use Rattle.round_places.specs.Places.{stand_of}
+use Rattle.round_columns.specs.Cells.{apart_of}
 use Rattle.promises.proofs.Coordinates.{unlike}
 use Rattle.margins.proofs.RoundNeighbours.{Beside, Neighbour}
 
@@ -33,7 +33,7 @@ record Inward (z y : ℤ) : Type 0 where
   odd : nat_abs y % 2 ≡ 1
   less : nat_abs y ≤ nat_abs z
   rest : mod4 y ≡ 4 - mod4 z
-  near : apartOf (standOf z) (standOf y) ≤ 2
+  near : apart_of (stand_of z) (stand_of y) ≤ 2
 
 inward-is : (z : ℤ) → nat_abs z % 2 ≡ 1 → nat_abs z ≤ 31 → Inward z (inward z)
 unfolding inward
@@ -52,7 +52,7 @@ record Toward (a b : ℕ) (z y : ℤ) : Type 0 where
   odd : nat_abs y % 2 ≡ 1
   less : nat_abs y ≤ nat_abs z
   rest : mod4 y ≡ cond (eqb a b) b (4 - b)
-  near : apartOf (standOf z) (standOf y) ≤ 2 * unlike a b
+  near : apart_of (stand_of z) (stand_of y) ≤ 2 * unlike a b
 
 toward-is : (a b : ℕ) (z : ℤ) → nat_abs z % 2 ≡ 1 → nat_abs z ≤ 31 → mod4 z ≡ b → Toward a b z (toward a b z)
 toward-is a b z o h e = go (eqb a b) refl
@@ -65,39 +65,39 @@ toward-is a b z o h e = go (eqb a b) refl
 
 -- ---- a point
 
-to-x : (m l : ℕ) → m < 4 → l < 4 → cond (eqb (remainderX m) (remainderX l)) (remainderX l) (4 - remainderX l) ≡ remainderX m
-to-x = equal2 4 4 (λ m l. cond (eqb (remainderX m) (remainderX l)) (remainderX l) (4 - remainderX l)) (λ m l. remainderX m) tt
+to-x : (m l : ℕ) → m < 4 → l < 4 → cond (eqb (remainder_x m) (remainder_x l)) (remainder_x l) (4 - remainder_x l) ≡ remainder_x m
+to-x = equal2 4 4 (λ m l. cond (eqb (remainder_x m) (remainder_x l)) (remainder_x l) (4 - remainder_x l)) (λ m l. remainder_x m) tt
 
-to-y : (m l : ℕ) → m < 4 → l < 4 → cond (eqb (remainderY m) (remainderY l)) (remainderY l) (4 - remainderY l) ≡ remainderY m
-to-y = equal2 4 4 (λ m l. cond (eqb (remainderY m) (remainderY l)) (remainderY l) (4 - remainderY l)) (λ m l. remainderY m) tt
+to-y : (m l : ℕ) → m < 4 → l < 4 → cond (eqb (remainder_y m) (remainder_y l)) (remainder_y l) (4 - remainder_y l) ≡ remainder_y m
+to-y = equal2 4 4 (λ m l. cond (eqb (remainder_y m) (remainder_y l)) (remainder_y l) (4 - remainder_y l)) (λ m l. remainder_y m) tt
 
-module _ (u : ℕ) (g : isWidth u ≡ true) (l w m : ℕ) (h : l < 4) (f : w < 2 ^ u) (k : m < 4) where
+module _ (u : ℕ) (g : is_width u ≡ true) (l w m : ℕ) (h : l < 4) (f : w < 2 ^ u) (k : m < 4) where
   abbrev p : Point
-  p = squareOf u l w
+  p = square_of u l w
 
   abbrev q : Point
-  q = record { x = toward (remainderX m) (remainderX l) p.x; y = toward (remainderY m) (remainderY l) p.y }
+  q = record { x = toward (remainder_x m) (remainder_x l) p.x; y = toward (remainder_y m) (remainder_y l) p.y }
 
-  at_x : Toward (remainderX m) (remainderX l) p.x q.x
-  at_x = toward-is (remainderX m) (remainderX l) p.x (square.on-grid u g l w f).x-odd (square.small u g l w f).0 (square.labelled u g l w f h).x-is
+  at_x : Toward (remainder_x m) (remainder_x l) p.x q.x
+  at_x = toward-is (remainder_x m) (remainder_x l) p.x (square.on-grid u g l w f).x-odd (square.small u g l w f).0 (square.labelled u g l w f h).x-is
 
-  at_y : Toward (remainderY m) (remainderY l) p.y q.y
-  at_y = toward-is (remainderY m) (remainderY l) p.y (square.on-grid u g l w f).y-odd (square.small u g l w f).1 (square.labelled u g l w f h).y-is
+  at_y : Toward (remainder_y m) (remainder_y l) p.y q.y
+  at_y = toward-is (remainder_y m) (remainder_y l) p.y (square.on-grid u g l w f).y-odd (square.small u g l w f).1 (square.labelled u g l w f h).y-is
 
-  on-grid : OnGrid u (record { x = toward (remainderX m) (remainderX l) p.x; y = toward (remainderY m) (remainderY l) p.y })
+  on-grid : OnGrid u (record { x = toward (remainder_x m) (remainder_x l) p.x; y = toward (remainder_y m) (remainder_y l) p.y })
   on-grid =
       let o = square.on-grid u g l w f in
       record { x-odd = at_x.odd; x-in = omega (arith, at_x.less, o.x-in); y-odd = at_y.odd; y-in = omega (arith, at_y.less, o.y-in) }
 
-  labelled : Labelled m (record { x = toward (remainderX m) (remainderX l) p.x; y = toward (remainderY m) (remainderY l) p.y })
+  labelled : Labelled m (record { x = toward (remainder_x m) (remainder_x l) p.x; y = toward (remainder_y m) (remainder_y l) p.y })
   labelled = record { x-is = at_x.rest ∙ to-x m l k h; y-is = at_y.rest ∙ to-y m l k h }
 
-  pub square-beside : Neighbour (squareOf u) u l m (squareOf u l w)
+  pub square-beside : Neighbour (square_of u) u l m (square_of u l w)
   square-beside =
       let r = square.place u g q on-grid in
-      let e = subst (λ (o : ℕ). squareOf u o (bits_of (u / 2) q / 4) ≡ q) (square.label_is u g q on-grid m k labelled) r.is-there in
+      let e = subst (λ (o : ℕ). square_of u o (bits_of (u / 2) q / 4) ≡ q) (square.label_is u g q on-grid m k labelled) r.is-there in
       record {
         number = bits_of (u / 2) q / 4;
         number-below = r.w-below;
-        beside = subst (Beside (unlike (remainderX m) (remainderX l)) (unlike (remainderY m) (remainderY l)) p) (sym e) (record { x-beside = at_x.near; y-beside = at_y.near });
+        beside = subst (Beside (unlike (remainder_x m) (remainder_x l)) (unlike (remainder_y m) (remainder_y l)) p) (sym e) (record { x-beside = at_x.near; y-beside = at_y.near });
       }

@@ -11,7 +11,7 @@ use Rattle.std.specs.Prelude.{◌≡◌, ◌⊎◌, ℕ, ◌+◌, ◌-◌, ◌�
 use mathlib.Core.List.{List, ◌++◌, IsPrefix}
 use Rattle.points.specs.declared.Accord.{Accord}
 use Rattle.trellis.specs.Measure.{Two}
-use Rattle.trellis.specs.Words.{asHeard}
+use Rattle.trellis.specs.Words.{as_heard}
 use Rattle.nearest.specs.declared.Received.{Received}
 use Rattle.reasons.specs.Reason.{given_of}
 use Rattle.receiver_meaning.specs.Piece.{Piece}
@@ -24,7 +24,7 @@ use Rattle.sender.specs.declared.Sender.{Sender}
 use Rattle.sender.specs.Run as sender
 use Rattle.c_recorder.specs.Calls as taped
 use Rattle.c_recorder.specs.Promise.{Records}
-use Rattle.demfizagu.specs.Calls.{hearCall}
+use Rattle.demfizagu.specs.Calls.{hear_call}
 use Rattle.demfizagu.specs.Promise as library
 use Rattle.promises.specs.Talk.{Talk}
 use Rattle.promises.specs.Noise.{Near, Carried}
@@ -43,17 +43,17 @@ pub record Guarantee (ac : Accord) (b : Start) (n w : ℕ) : Type 0 where
       Carried (Near n) took ps → length took ≤ length ws + w
   -- and the words of all symbols but the last w are written, as they were sent
   pub no-late : (sent : List ℕ) (ps : List ℤ) (s : Sender) → sender.Talk ac sent ps s → (v : ℕ) (took : List (Two Received)) (ws : List ℕ) (rx : Receiver) → Talk ac v b took ws rx →
-      Carried (Near n) took ps → IsPrefix (take (length took - w) (asHeard (start_of b) sent)) ws
+      Carried (Near n) took ps → IsPrefix (take (length took - w) (as_heard (start_of b) sent)) ws
 
 pub record LibraryGuarantee (ac : Accord) (b : Start) (n w : ℕ) : Type 0 where
   -- `m` is the number that demfizagu_hear or demfizagu_hear_marked gives for the piece
   pub no_six : (sent : List ℕ) (ps : List ℤ) (s : List ℕ) → LibrarySends ac sent ps s → (took : List (Two Received)) (ws state : List ℕ) → LibraryHears ac w b took ws state →
       (q : Piece) → Carried (Near n) (took ++ q.symbols) ps → (out told : List ℕ) → 3 ≤ length told → (m : ℕ) (state' o told' : List ℕ) →
-      library.Answers (hearCall state q out told) m state' o told' → Fair m
+      library.Answers (hear_call state q out told) m state' o told' → Fair m
   pub pending : (sent : List ℕ) (ps : List ℤ) (s : List ℕ) → LibrarySends ac sent ps s → (v : ℕ) (took : List (Two Received)) (ws state : List ℕ) → LibraryHears ac v b took ws state →
       Carried (Near n) took ps → length took ≤ length ws + w
   pub no-late : (sent : List ℕ) (ps : List ℤ) (s : List ℕ) → LibrarySends ac sent ps s → (v : ℕ) (took : List (Two Received)) (ws state : List ℕ) → LibraryHears ac v b took ws state →
-      Carried (Near n) took ps → IsPrefix (take (length took - w) (asHeard (start_of b) sent)) ws
+      Carried (Near n) took ps → IsPrefix (take (length took - w) (as_heard (start_of b) sent)) ws
 
 pub record Guaranteed (ac : Accord) (b : Start) (n w : ℕ) : Type 0 where
   pub ends : Guarantee ac b n w
@@ -63,11 +63,11 @@ pub record Guaranteed (ac : Accord) (b : Start) (n w : ℕ) : Type 0 where
 pub record MixedGuarantee (ac : Accord) (b : Start) (n w : ℕ) : Type 0 where
   pub no_six : (sent : List ℕ) (ps : List ℤ) (s : List ℕ) → LibrarySends ac sent ps s → (took : List (Two Received)) (ws state : List ℕ) → LibraryMixed ac w b took ws state →
       (q : Piece) → Carried (Near n) (took ++ q.symbols) ps → (out told : List ℕ) → 3 ≤ length told → (m : ℕ) (state' o told' : List ℕ) →
-      library.Answers (hearCall state q out told) m state' o told' → Fair m
+      library.Answers (hear_call state q out told) m state' o told' → Fair m
   pub no-six-recorded : (sent : List ℕ) (ps : List ℤ) (s : List ℕ) → LibrarySends ac sent ps s → (took : List (Two Received)) (ws state : List ℕ) → LibraryMixed ac w b took ws state →
       (q : Piece) → Carried (Near n) (took ++ q.symbols) ps → (out bytes told : List ℕ) → 4 ≤ length told → (m : ℕ) (state' o bytes' told' : List ℕ) →
-      Records (taped.hearCall state q out bytes told) m state' o bytes' told' → Fair m
+      Records (taped.hear_call state q out bytes told) m state' o bytes' told' → Fair m
   pub pending : (sent : List ℕ) (ps : List ℤ) (s : List ℕ) → LibrarySends ac sent ps s → (v : ℕ) (took : List (Two Received)) (ws state : List ℕ) → LibraryMixed ac v b took ws state →
       Carried (Near n) took ps → length took ≤ length ws + w
   pub no-late : (sent : List ℕ) (ps : List ℤ) (s : List ℕ) → LibrarySends ac sent ps s → (v : ℕ) (took : List (Two Received)) (ws state : List ℕ) → LibraryMixed ac v b took ws state →
-      Carried (Near n) took ps → IsPrefix (take (length took - w) (asHeard (start_of b) sent)) ws
+      Carried (Near n) took ps → IsPrefix (take (length took - w) (as_heard (start_of b) sent)) ws

@@ -6,7 +6,7 @@ use mathlib.Core.List.{List, [], ◌∷◌}
 use Prim.Native.Nat.{ℕ, zero, suc, ◌<◌}
 use native.Mathlib.Omega.{arith}
 use lib.ListN.{get_or}
-use Rattle.wei.specs.State.{subsetOf}
+use Rattle.wei.specs.State.{subset_of}
 use Rattle.subset_types.specs.Types.{eight}
 use Rattle.distance.specs.Found.{four}
 
@@ -30,8 +30,8 @@ bits P t a b c ha hb hc =
     bit Q p q (suc zero) h = q
     bit Q p q (suc (suc j)) h = absurd (omega arith)
 
-pub eight-at : (f : ℕ → ℕ → ℕ → ℕ) (y0 i1 i2 : ℕ) → y0 < 2 → i1 < 2 → i2 < 2 → get_or (eight f) (subsetOf y0 i1 i2) 0 ≡ f y0 i1 i2
-eight-at f = bits (λ y0 i1 i2. get_or (eight f) (subsetOf y0 i1 i2) 0 ≡ f y0 i1 i2) (refl, refl, refl, refl, refl, refl, refl, refl)
+pub eight-at : (f : ℕ → ℕ → ℕ → ℕ) (y0 i1 i2 : ℕ) → y0 < 2 → i1 < 2 → i2 < 2 → get_or (eight f) (subset_of y0 i1 i2) 0 ≡ f y0 i1 i2
+eight-at f = bits (λ y0 i1 i2. get_or (eight f) (subset_of y0 i1 i2) 0 ≡ f y0 i1 i2) (refl, refl, refl, refl, refl, refl, refl, refl)
 
 module _ (P : ℕ → Type 0) (z : P 0) where
   abbrev Each : List ℕ → Type 0

@@ -10,13 +10,13 @@
 //
 // Each contract here is an equation of the result with one definition, so any two results that it allows are equal.
 ghost use Rattle.std.specs.Prelude.{◌≡◌, true};
-ghost use Rattle.points.specs.Agreed.{hasWidth, isAccord};
+ghost use Rattle.points.specs.Agreed.{has_width, is_accord};
 ghost use Rattle.round_places.specs.Places.{listed};
 ghost use Rattle.trellis.specs.Measure.{counted};
 ghost use Rattle.distance.specs.Distance.{SpotInRange};
-ghost use Rattle.distance.specs.Found.{foundBy};
-ghost use Rattle.nearest.specs.Line.{isCoordinate, mapDistance, InRange};
-ghost use Rattle.nearest.specs.Found.{chartOf, nearestOf, nearestTo, heardAs, weighedOf};
+ghost use Rattle.distance.specs.Found.{found_by};
+ghost use Rattle.nearest.specs.Line.{is_coordinate, map_distance, InRange};
+ghost use Rattle.nearest.specs.Found.{chart_of, nearest_of, nearest_to, heard_as, weighed_of};
 
 use distance::{Found, Spot};
 use points::{Accord, Map};
@@ -53,14 +53,14 @@ pub struct Weighed {
 pub type Chart = [u8; 521];
 
 pub fn chart(k: Accord) -> Chart
-    ensures { result ≡ chartOf k }
+    ensures { result ≡ chart_of k }
 {
     round_places::table()
 }
 
 // Whether x is a received coordinate: from -8192 to 8192, both included.
 pub fn is_coordinate(x: i32) -> bool
-    ensures { result ≡ isCoordinate x }
+    ensures { result ≡ is_coordinate x }
 {
     -8192 <= x && x <= 8192
 }
@@ -74,8 +74,8 @@ pub fn counted_of(d: u32) -> u32
 
 // The nearest number below 2^u of each label and its distance, on either map: only the round map reads the table.
 fn search_on(t: &Chart, map: Map, u: u32, h: Spot) -> Found
-    requires { (t.now ≡ listed) × (hasWidth map u ≡ true) × SpotInRange h }
-    ensures { result ≡ foundBy u (mapDistance map u) h }
+    requires { (t.now ≡ listed) × (has_width map u ≡ true) × SpotInRange h }
+    ensures { result ≡ found_by u (map_distance map u) h }
 {
     match map {
         Map::Round => round_search::search(t, u, h),
@@ -86,8 +86,8 @@ fn search_on(t: &Chart, map: Map, u: u32, h: Spot) -> Found
 // The same, and what each distance counts for. The nearest is found by the true distance, so the cap is met by the four that were
 // found and not by each candidate.
 fn search_heard(t: &Chart, k: Accord, h: Spot) -> Nearest
-    requires { (t.now ≡ chartOf k) × (isAccord k ≡ true) × SpotInRange h }
-    ensures { result ≡ nearestTo k h }
+    requires { (t.now ≡ chart_of k) × (is_accord k ≡ true) × SpotInRange h }
+    ensures { result ≡ nearest_to k h }
 {
     let map = k.map;
     let f = search_on(t, map, k.u, h);
@@ -107,8 +107,8 @@ fn search_heard(t: &Chart, k: Accord, h: Spot) -> Nearest
 
 // For a point that was heard, its search; for a missing one nothing is searched.
 pub fn search(t: &Chart, k: Accord, h: Received) -> Nearest
-    requires { (t.now ≡ chartOf k) × (isAccord k ≡ true) × InRange h }
-    ensures { result ≡ nearestOf k h }
+    requires { (t.now ≡ chart_of k) × (is_accord k ≡ true) × InRange h }
+    ensures { result ≡ nearest_of k h }
 {
     match h {
         Received::Heard(p) => search_heard(t, k, p),
@@ -123,8 +123,8 @@ pub fn search(t: &Chart, k: Accord, h: Received) -> Nearest
 // The best symbol of each subset for a received symbol: the smaller sum of counted distances, then the smaller I3', then for each
 // point the smaller distance and then the smaller number.
 pub fn weigh(t: &Chart, k: Accord, first: Received, second: Received) -> Weighed
-    requires { (t.now ≡ chartOf k) × (isAccord k ≡ true) × InRange first × InRange second }
-    ensures { result ≡ weighedOf k (heardAs first second) }
+    requires { (t.now ≡ chart_of k) × (is_accord k ≡ true) × InRange first × InRange second }
+    ensures { result ≡ weighed_of k (heard_as first second) }
 {
     let a = search(t, k, first);
     let b = search(t, k, second);

@@ -8,8 +8,8 @@ use native.Mathlib.Numerals.{add-one}
 use mathlib.Core.Option.{Option, none, some}
 use lib.ListN.{length, take, drop, set, length-drop, length-set, take-append-drop}
 use lib.Seq.{drop-drop, drop-set-lt, take-suc-set, take_all, append_snoc, length-take-le}
-use Rattle.text.specs.Token.{tokens, lengthBefore, Cuts}
-use Rattle.number_lists.specs.Many.{before, first_of, more, oneMore, manyOf, Lists}
+use Rattle.text.specs.Token.{tokens, length_before, Cuts}
+use Rattle.number_lists.specs.Many.{before, first_of, more, one_more, many_of, Lists}
 use Rattle.number_lists.specs.declared.Many.{Many}
 use Rattle.number_lists.specs.declared.Many.TheVariants as many
 use Rattle.text.proofs.Digits.{to_end}
@@ -22,7 +22,7 @@ pub record Listed {A : Type 0} (p : List ℕ → Option A) (s : List ℕ) (list�
   pub long : length list ≡ length list₀
   pub rest : drop k list ≡ drop k list₀
   pub values : first_of p (length list₀) (tokens s) ≡ take k list ++ first_of p room (tokens (drop from s))
-  pub answer : manyOf p (length list₀) (tokens s) ≡ more k (manyOf p room (tokens (drop from s)))
+  pub answer : many_of p (length list₀) (tokens s) ≡ more k (many_of p room (tokens (drop from s)))
 
 more-zero : (m : Many) → m ≡ more 0 m
 more-zero (many.Got n) = ap many.Got (omega arith)
@@ -48,7 +48,7 @@ written : {A : Type 0} (fs list₀ : List A) {list : List A} (k : ℕ) → k ≤
 written fs list₀ {list} k h e f = rw (f, length-take-le k list h, ← e, take-append-drop k list)
 
 -- tokens that are there have no room
-no_room : {A : Type 0} (p : List ℕ → Option A) (ts : List (List ℕ)) → (length ts ≡ 0 → ⊥) → (first_of p 0 ts ≡ []) × (manyOf p 0 ts ≡ many.Bad)
+no_room : {A : Type 0} (p : List ℕ → Option A) (ts : List (List ℕ)) → (length ts ≡ 0 → ⊥) → (first_of p 0 ts ≡ []) × (many_of p 0 ts ≡ many.Bad)
 no_room p [] h = absurd (h refl)
 no_room p (t ∷ ts) h = (refl, refl)
 
@@ -57,7 +57,7 @@ module _ {A : Type 0} (p : List ℕ → Option A) {room m : ℕ} {t : List ℕ} 
   one_value : first_of p room tts ≡ x ∷ first_of p m ts
   one_value = rw (a, b, c)
 
-  one-counted : manyOf p room tts ≡ more 1 (manyOf p m ts)
+  one-counted : many_of p room tts ≡ more 1 (many_of p m ts)
   one-counted = rw (a, b, c)
 
 module _ {A : Type 0} {p : List ℕ → Option A} {s : List ℕ} {list₀ list : List A} {from k : ℕ} where
@@ -78,7 +78,7 @@ module _ {A : Type 0} {p : List ℕ → Option A} {s : List ℕ} {list₀ list :
     pub token-within : from + n ≤ length s
     token-within = token_end s from r.begun r.cut
 
-    is : n ≡ lengthBefore 32 (drop from s)
+    is : n ≡ length_before 32 (drop from s)
     is = r.cut.is ∙ rw (to_end from s)
 
     next-room : l.room ≡ suc (l.room - 1)
@@ -132,26 +132,26 @@ module _ {A : Type 0} {p : List ℕ → Option A} {s : List ℕ} {list₀ list :
               long = length-set list k x ∙ l.long;
               rest = rest-stays;
               values = l.values ∙ rw (one_value p next-room token got, one-stored) (sym (append_snoc (take k list) x (first_of p (l.room - 1) left_over)));
-              answer = l.answer ∙ rw (one-counted p next-room token got) (more-more k (manyOf p (l.room - 1) left_over));
+              answer = l.answer ∙ rw (one-counted p next-room token got) (more-more k (many_of p (l.room - 1) left_over));
             },
           )
 
 -- no more than there is room for
-pub many-most : {A : Type 0} (p : List ℕ → Option A) (room : ℕ) (ts : List (List ℕ)) {n : ℕ} → many.Got n ≡ manyOf p room ts → n ≤ room
+pub many-most : {A : Type 0} (p : List ℕ → Option A) (room : ℕ) (ts : List (List ℕ)) {n : ℕ} → many.Got n ≡ many_of p room ts → n ≤ room
 many-most p room [] {n} h = let gone : n ≡ 0 = cc in omega arith
 many-most p zero (t ∷ ts) h = let z : ◌≡◌ {A = ℕ} 0 1 = cc in absurd (omega arith)
-many-most {A} p (suc room) (t ∷ ts) {n} h = by (p t) (manyOf p room ts) (λ k e. many-most p room ts e) h where
-  by : (w : Option A) (m : Many) → ((k : ℕ) → many.Got k ≡ m → k ≤ room) → many.Got n ≡ oneMore w m → n ≤ suc room
+many-most {A} p (suc room) (t ∷ ts) {n} h = by (p t) (many_of p room ts) (λ k e. many-most p room ts e) h where
+  by : (w : Option A) (m : Many) → ((k : ℕ) → many.Got k ≡ m → k ≤ room) → many.Got n ≡ one_more w m → n ≤ suc room
   by (some z) (many.Got k) f g = let is : n ≡ 1 + k = cc in omega (arith, f k refl)
   by (some z) many.Bad f g = let z : ◌≡◌ {A = ℕ} 0 1 = cc in absurd (omega arith)
   by none m f g = let z : ◌≡◌ {A = ℕ} 0 1 = cc in absurd (omega arith)
 
 -- as many as are counted
-pub counted : {A : Type 0} (p : List ℕ → Option A) (room : ℕ) (ts : List (List ℕ)) {n : ℕ} → manyOf p room ts ≡ many.Got n → length (first_of p room ts) ≡ n
+pub counted : {A : Type 0} (p : List ℕ → Option A) (room : ℕ) (ts : List (List ℕ)) {n : ℕ} → many_of p room ts ≡ many.Got n → length (first_of p room ts) ≡ n
 counted p room [] {n} e = let z : 0 ≡ n = cc in z
 counted p zero (t ∷ ts) {n} e = let z : ◌≡◌ {A = ℕ} 0 1 = cc in absurd (omega arith)
-counted {A} p (suc room) (t ∷ ts) {n} e = by (p t) (manyOf p room ts) (λ k f. counted p room ts f) e where
-  by : (w : Option A) (m : Many) → ((k : ℕ) → m ≡ many.Got k → length (first_of p room ts) ≡ k) → oneMore w m ≡ many.Got n → length (before w (first_of p room ts)) ≡ n
+counted {A} p (suc room) (t ∷ ts) {n} e = by (p t) (many_of p room ts) (λ k f. counted p room ts f) e where
+  by : (w : Option A) (m : Many) → ((k : ℕ) → m ≡ many.Got k → length (first_of p room ts) ≡ k) → one_more w m ≡ many.Got n → length (before w (first_of p room ts)) ≡ n
   by (some z) (many.Got k) f g = let is : 1 + k ≡ n = cc in omega (arith, f k refl)
   by (some z) many.Bad f g = let z : ◌≡◌ {A = ℕ} 0 1 = cc in absurd (omega arith)
   by none m f g = let z : ◌≡◌ {A = ℕ} 0 1 = cc in absurd (omega arith)

@@ -1,7 +1,7 @@
 -- The numbers that a list of tokens writes, read into a list that is lent: once over what a token writes. Definitions only.
---   wholeIn t, number_in t   the number that the token t writes, if it writes one: a whole number, or one of 0 to 4294967295
+--   whole_in t, number_in t   the number that the token t writes, if it writes one: a whole number, or one of 0 to 4294967295
 --   first_of p room ts       what the tokens ts write by p, up to the first that writes nothing, and no more than there is room for
---   manyOf p room ts        how many they write, if every one writes something and there is room for all
+--   many_of p room ts        how many they write, if every one writes something and there is room for all
 --   Lists p s list r list'  r is that of the tokens of s, with as much room as list has; list' has the first numbers at its start and
 --                           is list elsewhere
 use Rattle.std.specs.Prelude.{ℕ, zero, suc, ◌+◌, ◌≡◌, List, [], ◌∷◌, ◌++◌, length, drop, ℤ}
@@ -15,19 +15,19 @@ use Rattle.number_lists.specs.declared.Many.TheVariants as many
 use Rattle.text.specs.Token.{tokens}
 use Rattle.text.specs.Number.{whole_of, number_of}
 
-abbrev pub wholeGot : Whole → Option ℤ
-wholeGot (whole.Got z) = some z
-wholeGot whole.Bad = none
+abbrev pub whole_got : Whole → Option ℤ
+whole_got (whole.Got z) = some z
+whole_got whole.Bad = none
 
-abbrev pub wholeIn : List ℕ → Option ℤ
-wholeIn t = wholeGot (whole_of t)
+abbrev pub whole_in : List ℕ → Option ℤ
+whole_in t = whole_got (whole_of t)
 
-abbrev pub numberGot : Number → Option ℕ
-numberGot (number.Got n) = some n
-numberGot number.Bad = none
+abbrev pub number_got : Number → Option ℕ
+number_got (number.Got n) = some n
+number_got number.Bad = none
 
 abbrev pub number_in : List ℕ → Option ℕ
-number_in t = numberGot (number_of 10 4294967295 t)
+number_in t = number_got (number_of 10 4294967295 t)
 
 abbrev pub before : {A : Type 0} → Option A → List A → List A
 before (some z) zs = z ∷ zs
@@ -43,15 +43,15 @@ abbrev pub more : ℕ → Many → Many
 more k (many.Got n) = many.Got (k + n)
 more k many.Bad = many.Bad
 
-abbrev pub oneMore : {A : Type 0} → Option A → Many → Many
-oneMore (some z) m = more 1 m
-oneMore none m = many.Bad
+abbrev pub one_more : {A : Type 0} → Option A → Many → Many
+one_more (some z) m = more 1 m
+one_more none m = many.Bad
 
-abbrev pub manyOf : {A : Type 0} → (List ℕ → Option A) → ℕ → List (List ℕ) → Many
-manyOf p room [] = many.Got 0
-manyOf p zero (t ∷ ts) = many.Bad
-manyOf p (suc room) (t ∷ ts) = oneMore (p t) (manyOf p room ts)
+abbrev pub many_of : {A : Type 0} → (List ℕ → Option A) → ℕ → List (List ℕ) → Many
+many_of p room [] = many.Got 0
+many_of p zero (t ∷ ts) = many.Bad
+many_of p (suc room) (t ∷ ts) = one_more (p t) (many_of p room ts)
 
 pub record Lists {A : Type 0} (p : List ℕ → Option A) (s : List ℕ) (list : List A) (r : Many) (list' : List A) : Type 0 where
-  pub answer : r ≡ manyOf p (length list) (tokens s)
+  pub answer : r ≡ many_of p (length list) (tokens s)
   pub filled : list' ≡ first_of p (length list) (tokens s) ++ drop (length (first_of p (length list) (tokens s))) list

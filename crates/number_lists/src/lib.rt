@@ -1,6 +1,6 @@
 // The numbers that the tokens of a text write, read into a list that is lent: whole numbers, or numbers of 32 bits. The tokens and the numbers are those of `text`;
 // specs/Many.antt says which numbers there are, and what the list holds where a token writes none.
-ghost use Rattle.number_lists.specs.Many.{wholeIn, number_in, Lists};
+ghost use Rattle.number_lists.specs.Many.{whole_in, number_in, Lists};
 
 use text::number::{Number, Whole};
 use text::{number, token};
@@ -15,7 +15,7 @@ pub enum Many {
 // The whole numbers that all tokens of s write, into the first places of the list that is lent. Where a token is no such number,
 // or there are more of them than places, those before it have been put there.
 pub fn signed_list(s: &[u8], list: &mut [i32]) -> Many
-    ensures { Lists wholeIn s.now list.old result list.new }
+    ensures { Lists whole_in s.now list.old result list.new }
 {
     let mut from = 0;
     let mut k = 0;

@@ -1,28 +1,28 @@
 -- What the code of one symbol gives, in terms of the machine.
---   outlookOf rx y       what the symbol y would make of the receiver
+--   outlook_of rx y       what the symbol y would make of the receiver
 --   TookIs               result, arrays and output are those of the outcome
 use Rattle.std.specs.Prelude.{ℕ, ◌≡◌, List, ◌++◌, length, drop}
 use Rattle.trellis.specs.Measure.{Two}
 use Rattle.nearest.specs.declared.Received.{Received}
-use Rattle.nearest.specs.Found.{weighedOf}
+use Rattle.nearest.specs.Found.{weighed_of}
 use Rattle.machine.specs.declared.Receiver.{Receiver}
 use Rattle.one_symbol.specs.declared.Outlook.{Outlook}
 use Rattle.one_symbol.specs.declared.Took.{Took}
-use Rattle.registers.specs.Registers.{wordsBefore}
-use Rattle.select.specs.Select.{prevIn}
-use Rattle.machine.specs.Machine.{nextSums, nextSteps, numbersIn, agreedOf, Outcome}
+use Rattle.registers.specs.Registers.{words_before}
+use Rattle.select.specs.Select.{prev_in}
+use Rattle.machine.specs.Machine.{next_sums, next_steps, numbers_in, agreed_of, Outcome}
 use Rattle.machine.specs.Parts.{whole}
 
-abbrev pub outlookOf : Receiver → Two Received → Outlook
-outlookOf rx y =
+abbrev pub outlook_of : Receiver → Two Received → Outlook
+outlook_of rx y =
     record {
-      sums = nextSums rx y;
-      steps = nextSteps rx y;
-      ways = wordsBefore rx.registers (nextSteps rx y) 0;
-      i3 = (weighedOf rx.core.accord y).i3;
-      numbers = numbersIn rx y;
-      state = prevIn (nextSteps rx y) 0;
-      agreed = agreedOf rx y;
+      sums = next_sums rx y;
+      steps = next_steps rx y;
+      ways = words_before rx.registers (next_steps rx y) 0;
+      i3 = (weighed_of rx.core.accord y).i3;
+      numbers = numbers_in rx y;
+      state = prev_in (next_steps rx y) 0;
+      agreed = agreed_of rx y;
     }
 
 pub record TookIs (o : Outcome) (r : Took) (sums registers picks before after : List ℕ) : Type 0 where

@@ -6,10 +6,10 @@
 // equals a definition of machine/specs on the same numbers, whatever the lists hold.
 ghost use Rattle.std.specs.Prelude.{◌≡◌, [], ◌+◌, ◌%◌, ◌<◌, length};
 ghost use Rattle.nearest.specs.Line.{InRange};
-ghost use Rattle.nearest.specs.Found.{chartOf, heardAs};
+ghost use Rattle.nearest.specs.Found.{chart_of, heard_as};
 ghost use Rattle.machine.specs.Machine.{taking};
 ghost use Rattle.machine.specs.Parts.{Ready, whole};
-ghost use Rattle.one_symbol.specs.Taken.{outlookOf, TookIs};
+ghost use Rattle.one_symbol.specs.Taken.{outlook_of, TookIs};
 
 use machine::Core;
 use nearest::{Chart, Received};
@@ -45,9 +45,9 @@ fn look_ahead(
     first: Received,
     second: Received,
 ) -> Outlook
-    requires t_value { (t.now ≡ chartOf core.accord) × InRange first × InRange second }
+    requires t_value { (t.now ≡ chart_of core.accord) × InRange first × InRange second }
     requires ready { Ready core sums.now }
-    ensures { result ≡ outlookOf (whole core sums.now registers.now []) (heardAs first second) }
+    ensures { result ≡ outlook_of (whole core sums.now registers.now []) (heard_as first second) }
 {
     let w = nearest::weigh(t, core.accord, first, second);
     let costs = w.costs;
@@ -108,9 +108,9 @@ pub fn take_symbol(
     second: Received,
     out: &mut [u32],
 ) -> Took
-    requires t_value { (t.now ≡ chartOf core.accord) × InRange first × InRange second }
+    requires t_value { (t.now ≡ chart_of core.accord) × InRange first × InRange second }
     requires ready { Ready core sums.old × (length picks.old ≡ 72) }
-    ensures { TookIs (taking (whole core sums.old registers.old picks.old) (heardAs first second) (length out.old))
+    ensures { TookIs (taking (whole core sums.old registers.old picks.old) (heard_as first second) (length out.old))
         result sums.new registers.new picks.new out.old out.new }
 {
     let o = look_ahead(t, core, sums, registers, first, second);

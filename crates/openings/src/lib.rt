@@ -3,11 +3,11 @@
 // `open_receiver` names what both ends agree on, the window and the start; `open_plain` only the first. A refused opening gives a closed
 // receiver. The tests say whether a record is one that the machine can work on: whatever is not is answered like a closed receiver.
 ghost use Rattle.std.specs.Prelude.{◌≡◌, true, cond, ◌&&◌};
-ghost use Rattle.trellis.specs.Words.{firstTurn};
-ghost use Rattle.machine.specs.Machine.{core, freshSums, shut, soundCore, sound};
-ghost use Rattle.lists.specs.UpTo.{allUpTo};
+ghost use Rattle.trellis.specs.Words.{first_turn};
+ghost use Rattle.machine.specs.Machine.{core, fresh_sums, shut, sound_core, sound};
+ghost use Rattle.lists.specs.UpTo.{all_up_to};
 ghost use Rattle.sums.specs.Sums.{limit};
-ghost use Rattle.openings.specs.Given.{plainWindow, start_of, startFits, start_at};
+ghost use Rattle.openings.specs.Given.{plain_window, start_of, start_fits, start_at};
 ghost use Rattle.openings.specs.Opening.{Opens};
 
 use machine::{Core, Receiver};
@@ -61,8 +61,8 @@ fn fresh_core(accord: Accord, window: usize, turn: u32) -> Core
 
 // The sums before any symbol: 0 for a state that may stand first, and for every other one more than a reached state can keep.
 fn fresh_sums(start: Start) -> [u32; 16]
-    requires { startFits start ≡ true }
-    ensures { result ≡ freshSums (start_of start) }
+    requires { start_fits start ≡ true }
+    ensures { result ≡ fresh_sums (start_of start) }
 {
     match start {
         Start::Free => [0u32; 16],
@@ -76,7 +76,7 @@ fn fresh_sums(start: Start) -> [u32; 16]
 
 // The turn against which the first symbol is measured: not known where the receiver may join a live line.
 fn first_turn(start: Start) -> u32
-    ensures { result ≡ firstTurn (start_of start) }
+    ensures { result ≡ first_turn (start_of start) }
 {
     match start {
         Start::Free => wei::label::UNKNOWN,
@@ -86,7 +86,7 @@ fn first_turn(start: Start) -> u32
 
 // Whether a start is free or names one of the sixteen states.
 fn start_fits(start: Start) -> bool
-    ensures { result ≡ startFits start }
+    ensures { result ≡ start_fits start }
 {
     match start {
         Start::Free => true,
@@ -143,14 +143,14 @@ pub const PLAIN_WINDOW: u32 = 32;
 
 // The plain opening names only what both ends agree on: its start is free.
 pub fn open_plain(accord: Accord) -> Opened
-    ensures { Opens accord plainWindow Start.Free result }
+    ensures { Opens accord plain_window Start.Free result }
 {
     open_receiver(accord, PLAIN_WINDOW, Start::Free)
 }
 
 // Whether the numbers beside the sums are in range.
 fn core_fits(c: Core) -> bool
-    ensures { result ≡ soundCore c }
+    ensures { result ≡ sound_core c }
 {
     let accord = c.accord;
     points::is_accord(accord)
@@ -163,7 +163,7 @@ fn core_fits(c: Core) -> bool
 
 // Whether a receiver of these parts is open and in range: no state keeps more than one that nothing reaches.
 pub fn parts_fit(live: bool, c: Core, sums: &[u32; 16]) -> bool
-    ensures { result ≡ (live && (soundCore c && allUpTo limit sums.now)) }
+    ensures { result ≡ (live && (sound_core c && all_up_to limit sums.now)) }
 {
     live & (core_fits(c) & sums::all_up_to(sums, sums::LIMIT))
 }

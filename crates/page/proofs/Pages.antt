@@ -13,7 +13,7 @@ use lib.ListN.{length, get_or, take, drop, set, length-append, length-take}
 use lib.Seq.{paste, paste-zero, paste-suc, take_all, set_split, append_snoc, take_at, drop_at, drop-drop}
 use Rattle.io.specs.Counts.{IsPrefixLen}
 use Rattle.io.specs.Digits.{last_digits, IsDigitCount}
-use Rattle.page.specs.Page.{Puts, Numeral, PutsNumber, PutsWhole, signText}
+use Rattle.page.specs.Page.{Puts, Numeral, PutsNumber, PutsWhole, sign_text}
 
 -- page is page₀ with the first i bytes of text from at on
 pub record Pasted (page₀ : List ℕ) (at : ℕ) (text page : List ℕ) (i : ℕ) : Type 0 where
@@ -72,7 +72,7 @@ number_put {page} {at} {n} {k} {r} d h c f e p =
     }
 
 module _ {page : List ℕ} {at : ℕ} (x : ℤ) {n r : ℕ} {page' : List ℕ} (is : n ≡ nat_abs x) where
-  pub plain-put : signText x ≡ [] → PutsNumber page at n r page' → PutsWhole page at x r page'
+  pub plain-put : sign_text x ≡ [] → PutsNumber page at n r page' → PutsWhole page at x r page'
   plain-put e p =
       record {
         text = p.text;
@@ -81,7 +81,7 @@ module _ {page : List ℕ} {at : ℕ} (x : ℤ) {n r : ℕ} {page' : List ℕ} (
         near = omega (arith, p.near);
       }
 
-  pub minus-put : {q : ℕ} {page₁ : List ℕ} → signText x ≡ 45 ∷ [] → q ≤ length page → Puts page at (45 ∷ []) q page₁ → PutsNumber page₁ q n r page' → PutsWhole page at x r page'
+  pub minus-put : {q : ℕ} {page₁ : List ℕ} → sign_text x ≡ 45 ∷ [] → q ≤ length page → Puts page at (45 ∷ []) q page₁ → PutsNumber page₁ q n r page' → PutsWhole page at x r page'
   minus-put {q} {page₁} e room a p =
       record {
         text = p.text;
@@ -109,4 +109,4 @@ one_number {page} {at} {n} {r} {r'} {p} {p'} a b =
 
 pub one-whole : {page : List ℕ} {at : ℕ} {x : ℤ} {r r' : ℕ} {p p' : List ℕ} → PutsWhole page at x r p → PutsWhole page at x r' p' → (r ≡ r') × (p ≡ p')
 one-whole {page} {at} {x} {r} {r'} {p} {p'} a b =
-    one-result a.puts (subst (λ (t : List ℕ). Puts page at (signText x ++ t) r' p') (one-numeral b.numeral a.numeral) b.puts)
+    one-result a.puts (subst (λ (t : List ℕ). Puts page at (sign_text x ++ t) r' p') (one-numeral b.numeral a.numeral) b.puts)

@@ -12,7 +12,7 @@ use lib.Signed.{lt_z, non_neg}
 use mir.Syntax.{w32, w64}
 use mir.Val.{SFits, Fits, to_z, of_z}
 use mir.ValLaws.{to_z-of_z}
-use Rattle.page.specs.Page.{signText}
+use Rattle.page.specs.Page.{sign_text}
 
 neg-size : (z : ℤ) → nat_abs (neg_ℤ z) ≡ nat_abs z
 neg-size (pos zero) = refl
@@ -27,11 +27,11 @@ not-below : (z : ℤ) → lt_z z (pos 0) ≡ false → T (non_neg z)
 not-below (pos n) e = tt
 not-below (negsuc n) e = absurd (subst T e tt)
 
-sign_below : (z : ℤ) → lt_z z (pos 0) ≡ true → signText z ≡ 45 ∷ []
+sign_below : (z : ℤ) → lt_z z (pos 0) ≡ true → sign_text z ≡ 45 ∷ []
 sign_below (pos n) e = absurd (omega (arith, ltb-true n 0 e))
 sign_below (negsuc n) e = refl
 
-sign-not-below : (z : ℤ) → lt_z z (pos 0) ≡ false → signText z ≡ []
+sign-not-below : (z : ℤ) → lt_z z (pos 0) ≡ false → sign_text z ≡ []
 sign-not-below (pos n) e = refl
 sign-not-below (negsuc n) e = absurd (subst T e tt)
 
@@ -75,10 +75,10 @@ module _ (x : ℤ) (f : SFits w32 x) where
   pub size-of-plain : nat_abs at-64 ≡ nat_abs x
   size-of-plain = rw is_x
 
-  pub minus-sign : lt_z at-32 (pos 0) ≡ true → signText x ≡ 45 ∷ []
+  pub minus-sign : lt_z at-32 (pos 0) ≡ true → sign_text x ≡ 45 ∷ []
   minus-sign e = sign_below x (rw (to_z-of_z w32 x f) at e)
 
-  pub no_sign : lt_z at-32 (pos 0) ≡ false → signText x ≡ []
+  pub no_sign : lt_z at-32 (pos 0) ≡ false → sign_text x ≡ []
   no_sign e = sign-not-below x (rw (to_z-of_z w32 x f) at e)
 
   pub same_size : nat_abs at-32 ≡ nat_abs x

@@ -2,7 +2,7 @@
 --   Puts page at text r page'      page' has text from at on and is page elsewhere; r is the place after it
 --   Numeral n text                 text is the decimal digits of n, as few as hold it
 --   PutsNumber page at n r page'   a numeral of n is put there, of twenty digits at most
---   signText x                     a minus if x is below 0, else nothing
+--   sign_text x                     a minus if x is below 0, else nothing
 --   PutsWhole page at x r page'    the sign of x and then a numeral of its absolute value
 use Rattle.std.specs.Prelude.{ℕ, ◌+◌, ◌≤◌, ◌≡◌, List, [], ◌∷◌, ◌++◌, length, take, drop, ℤ, pos, negsuc, nat_abs}
 use Rattle.io.specs.Digits.{last_digits, IsDigitCount}
@@ -21,12 +21,12 @@ pub record PutsNumber (page : List ℕ) (at n r : ℕ) (page' : List ℕ) : Type
   pub puts : Puts page at text r page'
   pub near : r ≤ at + 20
 
-abbrev pub signText : ℤ → List ℕ
-signText (pos n) = []
-signText (negsuc n) = 45 ∷ []
+abbrev pub sign_text : ℤ → List ℕ
+sign_text (pos n) = []
+sign_text (negsuc n) = 45 ∷ []
 
 pub record PutsWhole (page : List ℕ) (at : ℕ) (x : ℤ) (r : ℕ) (page' : List ℕ) : Type 0 where
   pub text : List ℕ
   pub numeral : Numeral (nat_abs x) text
-  pub puts : Puts page at (signText x ++ text) r page'
+  pub puts : Puts page at (sign_text x ++ text) r page'
   pub near : r ≤ at + 21

@@ -16,10 +16,10 @@ use lib.ListN.{length, take, get_or, length-append, take-append-drop}
 use lib.Seq.{take-suc, take_all}
 use Rattle.io.specs.Digits.{hex_digit_ascii, last_digits, IsDigitCount}
 use Rattle.text.specs.Bytes.{bytes}
-use Rattle.page.specs.Page.{Puts, Numeral, PutsNumber, PutsWhole, signText}
+use Rattle.page.specs.Page.{Puts, Numeral, PutsNumber, PutsWhole, sign_text}
 use Rattle.page.proofs.Pages.{few}
 use Rattle.reasons.specs.Reason.{Reason}
-use Rattle.phrases.specs.Phrase.{decimalIn, decimal, whole, afterSpaces, placeText, reasonText, saidText, saidWholes}
+use Rattle.phrases.specs.Phrase.{decimal_in, decimal, whole, after_spaces, place_text, reason_text, said_text, said_wholes}
 
 -- ---- numbers
 
@@ -30,7 +30,7 @@ less_one : (j : ℕ) → suc j - 1 ≡ j
 less_one j = omega arith
 
 -- digits that are as few as hold n are the decimal ones
-fewest-digits : (k j n : ℕ) → j ≤ k → IsDigitCount 10 1 n j → last_digits 10 j n ≡ decimalIn k n
+fewest-digits : (k j n : ℕ) → j ≤ k → IsDigitCount 10 1 n j → last_digits 10 j n ≡ decimal_in k n
 fewest-digits k zero n h f = absurd (omega (arith, f.0))
 fewest-digits zero (suc j) n h f = absurd (omega arith)
 fewest-digits (suc k) (suc zero) n h f = rw (digit n, lt-ltb n 10 (omega (arith, f.1)))
@@ -59,7 +59,7 @@ module _ {page : List ℕ} {at : ℕ} {r : ℕ} {page' : List ℕ} where
   unfolding whole
   says-whole x f q =
       let p : PutsWhole page at x r page' = rw (to_z-of_z w32 x f) at q in
-      subst (λ (t : List ℕ). Puts page at (signText x ++ t) r page') (numeral-decimal p.numeral (few (small x f) p.numeral.fewest)) p.puts
+      subst (λ (t : List ℕ). Puts page at (sign_text x ++ t) r page') (numeral-decimal p.numeral (few (small x f) p.numeral.fewest)) p.puts
 
   pub says-next : (x : ℤ) → SFits w32 x → Puts page at (bytes " " ++ whole (to_z w32 (of_z w32 x))) r page' → Puts page at (bytes " " ++ whole x) r page'
   says-next x f p = rw (to_z-of_z w32 x f) at p
@@ -70,10 +70,10 @@ module _ {page : List ℕ} {at : ℕ} {r : ℕ} {page' : List ℕ} where
 
 -- ---- lengths
 
-short : (k n : ℕ) → length (decimalIn k n) ≤ k
+short : (k n : ℕ) → length (decimal_in k n) ≤ k
 short zero n = omega arith
 short (suc k) n = rw length-append (by (ltb n 10) (short k (n / 10))) where
-  by : (b : Bool) → length (decimalIn k (n / 10)) ≤ k → length (cond b [] (decimalIn k (n / 10))) + 1 ≤ suc k
+  by : (b : Bool) → length (decimal_in k (n / 10)) ≤ k → length (cond b [] (decimal_in k (n / 10))) + 1 ≤ suc k
   by true h = omega arith
   by false h = omega arith
 
@@ -86,28 +86,28 @@ unfolding whole
 whole-short (pos n) = omega (arith, decimal-short n)
 whole-short (negsuc n) = omega (arith, decimal-short (suc n))
 
-pub reason-short : (r : Reason) → length (reasonText r) ≤ 47
-unfolding reasonText
+pub reason-short : (r : Reason) → length (reason_text r) ≤ 47
+unfolding reason_text
 reason-short r = rw length-append (by (eqb r.number 5)) where
-  by : (b : Bool) → length (decimal r.number) + length (cond b (placeText r.place) []) ≤ 47
+  by : (b : Bool) → length (decimal r.number) + length (cond b (place_text r.place) []) ≤ 47
   by true = omega (arith, decimal-short r.number, decimal-short r.place)
   by false = omega (arith, decimal-short r.number)
 
-words-short : (ws : List ℕ) → length (afterSpaces (map decimal ws)) ≤ length ws * 21
+words-short : (ws : List ℕ) → length (after_spaces (map decimal ws)) ≤ length ws * 21
 words-short [] = omega arith
 words-short (w ∷ ws) = rw length-append (omega (arith, words-short ws, decimal-short w))
 
-pub said-short : (ws : List ℕ) → length (saidText ws) ≤ 2 + length ws * 21
-unfolding saidText
+pub said-short : (ws : List ℕ) → length (said_text ws) ≤ 2 + length ws * 21
+unfolding said_text
 said-short [] = omega arith
 said-short (w ∷ ws) = omega (arith, words-short (w ∷ ws))
 
-pub wholes-short : (zs : List ℤ) → length (afterSpaces (map whole zs)) ≤ length zs * 22
+pub wholes-short : (zs : List ℤ) → length (after_spaces (map whole zs)) ≤ length zs * 22
 wholes-short [] = omega arith
 wholes-short (z ∷ zs) = rw length-append (omega (arith, wholes-short zs, whole-short z))
 
-pub coordinates-short : (zs : List ℤ) → length (saidWholes zs) ≤ 2 + length zs * 22
-unfolding saidWholes
+pub coordinates-short : (zs : List ℤ) → length (said_wholes zs) ≤ 2 + length zs * 22
+unfolding said_wholes
 coordinates-short [] = omega arith
 coordinates-short (z ∷ zs) = omega (arith, wholes-short (z ∷ zs))
 
@@ -122,13 +122,13 @@ module _ {page : List ℕ} {at : ℕ} {r : ℕ} {page' : List ℕ} where
   pub counts-near : (m n : ℕ) → Puts page at (decimal m ++ bytes " " ++ decimal n ++ bytes " ") r page' → r ≤ at + 42
   counts-near m n p = omega (arith, simp length-append at p.next, decimal-short m, decimal-short n)
 
-  pub reason-near : (g : Reason) → Puts page at (reasonText g) r page' → r ≤ at + 47
+  pub reason-near : (g : Reason) → Puts page at (reason_text g) r page' → r ≤ at + 47
   reason-near g p = omega (arith, p.next, reason-short g)
 
-  pub said-near : (ws : List ℕ) → Puts page at (saidText ws) r page' → r ≤ at + 2 + length ws * 21
+  pub said-near : (ws : List ℕ) → Puts page at (said_text ws) r page' → r ≤ at + 2 + length ws * 21
   said-near ws p = omega (arith, p.next, said-short ws)
 
-  pub coordinates-near : (zs : List ℤ) → Puts page at (saidWholes zs) r page' → r ≤ at + 2 + length zs * 22
+  pub coordinates-near : (zs : List ℤ) → Puts page at (said_wholes zs) r page' → r ≤ at + 2 + length zs * 22
   coordinates-near zs p = omega (arith, p.next, coordinates-short zs)
 
 -- ---- parts of a line
@@ -136,7 +136,7 @@ module _ {page : List ℕ} {at : ℕ} {r : ℕ} {page' : List ℕ} where
 pub nothing_put : (page : List ℕ) (at : ℕ) → Puts page at [] at page
 nothing_put page at = record { next = omega arith; said = sym (rw (append-nil (take at page)) (take-append-drop at page)) }
 
-spaces-snoc : (ts : List (List ℕ)) (t : List ℕ) → afterSpaces (ts ++ t ∷ []) ≡ afterSpaces ts ++ (32 ∷ []) ++ t
+spaces-snoc : (ts : List (List ℕ)) (t : List ℕ) → after_spaces (ts ++ t ∷ []) ≡ after_spaces ts ++ (32 ∷ []) ++ t
 spaces-snoc [] t = append-nil (32 ∷ t)
 spaces-snoc (s ∷ ts) t = rw (spaces-snoc ts t) (simp append_assoc)
 
@@ -144,49 +144,49 @@ pub puts-as : {page : List ℕ} {at : ℕ} {s t : List ℕ} {r : ℕ} {page' : L
 puts-as {page} {at} {s} {t} {r} {page'} e p = subst (λ (x : List ℕ). Puts page at x r page') e p
 
 -- a word more
-pub one_word : (ws : List ℕ) (i : ℕ) → i < length ws → afterSpaces (map decimal (take i ws)) ++ bytes " " ++ decimal (get_or ws i 0) ≡ afterSpaces (map decimal (take (i + 1) ws))
+pub one_word : (ws : List ℕ) (i : ℕ) → i < length ws → after_spaces (map decimal (take i ws)) ++ bytes " " ++ decimal (get_or ws i 0) ≡ after_spaces (map decimal (take (i + 1) ws))
 one_word ws i h = sym (rw (add-one, take-suc ws i 0 h, map-append decimal (take i ws), spaces-snoc))
 
-pub all_words : (ws : List ℕ) (i : ℕ) → length ws ≤ i → afterSpaces (map decimal (take i ws)) ≡ afterSpaces (map decimal ws)
+pub all_words : (ws : List ℕ) (i : ℕ) → length ws ≤ i → after_spaces (map decimal (take i ws)) ≡ after_spaces (map decimal ws)
 all_words ws i h = rw (take_all i ws h)
 
-pub some-said : (ws : List ℕ) → (length ws ≡ 0 → ⊥) → bytes " :" ++ afterSpaces (map decimal ws) ≡ saidText ws
-unfolding saidText
+pub some-said : (ws : List ℕ) → (length ws ≡ 0 → ⊥) → bytes " :" ++ after_spaces (map decimal ws) ≡ said_text ws
+unfolding said_text
 some-said [] h = absurd (h refl)
 some-said (w ∷ ws) h = refl
 
-pub none_said : (ws : List ℕ) → length ws ≡ 0 → [] ≡ saidText ws
-unfolding saidText
+pub none_said : (ws : List ℕ) → length ws ≡ 0 → [] ≡ said_text ws
+unfolding said_text
 none_said [] h = refl
 none_said (w ∷ ws) h = absurd (omega arith)
 
 -- n is the number of a reason
 module _ (g : Reason) (n : ℕ) (is : n ≡ g.number) where
-  pub no_place : (n ≡ 5 → ⊥) → decimal n ≡ reasonText g
-  unfolding reasonText
+  pub no_place : (n ≡ 5 → ⊥) → decimal n ≡ reason_text g
+  unfolding reason_text
   no_place h = sym (rw (← is, ne_eqb n 5 h) (append-nil (decimal n)))
 
-  pub with-place : (p : ℕ) → n ≡ 5 → p ≡ g.place → decimal n ++ placeText p ≡ reasonText g
-  unfolding reasonText
+  pub with-place : (p : ℕ) → n ≡ 5 → p ≡ g.place → decimal n ++ place_text p ≡ reason_text g
+  unfolding reason_text
   with-place p h e = sym (rw (← is, ← e, eq-eqb n 5 h))
 
 -- ---- coordinates, in the same way
 
 pub one-whole-more : (zs : List ℤ) (i : ℕ) → i < length zs
-    → afterSpaces (map whole (take i zs)) ++ (bytes " " ++ whole (get_or zs i (pos 0))) ≡ afterSpaces (map whole (take (i + 1) zs))
+    → after_spaces (map whole (take i zs)) ++ (bytes " " ++ whole (get_or zs i (pos 0))) ≡ after_spaces (map whole (take (i + 1) zs))
 one-whole-more zs i h =
     sym (rw (add-one, take-suc zs i (pos 0) h, map-append whole (take i zs), spaces-snoc)
-    (append_assoc (afterSpaces (map whole (take i zs))) (32 ∷ []) (whole (get_or zs i (pos 0)))))
+    (append_assoc (after_spaces (map whole (take i zs))) (32 ∷ []) (whole (get_or zs i (pos 0)))))
 
-pub all-wholes : (zs : List ℤ) (i : ℕ) → length zs ≤ i → afterSpaces (map whole (take i zs)) ≡ afterSpaces (map whole zs)
+pub all-wholes : (zs : List ℤ) (i : ℕ) → length zs ≤ i → after_spaces (map whole (take i zs)) ≡ after_spaces (map whole zs)
 all-wholes zs i h = rw (take_all i zs h)
 
-pub some-coordinates : (zs : List ℤ) → (length zs ≡ 0 → ⊥) → bytes " :" ++ afterSpaces (map whole zs) ≡ saidWholes zs
-unfolding saidWholes
+pub some-coordinates : (zs : List ℤ) → (length zs ≡ 0 → ⊥) → bytes " :" ++ after_spaces (map whole zs) ≡ said_wholes zs
+unfolding said_wholes
 some-coordinates [] h = absurd (h refl)
 some-coordinates (z ∷ zs) h = refl
 
-pub no-coordinates : (zs : List ℤ) → length zs ≡ 0 → [] ≡ saidWholes zs
-unfolding saidWholes
+pub no-coordinates : (zs : List ℤ) → length zs ≡ 0 → [] ≡ said_wholes zs
+unfolding said_wholes
 no-coordinates [] h = refl
 no-coordinates (z ∷ zs) h = absurd (omega arith)

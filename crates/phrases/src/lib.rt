@@ -4,7 +4,7 @@ ghost use Rattle.std.specs.Prelude.{◌++◌, map, ◌≡◌, ◌+◌, ◌≤◌
 ghost use Rattle.text.specs.Bytes.{bytes};
 ghost use Rattle.page.specs.Page.{Puts};
 ghost use Rattle.reasons.specs.Reason.{given_of};
-ghost use Rattle.phrases.specs.Phrase.{decimal, whole, afterSpaces, placeText, reasonText, saidText, saidWholes, wordsRoom, wholesRoom};
+ghost use Rattle.phrases.specs.Phrase.{decimal, whole, after_spaces, place_text, reason_text, said_text, said_wholes, words_room, wholes_room};
 
 use reasons::Why;
 
@@ -35,7 +35,7 @@ pub fn next_pair(page: &mut [u8], at: usize, x: i32, y: i32) -> usize
 
 pub fn place(page: &mut [u8], at: usize, n: u64) -> usize
     requires { at + 27 ≤ length page.old }
-    ensures { Puts page.old at (placeText n) result page.new }
+    ensures { Puts page.old at (place_text n) result page.new }
 {
     let p = page::put_text(page, at, b" place ");
     page::put_number(page, p, n)
@@ -49,8 +49,8 @@ fn wide(w: u32) -> u64
 
 // A space and a word, for each of the words.
 pub fn words(page: &mut [u8], at: usize, words: &[u32]) -> usize
-    requires { at + wordsRoom (length words.now) ≤ length page.old }
-    ensures { Puts page.old at (afterSpaces (map decimal words.now)) result page.new }
+    requires { at + words_room (length words.now) ≤ length page.old }
+    ensures { Puts page.old at (after_spaces (map decimal words.now)) result page.new }
 {
     let mut p = at;
     let mut i = 0;
@@ -65,7 +65,7 @@ pub fn words(page: &mut [u8], at: usize, words: &[u32]) -> usize
 // The number, and for a 5 the place of the coordinate that was first at fault.
 pub fn reason(page: &mut [u8], at: usize, why: Why) -> usize
     requires { at + 47 ≤ length page.old }
-    ensures { Puts page.old at (reasonText (given_of why)) result page.new }
+    ensures { Puts page.old at (reason_text (given_of why)) result page.new }
 {
     let n = reasons::number(why);
     let p = page::put_number(page, at, n as u64);
@@ -88,8 +88,8 @@ pub fn counts(page: &mut [u8], at: usize, taken: usize, written: usize) -> usize
 
 // The words that were written, if any.
 pub fn said(page: &mut [u8], at: usize, written: &[u32]) -> usize
-    requires { at + 2 + wordsRoom (length written.now) ≤ length page.old }
-    ensures { Puts page.old at (saidText written.now) result page.new }
+    requires { at + 2 + words_room (length written.now) ≤ length page.old }
+    ensures { Puts page.old at (said_text written.now) result page.new }
 {
     if written.len() == 0 {
         return at;
@@ -100,8 +100,8 @@ pub fn said(page: &mut [u8], at: usize, written: &[u32]) -> usize
 
 // A space and a whole number, for each of the numbers.
 pub fn wholes(page: &mut [u8], at: usize, numbers: &[i32]) -> usize
-    requires { at + wholesRoom (length numbers.now) ≤ length page.old }
-    ensures { Puts page.old at (afterSpaces (map whole numbers.now)) result page.new }
+    requires { at + wholes_room (length numbers.now) ≤ length page.old }
+    ensures { Puts page.old at (after_spaces (map whole numbers.now)) result page.new }
 {
     let mut p = at;
     let mut i = 0;
@@ -114,8 +114,8 @@ pub fn wholes(page: &mut [u8], at: usize, numbers: &[i32]) -> usize
 
 // The coordinates that were written, if any.
 pub fn said_wholes(page: &mut [u8], at: usize, written: &[i32]) -> usize
-    requires { at + 2 + wholesRoom (length written.now) ≤ length page.old }
-    ensures { Puts page.old at (saidWholes written.now) result page.new }
+    requires { at + 2 + wholes_room (length written.now) ≤ length page.old }
+    ensures { Puts page.old at (said_wholes written.now) result page.new }
 {
     if written.len() == 0 {
         return at;

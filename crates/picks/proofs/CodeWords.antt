@@ -11,16 +11,16 @@ use lib.Bits.{bit_and, and_mask}
 use lib.Pow.{pow_pos}
 use Rattle.wei.specs.declared.label.LabelPair.{LabelPair}
 use Rattle.wei.specs.declared.word.Parts.{Parts}
-use Rattle.wei.specs.Label.{turnSince, secondLabel, pair_of}
+use Rattle.wei.specs.Label.{turn_since, second_label, pair_of}
 use Rattle.wei.specs.Word.{packed, InRange}
-use Rattle.wei.specs.Symbol.{Symbol, firstLabel, Valid}
+use Rattle.wei.specs.Symbol.{Symbol, first_label, Valid}
 use Rattle.wei.proofs.Words.{masked}
 use Rattle.wei.proofs.Labels.{second_below, since-below}
-use Rattle.trellis.specs.Words.{wordParts, word}
-use Rattle.picks.specs.Picks.{byte_at, symbolBy, said_of}
+use Rattle.trellis.specs.Words.{word_parts, word}
+use Rattle.picks.specs.Picks.{byte_at, symbol_by, said_of}
 
-pub symbol-valid : (u i3 n k : ℕ) → i3 < 2 → Valid u (symbolBy u i3 n k)
-unfolding symbolBy
+pub symbol-valid : (u i3 n k : ℕ) → i3 < 2 → Valid u (symbol_by u i3 n k)
+unfolding symbol_by
 symbol-valid u i3 n k h =
     record {
       y0-below = omega arith;
@@ -38,35 +38,35 @@ pub bit_below : (n : ℕ) → bit_and n 1 < 2
 bit_below n = omega (arith, bit-of n)
 
 module _ (u turn i3 n k : ℕ) (l : LabelPair) (hu : u ≤ 8) (h3 : i3 < 2)
-    (is : l ≡ pair_of (2 * i3 + bit_and k 1) (secondLabel (2 * i3 + bit_and k 1) (bit_and (k / 4) 1) (bit_and (k / 2) 1))) where
+    (is : l ≡ pair_of (2 * i3 + bit_and k 1) (second_label (2 * i3 + bit_and k 1) (bit_and (k / 4) 1) (bit_and (k / 2) 1))) where
   abbrev c : Symbol
-  c = symbolBy u i3 n k
+  c = symbol_by u i3 n k
 
-  first-is : l.first ≡ firstLabel c
-  unfolding symbolBy
+  first-is : l.first ≡ first_label c
+  unfolding symbol_by
   first-is = ap (λ (p : LabelPair). p.first) is ∙ rw (bit-of k)
 
-  second_is : l.second ≡ secondLabel (firstLabel c) c.y0 c.i1
-  unfolding symbolBy
+  second_is : l.second ≡ second_label (first_label c) c.y0 c.i1
+  unfolding symbol_by
   second_is = ap (λ (p : LabelPair). p.second) is ∙ rw (bit-of k, bit-of (k / 4), bit-of (k / 2))
 
   pub first_below : l.first < 4
   first_below = let v = symbol-valid u i3 n k h3 in rw first-is (omega (arith, v.i2-below, v.i3-below))
 
   pub last-below : l.second < 4
-  last-below = rw second_is (second_below (firstLabel c) c.y0 c.i1)
+  last-below = rw second_is (second_below (first_label c) c.y0 c.i1)
 
   i1-is : bit_and (k / 2) 1 ≡ c.i1
-  unfolding symbolBy
+  unfolding symbol_by
   i1-is = bit-of (k / 2)
 
-  module _ (x y d : ℕ) (ex : x ≡ byte_at n l.first) (ey : y ≡ byte_at n (4 + l.second)) (turned : d ≡ turnSince turn l.first) where
+  module _ (x y d : ℕ) (ex : x ≡ byte_at n l.first) (ey : y ≡ byte_at n (4 + l.second)) (turned : d ≡ turn_since turn l.first) where
     w1-is : bit_and x (1 * 2 ^ u % 2 ^ 32 - 1) ≡ c.w1
-    unfolding symbolBy
+    unfolding symbol_by
     w1-is = masked x u hu ∙ ap (λ (m : ℕ). m % 2 ^ u) (ex ∙ ap (byte_at n) first-is)
 
     w2-is : bit_and y (1 * 2 ^ u % 2 ^ 32 - 1) ≡ c.w2
-    unfolding symbolBy
+    unfolding symbol_by
     w2-is = masked y u hu ∙ ap (λ (m : ℕ). m % 2 ^ u) (ey ∙ ap (λ (m : ℕ). byte_at n (4 + m)) second_is)
 
     abbrev parts : Parts
@@ -83,11 +83,11 @@ module _ (u turn i3 n k : ℕ) (l : LabelPair) (hu : u ≤ 8) (h3 : i3 < 2)
           w2-below = rw w2-is v.w2-below;
         }
 
-    turn_is : d ≡ turnSince turn (firstLabel c)
-    turn_is = turned ∙ ap (turnSince turn) first-is
+    turn_is : d ≡ turn_since turn (first_label c)
+    turn_is = turned ∙ ap (turn_since turn) first-is
 
-    parts_are : parts ≡ wordParts turn c
-    unfolding wordParts
+    parts_are : parts ≡ word_parts turn c
+    unfolding word_parts
     parts_are = λ i. record { i1 = i1-is i; i2 = (bit-of d ∙ ap (λ (n : ℕ). n % 2) turn_is) i; i3 = ap (λ (n : ℕ). n / 2) turn_is i; w1 = w1-is i; w2 = w2-is i }
 
     pub said : (w : ℕ) → w ≡ packed u parts → record { word = w; turn = l.first } ≡ said_of u turn c

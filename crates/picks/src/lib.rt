@@ -4,7 +4,7 @@
 //
 // Leans on `wei` for labels, turns and words.
 ghost use Rattle.std.specs.Prelude.{◌≡◌, ◌+◌, ◌*◌, ◌^◌, ◌≤◌, ◌<◌, length};
-ghost use Rattle.picks.specs.Picks.{byte_at, numbersOf, type_at, symbolBy, symbolIn, longer, keptIn, said_of};
+ghost use Rattle.picks.specs.Picks.{byte_at, numbers_of, type_at, symbol_by, symbol_in, longer, kept_in, said_of};
 
 use wei::word::Parts;
 
@@ -24,7 +24,7 @@ fn four_of(a: u8, b: u8, c: u8, d: u8) -> u64
 
 // The numbers of the first and of the second point, by label, as one word.
 pub fn numbers_of(w1: [u8; 4], w2: [u8; 4]) -> u64
-    ensures { result ≡ numbersOf w1 w2 }
+    ensures { result ≡ numbers_of w1 w2 }
 {
     four_of(w1[0], w1[1], w1[2], w1[3]) + four_of(w2[0], w2[1], w2[2], w2[3]) * 4294967296
 }
@@ -47,7 +47,7 @@ fn longer_by(register: u64, bit: u8) -> u64
 // Keeps a symbol: I3' of each subset as the newest bit of its register, and the numbers in their slot.
 pub fn keep(picks: &mut [u64], slot: usize, i3: [u8; 8], numbers: u64)
     requires { (slot < 64) × (length picks.old ≡ 72) }
-    ensures { picks.new ≡ keptIn picks.old slot i3 numbers }
+    ensures { picks.new ≡ kept_in picks.old slot i3 numbers }
 {
     let mut k: usize = 0;
     while k < 8 {
@@ -76,7 +76,7 @@ fn type_at(picks: &[u64], k: usize, age: usize) -> u32
 // The word of the symbol of subset k with that I3' and its numbers in a word, after the turn before.
 fn word_by(u: u32, turn: u32, i3: u32, numbers: u64, k: usize) -> Said
     requires { (u ≤ 8) × (turn ≤ 4) × (i3 < 2) × (k < 8) }
-    ensures { result ≡ said_of u turn (symbolBy u i3 numbers k) }
+    ensures { result ≡ said_of u turn (symbol_by u i3 numbers k) }
 {
     let b = k as u32;
     let i1 = (b >> 1) & 1;
@@ -104,7 +104,7 @@ fn word_by(u: u32, turn: u32, i3: u32, numbers: u64, k: usize) -> Said
 // The word of the symbol of subset k in a slot, so many symbols before the newest, after the turn before.
 pub fn word_in(u: u32, turn: u32, picks: &[u64], slot: usize, age: usize, k: usize) -> Said
     requires { (u ≤ 8) × (turn ≤ 4) × (slot < 64) × (age < 64) × (k < 8) × (length picks.now ≡ 72) }
-    ensures { result ≡ said_of u turn (symbolIn u picks.now slot age k) }
+    ensures { result ≡ said_of u turn (symbol_in u picks.now slot age k) }
 {
     let i3 = type_at(picks, k, age);
     word_by(u, turn, i3, picks[8 + slot], k)

@@ -9,27 +9,27 @@ use native.Mathlib.Omega.{arith}
 use borrow.Author.Tests.{eqb-true, eq-eqb, ne_eqb}
 use lib.Dec.{eqb}
 use lib.ListN.{get_or, length, drop, drop_of_length-le}
-use Rattle.lists.specs.UpTo.{allUpTo}
+use Rattle.lists.specs.UpTo.{all_up_to}
 use Rattle.lists.proofs.UpTo.{and_both}
-use Rattle.receiver_meaning.specs.Piece.{mark_of, laterMarks, fitsWith}
+use Rattle.receiver_meaning.specs.Piece.{mark_of, later_marks, fits_with}
 
 module _ (ms : List ℕ) (n : ℕ) where
-  pub uneven : (marked : Bool) → (n % 4 ≡ 0 → ⊥) → fitsWith marked ms n ≡ false
+  pub uneven : (marked : Bool) → (n % 4 ≡ 0 → ⊥) → fits_with marked ms n ≡ false
   uneven true h = rw (ne_eqb n (4 * length ms) (λ e. h (omega (arith, e))))
   uneven false h = ne_eqb (n % 4) 0 h
 
-  pub plain : n % 4 ≡ 0 → fitsWith false ms n ≡ true
+  pub plain : n % 4 ≡ 0 → fits_with false ms n ≡ true
   plain h = eq-eqb (n % 4) 0 h
 
-  pub another-count : n % 4 ≡ 0 → (n / 4 ≡ length ms → ⊥) → fitsWith true ms n ≡ false
+  pub another-count : n % 4 ≡ 0 → (n / 4 ≡ length ms → ⊥) → fits_with true ms n ≡ false
   another-count h k = rw (ne_eqb n (4 * length ms) (λ e. k (omega (arith, e))))
 
-  pub one_each : n % 4 ≡ 0 → n / 4 ≡ length ms → fitsWith true ms n ≡ allUpTo 3 ms
+  pub one_each : n % 4 ≡ 0 → n / 4 ≡ length ms → fits_with true ms n ≡ all_up_to 3 ms
   one_each h k = rw (eq-eqb n (4 * length ms) (omega (arith, h, k)))
 
   -- whatever fits is of whole symbols
-  pub fits-even : (marked : Bool) → fitsWith marked ms n ≡ true → n % 4 ≡ 0
-  fits-even true e = omega (arith, eqb-true n (4 * length ms) (and_both (eqb n (4 * length ms)) (allUpTo 3 ms) e).0)
+  pub fits-even : (marked : Bool) → fits_with marked ms n ≡ true → n % 4 ≡ 0
+  fits-even true e = omega (arith, eqb-true n (4 * length ms) (and_both (eqb n (4 * length ms)) (all_up_to 3 ms) e).0)
   fits-even false e = eqb-true (n % 4) 0 e
 
 -- ---- the mark of one symbol
@@ -41,10 +41,10 @@ mark-from [] (suc j) = refl
 mark-from (m ∷ ms) zero = refl
 mark-from (m ∷ ms) (suc j) = mark-from ms j
 
-pub later-from : (ms : List ℕ) (j : ℕ) → laterMarks (drop j ms) ≡ drop (j + 1) ms
+pub later-from : (ms : List ℕ) (j : ℕ) → later_marks (drop j ms) ≡ drop (j + 1) ms
 later-from ms j = let e : suc j ≡ j + 1 = omega arith in go ms j ∙ ap (λ (n : ℕ). drop n ms) e
   where
-    go : (ms : List ℕ) (j : ℕ) → laterMarks (drop j ms) ≡ drop (suc j) ms
+    go : (ms : List ℕ) (j : ℕ) → later_marks (drop j ms) ≡ drop (suc j) ms
     go [] zero = refl
     go [] (suc j) = refl
     go (m ∷ ms) zero = refl

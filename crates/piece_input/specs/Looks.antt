@@ -1,17 +1,17 @@
 -- A symbol of a piece, as it stands in the coordinates, and what is said of it before it is heard.
---   symbolIn m xs i   the symbol with the mark m whose four coordinates stand from the place i on
+--   symbol_in m xs i   the symbol with the mark m whose four coordinates stand from the place i on
 --   Looks y r         r has the points of the symbol y and the place of its first fault
 use Rattle.std.specs.Prelude.{ℕ, ◌+◌, ◌≡◌, List, ℤ, pos, get_or}
 use Rattle.trellis.specs.Measure.{Two}
 use Rattle.nearest.specs.declared.Received.{Received}
-use Rattle.nearest.specs.Found.{heardAs}
-use Rattle.receiver_meaning.specs.Told.{faultOf}
-use Rattle.receiver_meaning.specs.Piece.{markedSymbol}
+use Rattle.nearest.specs.Found.{heard_as}
+use Rattle.receiver_meaning.specs.Told.{fault_of}
+use Rattle.receiver_meaning.specs.Piece.{marked_symbol}
 use Rattle.piece_input.specs.declared.Looked.{Looked}
 
-abbrev pub symbolIn : ℕ → List ℤ → ℕ → Two Received
-symbolIn m xs i = markedSymbol m (get_or xs i (pos 0)) (get_or xs (i + 1) (pos 0)) (get_or xs (i + 2) (pos 0)) (get_or xs (i + 3) (pos 0))
+abbrev pub symbol_in : ℕ → List ℤ → ℕ → Two Received
+symbol_in m xs i = marked_symbol m (get_or xs i (pos 0)) (get_or xs (i + 1) (pos 0)) (get_or xs (i + 2) (pos 0)) (get_or xs (i + 3) (pos 0))
 
 pub record Looks (y : Two Received) (r : Looked) : Type 0 where
-  pub points : heardAs r.first r.second ≡ y
-  pub place : r.place ≡ faultOf y
+  pub points : heard_as r.first r.second ≡ y
+  pub place : r.place ≡ fault_of y

@@ -1,17 +1,17 @@
 // What is looked at of a piece before a machine hears any of it: whether it fits, the mark of each symbol, and each symbol as it was received,
 // with the place of its first coordinate out of range. No receiver is needed for it; `pieces` and the doors ask here.
 ghost use Rattle.std.specs.Prelude.{◌≡◌, ◌+◌, ◌≤◌, get_or, length};
-ghost use Rattle.nearest.specs.Found.{heardAs};
-ghost use Rattle.receiver_meaning.specs.Told.{faultAt, faultOf};
-ghost use Rattle.receiver_meaning.specs.Piece.{pointFrom, fitsWith, marksOf};
-ghost use Rattle.piece_input.specs.Looks.{symbolIn, Looks};
+ghost use Rattle.nearest.specs.Found.{heard_as};
+ghost use Rattle.receiver_meaning.specs.Told.{fault_at, fault_of};
+ghost use Rattle.receiver_meaning.specs.Piece.{point_from, fits_with, marks_of};
+ghost use Rattle.piece_input.specs.Looks.{symbol_in, Looks};
 
 use distance::Spot;
 use nearest::Received;
 
 // Whether so many coordinates make whole symbols, and the marks, where the piece has any, are one for each.
 pub fn fits(marked: bool, marks: &[u8], count: usize) -> bool
-    ensures { result ≡ fitsWith marked marks.now count }
+    ensures { result ≡ fits_with marked marks.now count }
 {
     if count % 4 != 0 {
         return false;
@@ -27,7 +27,7 @@ pub fn fits(marked: bool, marks: &[u8], count: usize) -> bool
 
 // The mark of the symbol j: 0, nothing missing, where there is none.
 pub fn mark_at(marked: bool, marks: &[u8], j: usize) -> u8
-    ensures { result ≡ get_or (marksOf marked marks.now) j 0 }
+    ensures { result ≡ get_or (marks_of marked marks.now) j 0 }
 {
     if !marked {
         return 0;
@@ -40,7 +40,7 @@ pub fn mark_at(marked: bool, marks: &[u8], j: usize) -> u8
 
 // A received point. The coordinates of a missing one are not looked at.
 fn point(missing: bool, x: i32, y: i32) -> Received
-    ensures { result ≡ pointFrom missing x y }
+    ensures { result ≡ point_from missing x y }
 {
     if missing {
         return Received::Missing;
@@ -50,7 +50,7 @@ fn point(missing: bool, x: i32, y: i32) -> Received
 
 // The place of a point's first coordinate out of range, or 2; a missing point has none.
 fn fault_at(h: Received) -> u32
-    ensures { result ≡ faultAt h }
+    ensures { result ≡ fault_at h }
 {
     let Received::Heard(s) = h else {
         return 2;
@@ -66,7 +66,7 @@ fn fault_at(h: Received) -> u32
 
 // The place of the first coordinate of a symbol out of range, or 4.
 fn fault(first: Received, second: Received) -> u32
-    ensures { result ≡ faultOf (heardAs first second) }
+    ensures { result ≡ fault_of (heard_as first second) }
 {
     let place = fault_at(first);
     if place < 2 {
@@ -86,7 +86,7 @@ pub struct Looked {
 // The symbol of a piece from the place i on, with its mark.
 pub fn look(mark: u8, samples: &[i32], i: usize) -> Looked
     requires { i + 4 ≤ length samples.now }
-    ensures { Looks (symbolIn mark samples.now i) result }
+    ensures { Looks (symbol_in mark samples.now i) result }
 {
     let first = point(mark % 2 == 1, samples[i], samples[i + 1]);
     let second = point(2 <= mark, samples[i + 2], samples[i + 3]);

@@ -19,10 +19,10 @@ use Rattle.one_symbol.specs.declared.Took.{Took}
 use Rattle.reasons.specs.declared.Why.{Why}
 use Rattle.reasons.specs.declared.Why.TheVariants.{Done}
 use Rattle.machine.specs.Machine.{Outcome, sound}
-use Rattle.reasons.specs.Reason.{reason, given_of, isDone}
-use Rattle.receiver_meaning.specs.Piece.{symbolsWith}
+use Rattle.reasons.specs.Reason.{reason, given_of, is_done}
+use Rattle.receiver_meaning.specs.Piece.{symbols_with}
 use Rattle.pieces.specs.Running.{symbol_at, Ran, running}
-use Rattle.piece_input.specs.Looks.{symbolIn}
+use Rattle.piece_input.specs.Looks.{symbol_in}
 use Rattle.pieces.specs.Lent.{RunsLent}
 use Rattle.machine.specs.Parts.{whole}
 use Rattle.one_symbol.specs.Taken.{TookIs}
@@ -42,12 +42,12 @@ pub record Going (ms : List ℕ) (xs : List ℤ) (out₀ : List ℕ) (rx₀ : Re
   pub accord : rx.core.accord ≡ rx₀.core.accord
   pub going : given_of why ≡ reason 0
   pub rest : drop written out ≡ drop written out₀
-  pub same : running (symbolsWith ms xs) rx₀ 0 [] (length out₀) ≡ running (symbolsWith (drop taken ms) (drop i xs)) rx taken (take written out) (length out₀)
+  pub same : running (symbols_with ms xs) rx₀ 0 [] (length out₀) ≡ running (symbols_with (drop taken ms) (drop i xs)) rx taken (take written out) (length out₀)
 
 -- the symbols from the place i on, with the marks from the place j on
 symbols-from : (ms : List ℕ) (j : ℕ) (xs : List ℤ) (i : ℕ) → i + 4 ≤ length xs →
-    symbolsWith (drop j ms) (drop i xs) ≡ symbolIn (get_or ms j 0) xs i ∷ symbolsWith (drop (j + 1) ms) (drop (i + 4) xs)
-symbols-from ms j xs i h = ap (symbolsWith (drop j ms)) four ∙ rw (mark-from ms j, later-from ms j)
+    symbols_with (drop j ms) (drop i xs) ≡ symbol_in (get_or ms j 0) xs i ∷ symbols_with (drop (j + 1) ms) (drop (i + 4) xs)
+symbols-from ms j xs i h = ap (symbols_with (drop j ms)) four ∙ rw (mark-from ms j, later-from ms j)
   where
     four : drop i xs ≡ get_or xs i (pos 0) ∷ get_or xs (i + 1) (pos 0) ∷ get_or xs (i + 2) (pos 0) ∷ get_or xs (i + 3) (pos 0) ∷ drop (i + 4) xs
     four =
@@ -65,16 +65,16 @@ symbols-from ms j xs i h = ap (symbolsWith (drop j ms)) four ∙ rw (mark-from m
 -- one symbol of a run
 module _ (y : Two Received) (zs : List (Two Received)) (rx : Receiver) (n : ℕ) (ws : List ℕ) (room : ℕ) (o : Outcome) (e : symbol_at rx y (room - length ws) ≡ o) where
   abbrev onward : Outcome → Ran
-  onward o = cond (isDone o.why) (running zs o.receiver (n + 1) (ws ++ o.words) room) (record { receiver = rx; taken = n; words = ws; why = o.why })
+  onward o = cond (is_done o.why) (running zs o.receiver (n + 1) (ws ++ o.words) room) (record { receiver = rx; taken = n; words = ws; why = o.why })
 
   once : running (y ∷ zs) rx n ws room ≡ onward o
   unfolding running
   once = ap onward e
 
-  run_on : isDone o.why ≡ true → running (y ∷ zs) rx n ws room ≡ running zs o.receiver (n + 1) (ws ++ o.words) room
+  run_on : is_done o.why ≡ true → running (y ∷ zs) rx n ws room ≡ running zs o.receiver (n + 1) (ws ++ o.words) room
   run_on d = once ∙ rw d
 
-  run-stop : isDone o.why ≡ false → running (y ∷ zs) rx n ws room ≡ record { receiver = rx; taken = n; words = ws; why = o.why }
+  run-stop : is_done o.why ≡ false → running (y ∷ zs) rx n ws room ≡ record { receiver = rx; taken = n; words = ws; why = o.why }
   run-stop d = once ∙ rw d
 
 -- ---- a turn of the loop
@@ -90,7 +90,7 @@ module _ (ms : List ℕ) (xs : List ℤ) (out₀ : List ℕ) (rx₀ : Receiver) 
 
   -- the symbol
   abbrev y : Two Received
-  y = symbolIn mark xs i
+  y = symbol_in mark xs i
 
   abbrev o : Outcome
   o = symbol_at rx y (length lent)
@@ -107,10 +107,10 @@ module _ (ms : List ℕ) (xs : List ℤ) (out₀ : List ℕ) (rx₀ : Receiver) 
         ap (symbol_at rx y) (sym b)
 
     abbrev ahead : List (Two Received)
-    ahead = symbolsWith (drop (taken + 1) ms) (drop (i + 4) xs)
+    ahead = symbols_with (drop (taken + 1) ms) (drop (i + 4) xs)
 
-    same-on : running (symbolsWith ms xs) rx₀ 0 [] (length out₀) ≡ running (y ∷ ahead) rx taken (take w out) (length out₀)
-    same-on = g.same ∙ ap (λ (zs : List (Two Received)). running zs rx taken (take w out) (length out₀)) (symbols-from ms taken xs i four-more ∙ ap (λ (n : ℕ). symbolIn n xs i ∷ ahead) (sym m))
+    same-on : running (symbols_with ms xs) rx₀ 0 [] (length out₀) ≡ running (y ∷ ahead) rx taken (take w out) (length out₀)
+    same-on = g.same ∙ ap (λ (zs : List (Two Received)). running zs rx taken (take w out) (length out₀)) (symbols-from ms taken xs i four-more ∙ ap (λ (n : ℕ). symbol_in n xs i ∷ ahead) (sym m))
 
     pub more-fits : w + r.written ≤ length out₀
     more-fits = rw is.written (lent_fits out out₀ o.words ys w g.long g.room g.rest is.out kept)
@@ -118,7 +118,7 @@ module _ (ms : List ℕ) (xs : List ℤ) (out₀ : List ℕ) (rx₀ : Receiver) 
     pub more-length : length after ≡ length out₀
     more-length = back-length out out₀ o.words ys w g.long g.room g.rest is.out kept
 
-    pub go_on : isDone r.why ≡ true → length picks ≡ 72 →
+    pub go_on : is_done r.why ≡ true → length picks ≡ 72 →
         Going ms xs out₀ rx₀ after (whole r.core sums registers picks) (taken + 1) (w + r.written) r.why (i + 4)
     go_on done of-72 =
         record {
@@ -133,18 +133,18 @@ module _ (ms : List ℕ) (xs : List ℤ) (out₀ : List ℕ) (rx₀ : Receiver) 
           accord = ap (λ (x : Receiver). x.core.accord) is.receiver ∙ symbol-accord rx y (length lent) ∙ g.accord;
           rest = rw is.written (back-drop out out₀ o.words ys w g.long g.room g.rest is.out kept);
           same =
-              same-on ∙ run_on y ahead rx taken (take w out) (length out₀) o here (ap isDone (sym is.why) ∙ done)
+              same-on ∙ run_on y ahead rx taken (take w out) (length out₀) o here (ap is_done (sym is.why) ∙ done)
               ∙ rw (is.written, back-take out out₀ o.words ys w g.long g.room g.rest is.out kept, is.receiver);
         }
 
-    pub stop : isDone r.why ≡ false →
-        RunsLent (running (symbolsWith ms xs) rx₀ 0 [] (length out₀)) out₀ (record { core = r.core; taken = taken; written = w + r.written; why = r.why }) sums registers picks after
+    pub stop : is_done r.why ≡ false →
+        RunsLent (running (symbols_with ms xs) rx₀ 0 [] (length out₀)) out₀ (record { core = r.core; taken = taken; written = w + r.written; why = r.why }) sums registers picks after
     stop no_more =
-        let d : isDone o.why ≡ false = ap isDone (sym is.why) ∙ no_more in
+        let d : is_done o.why ≡ false = ap is_done (sym is.why) ∙ no_more in
         let k = symbol-refused rx y (length lent) d in
         let l : length (take w out) ≡ w = length-take-le w out (omega (arith, g.room, g.long)) in
         let n : r.written ≡ 0 = is.written ∙ ap length k.0 in
-        let ran : running (symbolsWith ms xs) rx₀ 0 [] (length out₀) ≡ record { receiver = rx; taken = taken; words = take w out; why = o.why } =
+        let ran : running (symbols_with ms xs) rx₀ 0 [] (length out₀) ≡ record { receiver = rx; taken = taken; words = take w out; why = o.why } =
         same-on ∙ run-stop y ahead rx taken (take w out) (length out₀) o here d in
         rw ran
         (record {
@@ -175,11 +175,11 @@ module _ (ms : List ℕ) (xs : List ℤ) (out : List ℕ) (rx : Receiver) where
       }
 
   pub end : (out₁ : List ℕ) (core : Core) (sums registers picks : List ℕ) (taken w : ℕ) (why : Why) (i : ℕ) → Going ms xs out rx out₁ (whole core sums registers picks) taken w why i →
-      length xs ≤ i → RunsLent (running (symbolsWith ms xs) rx 0 [] (length out)) out (record { core = core; taken = taken; written = w; why = why }) sums registers picks out₁
+      length xs ≤ i → RunsLent (running (symbols_with ms xs) rx 0 [] (length out)) out (record { core = core; taken = taken; written = w; why = why }) sums registers picks out₁
   unfolding running
   end out₁ core sums registers picks taken w why i g past =
       let rx₁ = whole core sums registers picks in
       let l : length (take w out₁) ≡ w = length-take-le w out₁ (omega (arith, g.room, g.long)) in
-      let ran : running (symbolsWith ms xs) rx 0 [] (length out) ≡ record { receiver = rx₁; taken = taken; words = take w out₁; why = Done } =
-      g.same ∙ ap (λ (zs : List ℤ). running (symbolsWith (drop taken ms) zs) rx₁ taken (take w out₁) (length out)) (drop_of_length-le xs {i = i} past) in
+      let ran : running (symbols_with ms xs) rx 0 [] (length out) ≡ record { receiver = rx₁; taken = taken; words = take w out₁; why = Done } =
+      g.same ∙ ap (λ (zs : List ℤ). running (symbols_with (drop taken ms) zs) rx₁ taken (take w out₁) (length out)) (drop_of_length-le xs {i = i} past) in
       rw ran (record { receiver = refl; taken = refl; written = sym l; given = g.going; output = rw (l, ← g.rest) (sym (take-append-drop w out₁)) })

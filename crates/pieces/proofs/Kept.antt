@@ -18,11 +18,11 @@ use Rattle.machine.specs.declared.Core.{Core}
 use Rattle.machine.specs.declared.Receiver.{Receiver}
 use Rattle.one_symbol.specs.declared.Took.{Took}
 use Rattle.reasons.specs.declared.Why.TheVariants.{BadSample}
-use Rattle.machine.specs.Machine.{Outcome, taking, agreedOf, keptOf, grown, sound}
+use Rattle.machine.specs.Machine.{Outcome, taking, agreed_of, kept_of, grown, sound}
 use Rattle.machine.specs.Parts.{whole}
 use Rattle.one_symbol.specs.Taken.{TookIs}
-use Rattle.reasons.specs.Reason.{isDone}
-use Rattle.receiver_meaning.specs.Told.{faultOf}
+use Rattle.reasons.specs.Reason.{is_done}
+use Rattle.receiver_meaning.specs.Told.{fault_of}
 use Rattle.machine.proofs.Sound.{grown-sound}
 use Rattle.pieces.specs.Running.{symbol_at}
 use Rattle.receiver_meaning.proofs.Telling.{in-range}
@@ -34,14 +34,14 @@ either P false x y f g = g refl
 
 module _ (rx : Receiver) (y : Two Received) (room : ℕ) where
   abbrev Left : Outcome → Type 0
-  Left o = isDone o.why ≡ false → (o.words ≡ []) × (o.receiver ≡ rx)
+  Left o = is_done o.why ≡ false → (o.words ≡ []) × (o.receiver ≡ rx)
 
   pub symbol-refused : Left (symbol_at rx y room)
   unfolding symbol_at taking
   symbol-refused =
-      either Left (ltb (faultOf y) 4) _ _ (λ _ d. (refl, refl))
-      (λ _. either Left (ltb rx.core.window (keptOf rx y)) _ _ (λ _ d. (refl, refl))
-      (λ _. either Left (ltb room (agreedOf rx y)) _ _ (λ _ d. (refl, refl)) (λ _ d. absurd (subst T d tt))))
+      either Left (ltb (fault_of y) 4) _ _ (λ _ d. (refl, refl))
+      (λ _. either Left (ltb rx.core.window (kept_of rx y)) _ _ (λ _ d. (refl, refl))
+      (λ _. either Left (ltb room (agreed_of rx y)) _ _ (λ _ d. (refl, refl)) (λ _ d. absurd (subst T d tt))))
 
 module _ (rx : Receiver) (f : sound rx ≡ true) (y : Two Received) (room : ℕ) where
   abbrev Fit : Outcome → Type 0
@@ -50,9 +50,9 @@ module _ (rx : Receiver) (f : sound rx ≡ true) (y : Two Received) (room : ℕ)
   pub symbol-sound : Fit (symbol_at rx y room)
   unfolding symbol_at taking
   symbol-sound =
-      either Fit (ltb (faultOf y) 4) _ _ (λ _. f)
-      (λ _. either Fit (ltb rx.core.window (keptOf rx y)) _ _ (λ _. f)
-      (λ c. either Fit (ltb room (agreedOf rx y)) _ _ (λ _. f) (λ _. grown-sound rx y f (ltb-false rx.core.window (keptOf rx y) c))))
+      either Fit (ltb (fault_of y) 4) _ _ (λ _. f)
+      (λ _. either Fit (ltb rx.core.window (kept_of rx y)) _ _ (λ _. f)
+      (λ c. either Fit (ltb room (agreed_of rx y)) _ _ (λ _. f) (λ _. grown-sound rx y f (ltb-false rx.core.window (kept_of rx y) c))))
 
 -- what both ends agreed on stays
 module _ (rx : Receiver) (y : Two Received) (room : ℕ) where
@@ -62,26 +62,26 @@ module _ (rx : Receiver) (y : Two Received) (room : ℕ) where
   pub symbol-accord : Agreed (symbol_at rx y room)
   unfolding symbol_at taking grown
   symbol-accord =
-      either Agreed (ltb (faultOf y) 4) _ _ (λ _. refl)
-      (λ _. either Agreed (ltb rx.core.window (keptOf rx y)) _ _ (λ _. refl)
-      (λ _. either Agreed (ltb room (agreedOf rx y)) _ _ (λ _. refl) (λ _. refl)))
+      either Agreed (ltb (fault_of y) 4) _ _ (λ _. refl)
+      (λ _. either Agreed (ltb rx.core.window (kept_of rx y)) _ _ (λ _. refl)
+      (λ _. either Agreed (ltb room (agreed_of rx y)) _ _ (λ _. refl) (λ _. refl)))
 
 -- ---- one symbol, as the code has it
 
-module _ (core : Core) (sums registers picks before : List ℕ) (y : Two Received) (place : ℕ) (e : place ≡ faultOf y) where
+module _ (core : Core) (sums registers picks before : List ℕ) (y : Two Received) (place : ℕ) (e : place ≡ fault_of y) where
   abbrev here : Outcome
   here = symbol_at (whole core sums registers picks) y (length before)
 
   pub faulty-took : place < 4 → TookIs here (record { core = core; written = 0; why = BadSample place }) sums registers picks before before
   unfolding symbol_at
   faulty-took h =
-      rw (lt-ltb (faultOf y) 4 (omega arith))
+      rw (lt-ltb (fault_of y) 4 (omega arith))
       (record { receiver = refl; why = ap BadSample e; written = refl; out = refl })
 
   pub good-taking : 4 ≤ place → (here ≡ taking (whole core sums registers picks) y (length before)) × BothInRange y
   unfolding symbol_at
   good-taking h =
-      let l : ltb (faultOf y) 4 ≡ false = le-ltb (faultOf y) 4 (omega arith) in
+      let l : ltb (fault_of y) 4 ≡ false = le-ltb (fault_of y) 4 (omega arith) in
       (rw l, in-range y l)
 
   pub good-took : (z : Two Received) → z ≡ y → 4 ≤ place → (r : Took) (sums₁ registers₁ picks₁ after : List ℕ) →

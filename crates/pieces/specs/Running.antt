@@ -10,11 +10,11 @@ use Rattle.machine.specs.declared.Receiver.{Receiver}
 use Rattle.machine.specs.Machine.{Outcome, refused, taking}
 use Rattle.reasons.specs.declared.Why.{Why}
 use Rattle.reasons.specs.declared.Why.TheVariants.{Done, BadSample}
-use Rattle.reasons.specs.Reason.{isDone}
-use Rattle.receiver_meaning.specs.Told.{faultOf}
+use Rattle.reasons.specs.Reason.{is_done}
+use Rattle.receiver_meaning.specs.Told.{fault_of}
 
 unfoldable pub symbol_at : Receiver → Two Received → ℕ → Outcome
-symbol_at rx y room = cond (ltb (faultOf y) 4) (refused rx (BadSample (faultOf y))) (taking rx y room)
+symbol_at rx y room = cond (ltb (fault_of y) 4) (refused rx (BadSample (fault_of y))) (taking rx y room)
 
 pub record Ran : Type 0 where
   pub receiver : Receiver
@@ -26,7 +26,7 @@ unfoldable pub running : List (Two Received) → Receiver → ℕ → List ℕ �
 running [] rx n ws room = record { receiver = rx; taken = n; words = ws; why = Done }
 running (y ∷ ys) rx n ws room =
     let o = symbol_at rx y (room - length ws) in
-    cond (isDone o.why) (running ys o.receiver (n + 1) (ws ++ o.words) room) (record { receiver = rx; taken = n; words = ws; why = o.why })
+    cond (is_done o.why) (running ys o.receiver (n + 1) (ws ++ o.words) room) (record { receiver = rx; taken = n; words = ws; why = o.why })
 
 -- "Released words go straight after those already written by that call. All other places of the output stay unchanged"
 abbrev pub Written : List ℕ → List ℕ → List ℕ → Type 0

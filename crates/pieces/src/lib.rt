@@ -3,12 +3,12 @@
 // has the symbol and its first fault, and on `one_symbol`, which takes a symbol that is in range; the doors of `receiver` test a record and
 // whether a piece fits before they come here.
 ghost use Rattle.std.specs.Prelude.{◌≡◌, true, [], ◌+◌, ◌%◌, ◌≤◌, length};
-ghost use Rattle.nearest.specs.Found.{chartOf};
+ghost use Rattle.nearest.specs.Found.{chart_of};
 ghost use Rattle.machine.specs.Machine.{sound};
 ghost use Rattle.machine.specs.Parts.{whole};
 ghost use Rattle.one_symbol.specs.Taken.{TookIs};
-ghost use Rattle.receiver_meaning.specs.Piece.{symbolsWith, marksOf};
-ghost use Rattle.piece_input.specs.Looks.{symbolIn};
+ghost use Rattle.receiver_meaning.specs.Piece.{symbols_with, marks_of};
+ghost use Rattle.piece_input.specs.Looks.{symbol_in};
 ghost use Rattle.pieces.specs.Running.{symbol_at, running};
 ghost use Rattle.pieces.specs.Lent.{RunsLent};
 
@@ -29,9 +29,9 @@ fn symbol(
     picks: &mut [u64],
     out: &mut [u32],
 ) -> Took
-    requires t_value { (t.now ≡ chartOf core.accord) × (i + 4 ≤ length samples.now) }
+    requires t_value { (t.now ≡ chart_of core.accord) × (i + 4 ≤ length samples.now) }
     requires picks_value { (sound (whole core sums.old registers.old picks.old) ≡ true) × (length picks.old ≡ 72) }
-    ensures { TookIs (symbol_at (whole core sums.old registers.old picks.old) (symbolIn mark samples.now i) (length out.old))
+    ensures { TookIs (symbol_at (whole core sums.old registers.old picks.old) (symbol_in mark samples.now i) (length out.old))
         result sums.new registers.new picks.new out.old out.new }
 {
     let y = piece_input::look(mark, samples, i);
@@ -69,7 +69,7 @@ pub fn hear_symbols(
     out: &mut [u32],
 ) -> Heard
     requires { (sound (whole start sums.old registers.old picks.old) ≡ true) × (length samples.now % 4 ≡ 0) × (length picks.old ≡ 72) }
-    ensures { RunsLent (running (symbolsWith (marksOf marked marks.now) samples.now)
+    ensures { RunsLent (running (symbols_with (marks_of marked marks.now) samples.now)
         (whole start sums.old registers.old picks.old) 0 [] (length out.old))
         out.old result sums.new registers.new picks.new out.new }
 {

@@ -7,22 +7,22 @@ use native.Mathlib.Omega.{arith}
 use lib.IntN.{neg_ℤ}
 use lib.Pow.{pow_mono}
 use Rattle.points.specs.declared.Point.{Point}
-use Rattle.points.specs.Points.{aPoint}
-use Rattle.points.specs.Turn.{turned, turns, point_of, remainderX, remainderY, Labelled}
-use Rattle.points.specs.Pair.{firstPoint, secondPoint}
+use Rattle.points.specs.Points.{a_point}
+use Rattle.points.specs.Turn.{turned, turns, point_of, remainder_x, remainder_y, Labelled}
+use Rattle.points.specs.Pair.{first_point, second_point}
 use Rattle.points.proofs.Signed.{neg-neg}
 use Rattle.points.proofs.Rule.{rule}
 use Rattle.points.proofs.Turns.{labelled}
 use Rattle.points.proofs.Unique.{distinct}
-use Rattle.wei.specs.Symbol.{Symbol, firstLabel, lastLabel, Valid}
+use Rattle.wei.specs.Symbol.{Symbol, first_label, last_label, Valid}
 use Rattle.wei.proofs.Labels.{labels_apart, second_below}
 
 -- the label from the remainders
-labelFrom : ℕ → ℕ → ℕ
-labelFrom x y = x - 1 + ((x - 1) / 2 + (y - 1) / 2) % 2
+label_from : ℕ → ℕ → ℕ
+label_from x y = x - 1 + ((x - 1) / 2 + (y - 1) / 2) % 2
 
-label-from : (l : ℕ) → l < 4 → labelFrom (remainderX l) (remainderY l) ≡ l
-unfolding labelFrom
+label-from : (l : ℕ) → l < 4 → label_from (remainder_x l) (remainder_y l) ≡ l
+unfolding label_from
 label-from zero h = refl
 label-from (suc zero) h = refl
 label-from (suc (suc zero)) h = refl
@@ -31,9 +31,9 @@ label-from (suc (suc (suc (suc n)))) h = absurd (omega arith)
 
 one_label : (l m : ℕ) (p : Point) → l < 4 → m < 4 → Labelled l p → Labelled m p → l ≡ m
 one_label l m p g h a b =
-    let z₁ : remainderX l ≡ remainderX m = sym a.x-is ∙ b.x-is in
-    let z₂ : remainderY l ≡ remainderY m = sym a.y-is ∙ b.y-is in
-    let z₃ : labelFrom (remainderX l) (remainderY l) ≡ labelFrom (remainderX m) (remainderY m) = cc in
+    let z₁ : remainder_x l ≡ remainder_x m = sym a.x-is ∙ b.x-is in
+    let z₂ : remainder_y l ≡ remainder_y m = sym a.y-is ∙ b.y-is in
+    let z₃ : label_from (remainder_x l) (remainder_y l) ≡ label_from (remainder_x m) (remainder_y m) = cc in
     sym (label-from l g) ∙ z₃ ∙ label-from m h
 
 turn-inj : (p q : Point) → turned p ≡ turned q → p ≡ q
@@ -49,18 +49,18 @@ turns-inj (suc l) p q e = turns-inj l p q (turn-inj (turns l p) (turns l q) e)
 pub points-apart : (l m w v : ℕ) → l < 4 → m < 4 → w < 256 → v < 256 → point_of l w ≡ point_of m v → (l ≡ m) × (w ≡ v)
 unfolding point_of
 points-apart l m w v g h a b e =
-    let s : l ≡ m = one_label l m (turns m (aPoint v)) g h (subst (Labelled l) e (labelled l w g a)) (labelled m v h b) in
-    let t : turns l (aPoint w) ≡ turns l (aPoint v) = e ∙ ap (λ (k : ℕ). turns k (aPoint v)) (sym s) in
-    (s, distinct 256 aPoint rule w v a b (turns-inj l (aPoint w) (aPoint v) t))
+    let s : l ≡ m = one_label l m (turns m (a_point v)) g h (subst (Labelled l) e (labelled l w g a)) (labelled m v h b) in
+    let t : turns l (a_point w) ≡ turns l (a_point v) = e ∙ ap (λ (k : ℕ). turns k (a_point v)) (sym s) in
+    (s, distinct 256 a_point rule w v a b (turns-inj l (a_point w) (a_point v) t))
 
-pub symbols-apart : (u : ℕ) (c d : Symbol) → u ≤ 8 → Valid u c → Valid u d → firstPoint c ≡ firstPoint d → secondPoint c ≡ secondPoint d → c ≡ d
-unfolding firstPoint secondPoint lastLabel
+pub symbols-apart : (u : ℕ) (c d : Symbol) → u ≤ 8 → Valid u c → Valid u d → first_point c ≡ first_point d → second_point c ≡ second_point d → c ≡ d
+unfolding first_point second_point last_label
 symbols-apart u c d h p q e f =
     let k : 2 ^ u ≤ 256 = pow_mono h in
     let a =
-    points-apart (firstLabel c) (firstLabel d) c.w1 d.w1 (omega (arith, p.i2-below, p.i3-below)) (omega (arith, q.i2-below, q.i3-below))
+    points-apart (first_label c) (first_label d) c.w1 d.w1 (omega (arith, p.i2-below, p.i3-below)) (omega (arith, q.i2-below, q.i3-below))
     (omega (arith, p.w1-below)) (omega (arith, q.w1-below)) e in
     let b =
-    points-apart (lastLabel c) (lastLabel d) c.w2 d.w2 (second_below (firstLabel c) c.y0 c.i1) (second_below (firstLabel d) d.y0 d.i1)
+    points-apart (last_label c) (last_label d) c.w2 d.w2 (second_below (first_label c) c.y0 c.i1) (second_below (first_label d) d.y0 d.i1)
     (omega (arith, p.w2-below)) (omega (arith, q.w2-below)) f in
     labels_apart u u c d p q a.0 b.0 a.1 b.1

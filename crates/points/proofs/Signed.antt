@@ -10,10 +10,10 @@ use mir.Syntax.{Width}
 use mir.Val.{SFits, hbits, to_z, of_z}
 use mir.Facts.{to_z-of_z}
 
-pub natAbs-neg : (z : ℤ) → nat_abs (neg_ℤ z) ≡ nat_abs z
-natAbs-neg (pos zero) = refl
-natAbs-neg (pos (suc n)) = refl
-natAbs-neg (negsuc n) = refl
+pub nat_abs-neg : (z : ℤ) → nat_abs (neg_ℤ z) ≡ nat_abs z
+nat_abs-neg (pos zero) = refl
+nat_abs-neg (pos (suc n)) = refl
+nat_abs-neg (negsuc n) = refl
 
 pub neg-neg : (z : ℤ) → neg_ℤ (neg_ℤ z) ≡ z
 neg-neg (pos zero) = refl
@@ -32,7 +32,7 @@ module _ (w : Width) (z : ℤ) (h : nat_abs z < 2 ^ hbits w) where
   neg_is = ap (λ (v : ℤ). pos 0 -ℤ v) (reads w z h) ∙ +ℤ_idl (neg_ℤ z)
 
   pub neg-fits : SFits w (pos 0 -ℤ to_z w (of_z w z))
-  neg-fits = subst (SFits w) (sym neg_is) (fits w (neg_ℤ z) (omega (arith, natAbs-neg z)))
+  neg-fits = subst (SFits w) (sym neg_is) (fits w (neg_ℤ z) (omega (arith, nat_abs-neg z)))
 
   pub neg-reads : to_z w (of_z w (pos 0 -ℤ to_z w (of_z w z))) ≡ neg_ℤ z
   neg-reads = to_z-of_z neg-fits ∙ neg_is

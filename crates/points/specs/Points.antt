@@ -7,7 +7,7 @@
 --   Before p q    p stands before q in the order of the A points
 --   Rule f n      f 0, f 1, up to f (n - 1) are the first n A points: none is out of order and none is skipped
 --   coordinates   the table: x and y of each point in turn
---   aPoint w      the point number w of the table
+--   a_point w      the point number w of the table
 use Rattle.std.specs.Prelude.{ℕ, ◌+◌, ◌-◌, ◌*◌, ◌%◌, ◌<◌, ◌≡◌, ◌⊎◌, List, [], ◌∷◌, ℤ, pos, negsuc, neg_ℤ, nat_abs, ◌<ℤ◌, get_or}
 use Rattle.points.specs.declared.Point.{Point}
 
@@ -71,5 +71,5 @@ coordinates =
     neg 35 ∷ neg 3 ∷ neg 3 ∷ neg 35 ∷ pos 25 ∷ pos 25 ∷ neg 31 ∷ pos 17 ∷ neg 35 ∷ pos 5 ∷ pos 17 ∷ neg 31 ∷ pos 5 ∷ neg 35 ∷ pos 13 ∷ pos 33 ∷
     pos 33 ∷ pos 13 ∷ neg 27 ∷ neg 23 ∷ neg 23 ∷ neg 27 ∷ neg 35 ∷ neg 7 ∷ neg 7 ∷ neg 35 ∷ pos 21 ∷ pos 29 ∷ pos 29 ∷ pos 21 ∷ neg 35 ∷ pos 9 ∷ []
 
-unfoldable pub aPoint : ℕ → Point
-aPoint w = record { x = get_or coordinates (w * 2) (pos 0); y = get_or coordinates (w * 2 + 1) (pos 0) }
+unfoldable pub a_point : ℕ → Point
+a_point w = record { x = get_or coordinates (w * 2) (pos 0); y = get_or coordinates (w * 2 + 1) (pos 0) }

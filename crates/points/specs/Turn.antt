@@ -7,7 +7,7 @@
 --   Small p         no coordinate exceeds 39 in absolute value
 use Rattle.std.specs.Prelude.{ℕ, zero, suc, ◌≤◌, ◌≡◌, neg_ℤ, nat_abs}
 use Rattle.points.specs.declared.Point.{Point}
-use Rattle.points.specs.Points.{mod4, aPoint}
+use Rattle.points.specs.Points.{mod4, a_point}
 
 -- "A quarter turn clockwise takes (x, y) to (y, -x)"
 abbrev pub turned : Point → Point
@@ -19,23 +19,23 @@ turns (suc l) p = turned (turns l p)
 
 -- "The point with label l and number w is A point w turned clockwise l times"
 unfoldable pub point_of : ℕ → ℕ → Point
-point_of l w = turns l (aPoint w)
+point_of l w = turns l (a_point w)
 
 -- "Modulo 4 the pair (x, y) is (1,1) in A, (1,3) in C, (3,3) in B, (3,1) in D"
-abbrev pub remainderX : ℕ → ℕ
-remainderX zero = 1
-remainderX (suc zero) = 1
-remainderX (suc (suc n)) = 3
+abbrev pub remainder_x : ℕ → ℕ
+remainder_x zero = 1
+remainder_x (suc zero) = 1
+remainder_x (suc (suc n)) = 3
 
-abbrev pub remainderY : ℕ → ℕ
-remainderY zero = 1
-remainderY (suc zero) = 3
-remainderY (suc (suc zero)) = 3
-remainderY (suc (suc (suc n))) = 1
+abbrev pub remainder_y : ℕ → ℕ
+remainder_y zero = 1
+remainder_y (suc zero) = 3
+remainder_y (suc (suc zero)) = 3
+remainder_y (suc (suc (suc n))) = 1
 
 pub record Labelled (l : ℕ) (p : Point) : Type 0 where
-  pub x-is : mod4 p.x ≡ remainderX l
-  pub y-is : mod4 p.y ≡ remainderY l
+  pub x-is : mod4 p.x ≡ remainder_x l
+  pub y-is : mod4 p.y ≡ remainder_y l
 
 -- "No table coordinate exceeds 39 in absolute value"
 pub record Small (p : Point) : Type 0 where

@@ -6,8 +6,8 @@
 pub mod table;
 
 ghost use Rattle.std.specs.Prelude.{◌≡◌, ◌<◌};
-ghost use Rattle.points.specs.Agreed.{isAccord};
-ghost use Rattle.points.specs.Points.{coordinates, aPoint};
+ghost use Rattle.points.specs.Agreed.{is_accord};
+ghost use Rattle.points.specs.Points.{coordinates, a_point};
 ghost use Rattle.points.specs.Turn.{turned, point_of, Small};
 
 // Which points a line has.
@@ -26,7 +26,7 @@ pub struct Accord {
 
 // Whether there is such a line.
 pub fn is_accord(a: Accord) -> bool
-    ensures { result ≡ isAccord a }
+    ensures { result ≡ is_accord a }
 {
     let map = a.map;
     let u = a.u;
@@ -45,7 +45,7 @@ pub struct Point {
 // The A point number w.
 pub fn a_point(t: &[i8; 512], w: usize) -> Point
     requires { (t.now ≡ coordinates) × (w < 256) }
-    ensures { result ≡ aPoint w }
+    ensures { result ≡ a_point w }
 {
     let x = t[w * 2];
     let y = t[w * 2 + 1];

@@ -18,8 +18,8 @@ use lib.IntN.{ℤ, pos, negsuc, nat_abs, ℤ_discrete}
 use Rattle.points.specs.Points.{mod4}
 use Rattle.distance.specs.Distance.{difference, square}
 use Rattle.distance.proofs.Rests.{Spread, sum, first, second, spread}
-use Rattle.round_places.specs.Places.{standOf}
-use Rattle.round_columns.specs.Cells.{count_of, apartOf}
+use Rattle.round_places.specs.Places.{stand_of}
+use Rattle.round_columns.specs.Cells.{count_of, apart_of}
 use Rattle.round_columns.proofs.Counts.{away}
 
 abbrev pub margin : ℕ → ℕ
@@ -40,23 +40,23 @@ squares a b n h k s = go (256 - a) (omega arith) (omega arith)
         let y : a * c + a * a ≡ a * 256 = sym (mul-add a c a) ∙ ap (λ (m : ℕ). a * m) e in
         omega (arith, x, y, mul_comm a c, mul-le-mul l l)
 
-above : (a s t : ℕ) → s + 2 ≤ t → 256 ≤ apartOf a (128 * s) + apartOf a (128 * t)
+above : (a s t : ℕ) → s + 2 ≤ t → 256 ≤ apart_of a (128 * s) + apart_of a (128 * t)
 above a s t h = omega arith
 
-two-apart : (a s t : ℕ) → s % 2 ≡ 0 → t % 2 ≡ 0 → (s ≡ t → ⊥) → 256 ≤ apartOf a (128 * s) + apartOf a (128 * t)
+two-apart : (a s t : ℕ) → s % 2 ≡ 0 → t % 2 ≡ 0 → (s ≡ t → ⊥) → 256 ≤ apart_of a (128 * s) + apart_of a (128 * t)
 two-apart a s t e f n = go (dec_lt s t)
   where
-    go : Dec (s < t) → 256 ≤ apartOf a (128 * s) + apartOf a (128 * t)
+    go : Dec (s < t) → 256 ≤ apart_of a (128 * s) + apart_of a (128 * t)
     go (yes l) = above a s t (let z : s + 2 ≤ t = omega arith in z)
     go (no l) = omega (arith, above a t s (let z : t + 2 ≤ s = omega arith in z))
 
 -- ---- places
 
-stand-even : (c : ℤ) → Placed c → standOf c % 2 ≡ 0
+stand-even : (c : ℤ) → Placed c → stand_of c % 2 ≡ 0
 stand-even (pos n) p = let h = p.odd in let k = p.small in omega arith
 stand-even (negsuc n) p = let h = p.odd in let k = p.small in omega arith
 
-stand-only : (c d : ℤ) → Placed c → Placed d → standOf c ≡ standOf d → c ≡ d
+stand-only : (c d : ℤ) → Placed c → Placed d → stand_of c ≡ stand_of d → c ≡ d
 stand-only (pos a) (pos b) p q e = ap pos (omega arith)
 stand-only (pos a) (negsuc b) p q e = absurd (omega arith)
 stand-only (negsuc a) (pos b) p q e = absurd (omega arith)
@@ -76,7 +76,7 @@ module _ (n : ℕ) (k : n ≤ 127) (r c d : ℤ) (h : nat_abs (difference r c) �
       let g = near-in-range r c n h k p in
       let x = away r c g p.small in
       let y = away r d g q.small in
-      let z = two-apart (count_of r) (standOf c) (standOf d) (stand-even c p) (stand-even d q) (λ w. e (stand-only c d p q w)) in
+      let z = two-apart (count_of r) (stand_of c) (stand_of d) (stand-even c p) (stand-even d q) (λ w. e (stand-only c d p q w)) in
       squares (nat_abs (difference r c)) (nat_abs (difference r d)) n h k (omega (arith, x, y, z))
 
 abbrev pub unlike : ℕ → ℕ → ℕ

@@ -29,7 +29,7 @@ use Rattle.trellis.specs.Measure.{Two}
 use Rattle.nearest.specs.declared.Received.{Received}
 use Rattle.nearest.specs.Line.{BothInRange}
 use Rattle.calls.specs.Calls.{fresh}
-use Rattle.receiver_meaning.specs.Told.{Told, speakerOf, pendingAfter, judgeSymbol, Fine}
+use Rattle.receiver_meaning.specs.Told.{Told, speaker_of, pending_after, judge_symbol, Fine}
 use Rattle.reasons.specs.Reason.{Reason, reason, given_of}
 use Rattle.sender.specs.declared.Sender.{Sender}
 use Rattle.sender.specs.declared.Sent.{Sent}
@@ -53,7 +53,7 @@ pub use Rattle.reasons.proofs.Apart.{never-seven}
 use Rattle.receiver_meaning.specs.Piece.{Piece}
 use Rattle.receiver.specs.Doors.{Ran, stopped, hearing, finishing}
 use Rattle.promises.specs.End.{End}
-use Rattle.receiver_meaning.specs.Owed.{finishOwed}
+use Rattle.receiver_meaning.specs.Owed.{finish_owed}
 use Rattle.receiver.specs.Promise.{Hears, Finishes}
 use Rattle.promises.specs.Table as table
 use Rattle.promises.proofs.Listed.{list-case, list-is, list-behind, all-empty}
@@ -125,7 +125,7 @@ module _ (t : Told) (f : Fine t) (rx : Receiver) (m : rx ≡ machine_of t) (out 
 
   pub finishes : Finishes rx out r o → (k : ℕ) → ((given_of r.why).number ≡ k) ↔ table.FinishGives t (length out) k
   finishes p k =
-      let e : (given_of r.why).number ≡ (finishOwed t (length out)).reason.number = ap (λ (x : Reason). x.number) (p.owed t f m).given in
+      let e : (given_of r.why).number ≡ (finish_owed t (length out)).reason.number = ap (λ (x : Reason). x.number) (p.owed t f m).given in
       (λ z. subst (table.FinishGives t (length out)) (sym e ∙ z) (finish-case t (length out)), λ h. e ∙ finish-is t (length out) k h)
 
 -- no table of an open receiver has a 9
@@ -177,6 +177,6 @@ module _ (rx : Receiver) (e : End rx) (out : List ℕ) (r : Answer) (o : List �
 
 -- ---- no run is overlong
 
-pub however-many : (t : Told) (ys : List (Two Received)) (y : Two Received) (room : ℕ) → BothInRange y → pendingAfter t (y ∷ ys) ≤ t.window →
-    length (fresh (speakerOf t) ys y) ≤ room → judgeSymbol t ys y room ≡ reason 0
+pub however-many : (t : Told) (ys : List (Two Received)) (y : Two Received) (room : ℕ) → BothInRange y → pending_after t (y ∷ ys) ≤ t.window →
+    length (fresh (speaker_of t) ys y) ≤ room → judge_symbol t ys y room ≡ reason 0
 however-many t ys y room r h k = said-is t ys y room (reason 0) (table.SymbolGives.taken r h k)

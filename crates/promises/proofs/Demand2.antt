@@ -2,15 +2,15 @@
 -- 01's order; nothing else is. Round trip: a fresh sender's points for any list of accepted words, at 128 times their coordinates (and
 -- as floats through `samples`), into a fresh receiver of the same width with a free start or start 0 and any window, however cut into
 -- calls, none refused and the finish done, come back as the words sent." 02, Wish 5: "The clean round trip of demand 2 then excepts
--- these two bits with a free start": `asHeard` (trellis/specs/Words) clears bits 1 and 2 of the first word there, and changes nothing
--- with start 0. Wish 8: demand 2 "reads 'least sum of counted distances'", and the order of ties is its own: both are in `lineMeasure`
+-- these two bits with a free start": `as_heard` (trellis/specs/Words) clears bits 1 and 2 of the first word there, and changes nothing
+-- with start 0. Wish 8: demand 2 "reads 'least sum of counted distances'", and the order of ties is its own: both are in `line_measure`
 -- (nearest/specs/Line). And with no condition on refusals: "if the symbols taken are the first m of the sender's, the words written so far begin
 -- the words sent, and with a finish that succeeds they are the first m." Wish 11: the round trip "is for the same map at both ends": both
 -- have the one accord `ac`.
 --
 -- `Talk u w b took ws rx` and `Ended u w b took ws` (specs/Talk) are any runs of calls on a receiver, cut as they may be and whichever
 -- calls refuse; `sender.Talk u sent ps s` (sender/specs/Run) is any run of calls on a sender that accepted the words `sent` and wrote
--- the coordinates ps for them. `symbolsOf (allOnLine ps)` are these coordinates, 128 times, four to a symbol. Lists are in the order
+-- the coordinates ps for them. `symbols_of (all_on_line ps)` are these coordinates, 128 times, four to a symbol. Lists are in the order
 -- of time.
 --   least         after a finish that succeeded the words are those of the answer, and the answer is one
 --   any-cut       so neither the window nor the cut into calls matters
@@ -30,25 +30,25 @@ use Rattle.wei.specs.Symbol.{Symbol}
 use Rattle.trellis.specs.Code.{Path, symbols}
 use Rattle.trellis.specs.Best.{Answer}
 use Rattle.trellis.specs.Measure.{Two}
-use Rattle.trellis.specs.Same.{sameSymbol}
-use Rattle.trellis.specs.Pick.{weiSearch}
+use Rattle.trellis.specs.Same.{same_symbol}
+use Rattle.trellis.specs.Pick.{wei_search}
 use Rattle.trellis.proofs.Answer.{answer-only}
 use Rattle.trellis.proofs.Onward.{some-answer}
 use Rattle.trellis.proofs.WeiLaws.{wei-laws, wei-onward}
-use Rattle.trellis.specs.Words.{asHeard}
+use Rattle.trellis.specs.Words.{as_heard}
 use Rattle.nearest.specs.declared.Received.{Received}
 use Rattle.nearest.proofs.Laws.{line-chooses}
-use Rattle.nearest.specs.Line.{lineMeasure, lineChoice}
+use Rattle.nearest.specs.Line.{line_measure, line_choice}
 use Rattle.openings.specs.Opening.{Receiver}
 use Rattle.receiver_meaning.specs.Told.{code_of, words_of}
 use Rattle.openings.specs.declared.Start.{Start}
 use Rattle.openings.specs.Given.{start_of}
-use Rattle.receiver_meaning.specs.Piece.{symbolsOf}
+use Rattle.receiver_meaning.specs.Piece.{symbols_of}
 use Rattle.sender.specs.declared.Sender.{Sender}
 use Rattle.sender.specs.Run as sender
 use Rattle.sender.proofs.Run.{ran}
 use Rattle.promises.specs.Talk.{Talk, Ended}
-use Rattle.promises.specs.Clean.{allOnLine, floatsHeard, samplesAt, StartsAtZero}
+use Rattle.promises.specs.Clean.{all_on_line, floats_heard, samples_at, StartsAtZero}
 use Rattle.promises.proofs.Follows.{ended-fine, answers}
 use Rattle.promises.proofs.Demand3.{whole}
 use Rattle.promises.proofs.Clean.{floats, agreed-sent}
@@ -66,10 +66,10 @@ pub record LeastWords (ac : Accord) (b : Start) (took : List (Two Received)) (ws
 
 pub least : (ac : Accord) (w : ℕ) (b : Start) (took : List (Two Received)) (ws : List ℕ) → Ended ac w b took ws → LeastWords ac b took ws
 least ac w b took ws k =
-    let L = wei-laws ac.u (lineMeasure ac) (lineChoice ac) (line-chooses ac) sameSymbol (start_of b) in
+    let L = wei-laws ac.u (line_measure ac) (line_choice ac) (line-chooses ac) same_symbol (start_of b) in
     let (p, a) =
-    some-answer (weiSearch ac.u (lineMeasure ac) (lineChoice ac) sameSymbol (start_of b)) L
-    (wei-onward ac.u (lineMeasure ac) (start_of b) (ended-fine ac w b took ws k).good_start) (reverse took) in
+    some-answer (wei_search ac.u (line_measure ac) (line_choice ac) same_symbol (start_of b)) L
+    (wei-onward ac.u (line_measure ac) (start_of b) (ended-fine ac w b took ws k).good_start) (reverse took) in
     record {
       path = p;
       is-answer = a;
@@ -83,19 +83,19 @@ any-cut ac v w b took ws vs k l = answers ac v b took ws k ∙ sym (answers ac w
 -- ---- a clean line: noise of 0 units
 
 module _ (ac : Accord) (w : ℕ) (b : Start) (z : StartsAtZero b) (sent : List ℕ) (ps : List ℤ) (s : Sender) (k : sender.Talk ac sent ps s) where
-  pub round_trip : (ws : List ℕ) → Ended ac w b (symbolsOf (allOnLine ps)) ws → ws ≡ asHeard (start_of b) sent
+  pub round_trip : (ws : List ℕ) → Ended ac w b (symbols_of (all_on_line ps)) ws → ws ≡ as_heard (start_of b) sent
   round_trip ws h =
-      let rs = symbolsOf (allOnLine ps) in
+      let rs = symbols_of (all_on_line ps) in
       clean_back ac sent ps s k w b z (length rs) ws (subst (λ (l : List (Two Received)). Ended ac w b l ws) (sym (take_all (length rs) rs (omega arith))) h)
       ∙ noise.whole b sent (length rs) (clean-many ac sent ps s k)
 
-  pub begins : (m : ℕ) (ws : List ℕ) (rx : Receiver) → Talk ac w b (take m (symbolsOf (allOnLine ps))) ws rx → IsPrefix ws (asHeard (start_of b) sent)
+  pub begins : (m : ℕ) (ws : List ℕ) (rx : Receiver) → Talk ac w b (take m (symbols_of (all_on_line ps))) ws rx → IsPrefix ws (as_heard (start_of b) sent)
   begins = clean-begins ac sent ps s k w b z
 
-  pub first_back : (m : ℕ) (ws : List ℕ) → Ended ac w b (take m (symbolsOf (allOnLine ps))) ws → ws ≡ take m (asHeard (start_of b) sent)
+  pub first_back : (m : ℕ) (ws : List ℕ) → Ended ac w b (take m (symbols_of (all_on_line ps))) ws → ws ≡ take m (as_heard (start_of b) sent)
   first_back = clean_back ac sent ps s k w b z
 
-pub as_floats : (ac : Accord) (sent : List ℕ) (ps : List ℤ) (s : Sender) → sender.Talk ac sent ps s → floatsHeard ps ≡ samplesAt (allOnLine ps)
+pub as_floats : (ac : Accord) (sent : List ℕ) (ps : List ℤ) (s : Sender) → sender.Talk ac sent ps s → floats_heard ps ≡ samples_at (all_on_line ps)
 as_floats ac sent ps s k =
     let r = ran ac sent ps s k in
-    subst (λ (l : List ℤ). floatsHeard l ≡ samplesAt (allOnLine l)) (sym r.written) (floats ac 0 r.symbols (agreed-sent ac sent ps s k) r.allowed)
+    subst (λ (l : List ℤ). floats_heard l ≡ samples_at (all_on_line l)) (sym r.written) (floats ac 0 r.symbols (agreed-sent ac sent ps s k) r.allowed)

@@ -17,16 +17,16 @@ use Rattle.trellis.specs.Code.{Path, symbols}
 use Rattle.trellis.specs.Best.{Answer, Longest}
 use Rattle.trellis.specs.Measure.{Two, GoodStart}
 use Rattle.trellis.specs.Measure as measure
-use Rattle.trellis.specs.Same.{sameSymbol}
-use Rattle.trellis.specs.Pick.{weiSearch}
+use Rattle.trellis.specs.Same.{same_symbol}
+use Rattle.trellis.specs.Pick.{wei_search}
 use Rattle.trellis.proofs.Theorems.{T4, T4-only}
 use Rattle.trellis.proofs.WeiLaws.{wei-laws, wei-onward}
-use Rattle.trellis.specs.Said.{spokenWords}
+use Rattle.trellis.specs.Said.{spoken_words}
 use Rattle.trellis.proofs.Spoken as spoken
 use Rattle.wei.specs.Symbol.{Symbol}
 use Rattle.nearest.specs.declared.Received.{Received}
 use Rattle.nearest.proofs.Laws.{line-chooses}
-use Rattle.nearest.specs.Line.{lineMeasure, lineChoice}
+use Rattle.nearest.specs.Line.{line_measure, line_choice}
 use Rattle.openings.specs.Opening.{Receiver}
 use Rattle.openings.specs.declared.Start.{Start}
 use Rattle.openings.specs.Given.{start_of}
@@ -38,22 +38,22 @@ module _ (ac : Accord) (b : measure.Start) (g : GoodStart b) (took : List (Two R
   pub some-longest : (l : List Symbol) × Longest (code_of ac b) (reverse took) l
   some-longest = (
     _,
-    T4 (weiSearch ac.u (lineMeasure ac) (lineChoice ac) sameSymbol b) (wei-laws ac.u (lineMeasure ac) (lineChoice ac) (line-chooses ac) sameSymbol b)
-        (wei-onward ac.u (lineMeasure ac) b g) took,
+    T4 (wei_search ac.u (line_measure ac) (line_choice ac) same_symbol b) (wei-laws ac.u (line_measure ac) (line_choice ac) (line-chooses ac) same_symbol b)
+        (wei-onward ac.u (line_measure ac) b g) took,
   )
 
   pub one-longest : (l m : List Symbol) → Longest (code_of ac b) (reverse took) l → Longest (code_of ac b) (reverse took) m → l ≡ m
   one-longest l m h k =
       let only =
-      T4-only (weiSearch ac.u (lineMeasure ac) (lineChoice ac) sameSymbol b) (wei-laws ac.u (lineMeasure ac) (lineChoice ac) (line-chooses ac) sameSymbol b)
-      (wei-onward ac.u (lineMeasure ac) b g) took in
+      T4-only (wei_search ac.u (line_measure ac) (line_choice ac) same_symbol b) (wei-laws ac.u (line_measure ac) (line_choice ac) (line-chooses ac) same_symbol b)
+      (wei-onward ac.u (line_measure ac) b g) took in
       only l h ∙ sym (only m k)
 
 module _ (ac : Accord) (w : ℕ) (b : Start) (took : List (Two Received)) (ws : List ℕ) where
   pub exact : (rx : Receiver) → Talk ac w b took ws rx → (l : List Symbol) → Longest (code_of ac (start_of b)) (reverse took) l → ws ≡ words_of ac (start_of b) l
   exact rx k l h =
       let f = follows ac w b took ws rx k in
-      f.said ∙ spoken.spoken-longest ac.u (lineMeasure ac) (lineChoice ac) (line-chooses ac) (start_of b) f.fine.good_start took l h
+      f.said ∙ spoken.spoken-longest ac.u (line_measure ac) (line_choice ac) (line-chooses ac) (start_of b) f.fine.good_start took l h
 
   pub final : (rx : Receiver) → Talk ac w b took ws rx → (zs : List (Two Received)) (p : Path Symbol) → Answer (code_of ac (start_of b)) (reverse (took ++ zs)) p →
       IsPrefix ws (words_of ac (start_of b) (symbols p))
@@ -61,11 +61,11 @@ module _ (ac : Accord) (w : ℕ) (b : Start) (took : List (Two Received)) (ws : 
       let f = follows ac w b took ws rx k in
       let g = f.fine.good_start in
       rw f.said
-      (subst (IsPrefix (spokenWords ac.u (lineMeasure ac) (lineChoice ac) (start_of b) (reverse took)))
-      (spoken.answer-words ac.u (lineMeasure ac) (lineChoice ac) (line-chooses ac) (start_of b) g (took ++ zs) p a)
-      (spoken.spoken-answer ac.u (lineMeasure ac) (lineChoice ac) (line-chooses ac) (start_of b) g took zs))
+      (subst (IsPrefix (spoken_words ac.u (line_measure ac) (line_choice ac) (start_of b) (reverse took)))
+      (spoken.answer-words ac.u (line_measure ac) (line_choice ac) (line-chooses ac) (start_of b) g (took ++ zs) p a)
+      (spoken.spoken-answer ac.u (line_measure ac) (line_choice ac) (line-chooses ac) (start_of b) g took zs))
 
   pub whole : Ended ac w b took ws → (p : Path Symbol) → Answer (code_of ac (start_of b)) (reverse took) p → ws ≡ words_of ac (start_of b) (symbols p)
   whole k p a =
       answers ac w b took ws k
-      ∙ spoken.answer-words ac.u (lineMeasure ac) (lineChoice ac) (line-chooses ac) (start_of b) (start-of ac w b took ws k) took p a
+      ∙ spoken.answer-words ac.u (line_measure ac) (line_choice ac) (line-chooses ac) (start_of b) (start-of ac w b took ws k) took p a

@@ -6,7 +6,7 @@ use mathlib.Core.Path.{◌≡◌, ap, ◌∙◌}
 use mathlib.Core.Bool.{Bool, true, false, cond}
 use mathlib.Core.Logic.{◌⊎◌, inl, inr, ⊎_elim}
 use Rattle.receiver_meaning.specs.Told.{Told, Fine}
-use Rattle.receiver_meaning.specs.Owed.{pieceOwed, finishOwed}
+use Rattle.receiver_meaning.specs.Owed.{piece_owed, finish_owed}
 use Rattle.openings.specs.Opening.{Receiver, shut, machine_of}
 use Rattle.openings.proofs.Openings.{opened-end, told-live}
 use Rattle.receiver.specs.Doors.{Ran, hearing, finishing}
@@ -27,12 +27,12 @@ end_known rx (fresh ac w b) = ⊎_elim (λ z. inl z) (λ z. let (t, f, e) = z in
 end_known rx (heard {rx = q} e p room) =
     ⊎_elim
     (λ (z : q ≡ shut). inl (ap (λ (k : Receiver). (hearing k p room).receiver) z ∙ ap (λ (r : Ran). r.receiver) (shut-hears p room)))
-    (λ k. let d = hearing-owes k.told k.fine p room in inr (known (pieceOwed k.told p room).told d.fine rx (ap (λ (q : Receiver). (hearing q p room).receiver) k.machine ∙ d.receiver)))
+    (λ k. let d = hearing-owes k.told k.fine p room in inr (known (piece_owed k.told p room).told d.fine rx (ap (λ (q : Receiver). (hearing q p room).receiver) k.machine ∙ d.receiver)))
     (end_known q e)
 end_known rx (finished {rx = q} e room) =
     ⊎_elim
     (λ (z : q ≡ shut). inl (ap (λ (k : Receiver). (finishing k room).receiver) z ∙ ap (λ (r : Ran). r.receiver) (shut-finishes room)))
-    (λ k. go k.told k.fine (finishOwed k.told room).closes (ap (λ (q : Receiver). (finishing q room).receiver) k.machine ∙ (finishing-owes k.told k.fine room).receiver))
+    (λ k. go k.told k.fine (finish_owed k.told room).closes (ap (λ (q : Receiver). (finishing q room).receiver) k.machine ∙ (finishing-owes k.told k.fine room).receiver))
     (end_known q e)
   where
     go : (t : Told) → Fine t → (b : Bool) → (finishing q room).receiver ≡ cond b shut (machine_of t) → ((finishing q room).receiver ≡ shut) ⊎ Known (finishing q room).receiver

@@ -24,14 +24,14 @@ use Rattle.points.specs.declared.Accord.{Accord}
 use Rattle.trellis.specs.Code.{Path, symbols}
 use Rattle.trellis.specs.Best.{Answer as IsAnswer, Longest}
 use Rattle.trellis.specs.Measure.{Two}
-use Rattle.trellis.specs.Words.{asHeard}
+use Rattle.trellis.specs.Words.{as_heard}
 use Rattle.nearest.specs.declared.Received.{Received}
 use Rattle.machine.specs.Machine.{Outcome, refused, sound}
 use Rattle.reasons.specs.declared.Why.{Why}
 use Rattle.reasons.specs.declared.Why.TheVariants.{Done, NoRoom, Closed, Uneven}
-use Rattle.reasons.specs.Reason.{Reason, given_of, isDone}
+use Rattle.reasons.specs.Reason.{Reason, given_of, is_done}
 use Rattle.receiver_meaning.specs.Told.{code_of, words_of}
-use Rattle.receiver_meaning.specs.Piece.{Piece, symbolsOf}
+use Rattle.receiver_meaning.specs.Piece.{Piece, symbols_of}
 use Rattle.openings.specs.declared.Start.{Start}
 use Rattle.openings.specs.Given.{start_of}
 use Rattle.openings.specs.Opening.{Receiver}
@@ -40,24 +40,24 @@ use Rattle.receiver.specs.Doors as doors
 use Rattle.receiver.specs.Promise as receiver
 use Rattle.receiver.proofs.Doors as kept
 use Rattle.records.specs.Values.{Entry, bytes_of}
-use Rattle.record_write.specs.Front.{symbolRecords, finishRecords, space_of}
-use Rattle.recorder.specs.Taping.{tapedAt, taping}
+use Rattle.record_write.specs.Front.{symbol_records, finish_records, space_of}
+use Rattle.recorder.specs.Taping.{taped_at, taping}
 use Rattle.recorder.specs.Taping as tape
 use Rattle.recorder.specs.declared.Taped.{Taped}
-use Rattle.recorder.specs.Doors.{tapedHearing, tapedFinishing}
+use Rattle.recorder.specs.Doors.{taped_hearing, taped_finishing}
 use Rattle.recorder.specs.Doors as recorder
-use Rattle.recorder.specs.Recorded.{pieceRecorded, finishRecorded}
+use Rattle.recorder.specs.Recorded.{piece_recorded, finish_recorded}
 use Rattle.recorder.specs.Promise.{Is}
 use Rattle.recorder.proofs.Owes as owes
-use Rattle.c_layout.specs.Layout.{receiverLength}
-use Rattle.c_states.specs.State.{receiverIn, wordsOfReceiver}
-use Rattle.c_samples.specs.Counts.{toldOf}
+use Rattle.c_layout.specs.Layout.{receiver_length}
+use Rattle.c_states.specs.State.{receiver_in, words_of_receiver}
+use Rattle.c_samples.specs.Counts.{told_of}
 use Rattle.c_recorder.specs.Calls as taped
 use Rattle.c_recorder.specs.Promise.{Records}
-use Rattle.demfizagu.specs.Calls.{hearCall, finishCall}
+use Rattle.demfizagu.specs.Calls.{hear_call, finish_call}
 use Rattle.demfizagu.specs.Promise as library
 use Rattle.promises.specs.Talk as talk
-use Rattle.promises.specs.Clean.{allOnLine, StartsAtZero}
+use Rattle.promises.specs.Clean.{all_on_line, StartsAtZero}
 use Rattle.promises.specs.End.{End}
 use Rattle.promises.specs.End as end
 use Rattle.promises.specs.Library.{taken, written, LibraryHears, LibraryEnded}
@@ -73,15 +73,15 @@ use Rattle.promises.proofs.Library as demands
 abbrev pub first_of : ℕ → Piece → Piece
 first_of m p = record { fits = true; symbols = take m p.symbols }
 
-not_done : (w : Why) → isDone w ≡ false → isDone w ≡ true → ⊥
+not_done : (w : Why) → is_done w ≡ false → is_done w ≡ true → ⊥
 not_done w e f = let z : ◌≡◌ {A = ℕ} 0 1 = cc in omega arith
 
 -- a symbol that was recorded went as the receiver says
-taped-as : (rx : Receiver) (y : Two Received) (room bytes : ℕ) → isDone (tapedAt rx y room bytes).why ≡ true → tapedAt rx y room bytes ≡ symbol_at rx y room
-unfolding tapedAt
-taped-as rx y room bytes = go (isDone (symbol_at rx y room).why && ltb bytes (space_of (symbolRecords y (symbol_at rx y room).words)))
+taped-as : (rx : Receiver) (y : Two Received) (room bytes : ℕ) → is_done (taped_at rx y room bytes).why ≡ true → taped_at rx y room bytes ≡ symbol_at rx y room
+unfolding taped_at
+taped-as rx y room bytes = go (is_done (symbol_at rx y room).why && ltb bytes (space_of (symbol_records y (symbol_at rx y room).words)))
   where
-    go : (b : Bool) → isDone (cond b (refused rx NoRoom) (symbol_at rx y room)).why ≡ true → cond b (refused rx NoRoom) (symbol_at rx y room) ≡ symbol_at rx y room
+    go : (b : Bool) → is_done (cond b (refused rx NoRoom) (symbol_at rx y room)).why ≡ true → cond b (refused rx NoRoom) (symbol_at rx y room) ≡ symbol_at rx y room
     go true e = absurd (not_done NoRoom refl e)
     go false e = refl
 
@@ -93,25 +93,25 @@ record RunsAs (zs : List (Two Received)) (rx : Receiver) (n : ℕ) (ws : List �
 
 module _ (y : Two Received) (zs : List (Two Received)) (rx : Receiver) (n : ℕ) (ws : List ℕ) (rs : List Entry) (room bytes : ℕ) where
   abbrev o : Outcome
-  o = tapedAt rx y (room - length ws) (bytes - space_of rs)
+  o = taped_at rx y (room - length ws) (bytes - space_of rs)
 
   abbrev further : tape.Ran
-  further = taping zs o.receiver (n + 1) (ws ++ o.words) (rs ++ symbolRecords y o.words) room bytes
+  further = taping zs o.receiver (n + 1) (ws ++ o.words) (rs ++ symbol_records y o.words) room bytes
 
   abbrev halted : tape.Ran
   halted = record { receiver = rx; taken = n; words = ws; records = rs; why = o.why }
 
-  abbrev goesOn : ℕ → Outcome → doors.Ran
-  goesOn m q =
-      cond (isDone q.why) (running (take m zs) q.receiver (n + 1) (ws ++ q.words) room) (record { receiver = rx; taken = n; words = ws; why = q.why })
+  abbrev goes_on : ℕ → Outcome → doors.Ran
+  goes_on m q =
+      cond (is_done q.why) (running (take m zs) q.receiver (n + 1) (ws ++ q.words) room) (record { receiver = rx; taken = n; words = ws; why = q.why })
 
-  one_more : (b : Bool) → isDone o.why ≡ b → RunsAs zs o.receiver (n + 1) (ws ++ o.words) room further → RunsAs (y ∷ zs) rx n ws room (cond b further halted)
+  one_more : (b : Bool) → is_done o.why ≡ b → RunsAs zs o.receiver (n + 1) (ws ++ o.words) room further → RunsAs (y ∷ zs) rx n ws room (cond b further halted)
   unfolding running
   one_more true e r =
       record {
         more = suc r.more;
         count = omega (arith, r.count);
-        runs = ap (goesOn r.more) (sym (taped-as rx y (room - length ws) (bytes - space_of rs) e)) ∙ rw e r.runs;
+        runs = ap (goes_on r.more) (sym (taped-as rx y (room - length ws) (bytes - space_of rs) e)) ∙ rw e r.runs;
       }
   one_more false e r = record { more = 0; count = sym (add-zero n); runs = refl }
 
@@ -119,16 +119,16 @@ runs_as : (zs : List (Two Received)) (rx : Receiver) (n : ℕ) (ws : List ℕ) (
 unfolding taping running
 runs_as [] rx n ws rs room bytes = record { more = 0; count = sym (add-zero n); runs = refl }
 runs_as (y ∷ zs) rx n ws rs room bytes =
-    let q = tapedAt rx y (room - length ws) (bytes - space_of rs) in
-    one_more y zs rx n ws rs room bytes (isDone q.why) refl (runs_as zs q.receiver (n + 1) (ws ++ q.words) (rs ++ symbolRecords y q.words) room bytes)
+    let q = taped_at rx y (room - length ws) (bytes - space_of rs) in
+    one_more y zs rx n ws rs room bytes (is_done q.why) refl (runs_as zs q.receiver (n + 1) (ws ++ q.words) (rs ++ symbol_records y q.words) room bytes)
 
 pub record Alike (h : doors.Ran) (t : tape.Ran) : Type 0 where
   pub receiver : h.receiver ≡ t.receiver
   pub taken : h.taken ≡ t.taken
   pub words : h.words ≡ t.words
 
-pub heard-as : (rx : Receiver) (p : Piece) (room bytes : ℕ) → let t = tapedHearing rx p room bytes in Alike (doors.hearing rx (first_of t.taken p) room) t
-unfolding tapedHearing doors.hearing running
+pub heard-as : (rx : Receiver) (p : Piece) (room bytes : ℕ) → let t = taped_hearing rx p room bytes in Alike (doors.hearing rx (first_of t.taken p) room) t
+unfolding taped_hearing doors.hearing running
 heard-as rx p room bytes = go (sound rx) p.fits
   where
     go : (a b : Bool) → let t = cond a (cond b (taping p.symbols rx 0 [] [] room bytes) (recorder.stopped rx Uneven)) (recorder.stopped rx Closed) in
@@ -150,28 +150,28 @@ module _ (rx : Receiver) (room bytes : ℕ) where
   h = doors.finishing rx room
 
   abbrev t : tape.Ran
-  t = tapedFinishing rx room bytes
+  t = taped_finishing rx room bytes
 
   abbrev made : Bool → Bool → tape.Ran
   made a b =
-      cond a (cond b (recorder.stopped rx NoRoom) (record { receiver = h.receiver; taken = 0; words = h.words; records = finishRecords h.words; why = Done }))
+      cond a (cond b (recorder.stopped rx NoRoom) (record { receiver = h.receiver; taken = 0; words = h.words; records = finish_records h.words; why = Done }))
       (recorder.stopped rx h.why)
 
-  zero-done : (w : Why) → (given_of w).number ≡ 0 → isDone w ≡ true
+  zero-done : (w : Why) → (given_of w).number ≡ 0 → is_done w ≡ true
   zero-done w e = eq-eqb (given_of w).number 0 e
 
   pub finish-done : (given_of t.why).number ≡ 0 → ((given_of h.why).number ≡ 0) × (h.receiver ≡ t.receiver) × (h.words ≡ t.words)
-  unfolding tapedFinishing
-  finish-done = go (isDone h.why) (ltb bytes (space_of (finishRecords h.words))) refl
+  unfolding taped_finishing
+  finish-done = go (is_done h.why) (ltb bytes (space_of (finish_records h.words))) refl
     where
-      go : (a b : Bool) → isDone h.why ≡ a → (given_of (made a b).why).number ≡ 0 → ((given_of h.why).number ≡ 0) × (h.receiver ≡ (made a b).receiver) × (h.words ≡ (made a b).words)
+      go : (a b : Bool) → is_done h.why ≡ a → (given_of (made a b).why).number ≡ 0 → ((given_of h.why).number ≡ 0) × (h.receiver ≡ (made a b).receiver) × (h.words ≡ (made a b).words)
       go true true e z = absurd (omega arith)
       go true false e z = (eqb-true (given_of h.why).number 0 e, refl, refl)
       go false b e z = absurd (not_done h.why e (zero-done h.why z))
 
   pub finish-kept : ((given_of t.why).number ≡ 0 → ⊥) → (t.receiver ≡ rx) × (t.words ≡ [])
-  unfolding tapedFinishing
-  finish-kept = go (isDone h.why) (ltb bytes (space_of (finishRecords h.words)))
+  unfolding taped_finishing
+  finish-kept = go (is_done h.why) (ltb bytes (space_of (finish_records h.words)))
     where
       go : (a b : Bool) → ((given_of (made a b).why).number ≡ 0 → ⊥) → ((made a b).receiver ≡ rx) × ((made a b).words ≡ [])
       go true true z = (refl, refl)
@@ -192,7 +192,7 @@ module _ (k : Accord) (w : ℕ) (b : Start) where
   step : {took zs : List (Two Received)} {ws vs : List ℕ} {rx rx' : Receiver} → talk.Talk k w b took ws rx → Called rx zs vs rx' → talk.Talk k w b (took ++ zs) (ws ++ vs) rx'
   step x (Called.hears p out o r is) = talk.hears x p out o r is
   step {took = took} {ws = ws} {rx = rx} x (Called.tapes p out bytes o b' r is) =
-      let t = tapedHearing rx p (length out) (length bytes) in
+      let t = taped_hearing rx p (length out) (length bytes) in
       let q = first_of t.taken p in
       let h = doors.hearing rx q (length out) in
       let a = heard-as rx p (length out) (length bytes) in
@@ -227,18 +227,18 @@ end-plainly (AnyEnd.fresh k w b) = end.fresh k w b
 end-plainly (AnyEnd.heard e p room) = end.heard (end-plainly e) p room
 end-plainly (AnyEnd.finished e room) = end.finished (end-plainly e) room
 end-plainly (AnyEnd.taped-heard {rx = rx} e p room bytes) =
-    subst End (heard-as rx p room bytes).receiver (end.heard (end-plainly e) (first_of (tapedHearing rx p room bytes).taken p) room)
-end-plainly (AnyEnd.taped-finished {rx = rx} e room bytes) = go (end-plainly e) (eqb (given_of (tapedFinishing rx room bytes).why).number 0) refl
+    subst End (heard-as rx p room bytes).receiver (end.heard (end-plainly e) (first_of (taped_hearing rx p room bytes).taken p) room)
+end-plainly (AnyEnd.taped-finished {rx = rx} e room bytes) = go (end-plainly e) (eqb (given_of (taped_finishing rx room bytes).why).number 0) refl
   where
-    go : End rx → (b : Bool) → eqb (given_of (tapedFinishing rx room bytes).why).number 0 ≡ b → End (tapedFinishing rx room bytes).receiver
-    go x true z = subst End (finish-done rx room bytes (eqb-true (given_of (tapedFinishing rx room bytes).why).number 0 z)).1 (end.finished x room)
-    go x false z = subst End (sym (finish-kept rx room bytes (eqb-false (given_of (tapedFinishing rx room bytes).why).number 0 z)).0) x
+    go : End rx → (b : Bool) → eqb (given_of (taped_finishing rx room bytes).why).number 0 ≡ b → End (taped_finishing rx room bytes).receiver
+    go x true z = subst End (finish-done rx room bytes (eqb-true (given_of (taped_finishing rx room bytes).why).number 0 z)).1 (end.finished x room)
+    go x false z = subst End (sym (finish-kept rx room bytes (eqb-false (given_of (taped_finishing rx room bytes).why).number 0 z)).0) x
 
 -- ---- what a recorded call of the library answers
 
 record Answered (r : tape.Ran) (out : List ℕ) (n : ℕ) (state o told : List ℕ) : Type 0 where
   number : n ≡ (given_of r.why).number
-  reads : receiverIn state ≡ r.receiver
+  reads : receiver_in state ≡ r.receiver
   out-is : o ≡ r.words ++ drop (length r.words) out
   taken_is : taken told ≡ r.taken
   written_is : written told ≡ length r.words
@@ -259,35 +259,35 @@ answered c changed r state out bytes told e n state' o b told' a =
 
 module _ (state out bytes told : List ℕ) (n : ℕ) (state' o b told' : List ℕ) where
   abbrev heard : Piece → tape.Ran
-  heard piece = tapedHearing (receiverIn state) piece (length out) (length bytes)
+  heard piece = taped_hearing (receiver_in state) piece (length out) (length bytes)
 
   abbrev finished : tape.Ran
-  finished = tapedFinishing (receiverIn state) (length out) (length bytes)
+  finished = taped_finishing (receiver_in state) (length out) (length bytes)
 
-  heard-by : 4 ≤ length told → (piece : Piece) → Records (taped.hearCall state piece out bytes told) n state' o b told' →
-      Answered (heard piece) out n state' o told' × (state' ≡ cond (ltb 0 (heard piece).taken) (wordsOfReceiver (heard piece).receiver ++ drop receiverLength state) state)
-  unfolding taped.hearCall
+  heard-by : 4 ≤ length told → (piece : Piece) → Records (taped.hear_call state piece out bytes told) n state' o b told' →
+      Answered (heard piece) out n state' o told' × (state' ≡ cond (ltb 0 (heard piece).taken) (words_of_receiver (heard piece).receiver ++ drop receiver_length state) state)
+  unfolding taped.hear_call
   heard-by long piece a =
-      let e : taped.hearCall state piece out bytes told ≡ taped.call_of (ltb 0 (heard piece).taken) (heard piece) state out bytes told = rw (le-ltb (length told) 4 long) in (
-        answered (taped.hearCall state piece out bytes told) (ltb 0 (heard piece).taken) (heard piece) state out bytes told e n state' o b told' a,
+      let e : taped.hear_call state piece out bytes told ≡ taped.call_of (ltb 0 (heard piece).taken) (heard piece) state out bytes told = rw (le-ltb (length told) 4 long) in (
+        answered (taped.hear_call state piece out bytes told) (ltb 0 (heard piece).taken) (heard piece) state out bytes told e n state' o b told' a,
         a.state-is ∙ ap (λ (x : taped.Call). x.state) e,
       )
 
-  ended_by : 4 ≤ length told → Records (taped.finishCall state out bytes told) n state' o b told' →
-      Answered finished out n state' o told' × (state' ≡ cond (eqb (given_of finished.why).number 0) (wordsOfReceiver finished.receiver ++ drop receiverLength state) state)
-  unfolding taped.finishCall
+  ended_by : 4 ≤ length told → Records (taped.finish_call state out bytes told) n state' o b told' →
+      Answered finished out n state' o told' × (state' ≡ cond (eqb (given_of finished.why).number 0) (words_of_receiver finished.receiver ++ drop receiver_length state) state)
+  unfolding taped.finish_call
   ended_by long a =
-      let e : taped.finishCall state out bytes told ≡ taped.call_of (eqb (given_of finished.why).number 0) finished state out bytes told = rw (le-ltb (length told) 4 long) in (
-        answered (taped.finishCall state out bytes told) (eqb (given_of finished.why).number 0) finished state out bytes told e n state' o b told' a,
+      let e : taped.finish_call state out bytes told ≡ taped.call_of (eqb (given_of finished.why).number 0) finished state out bytes told = rw (le-ltb (length told) 4 long) in (
+        answered (taped.finish_call state out bytes told) (eqb (given_of finished.why).number 0) finished state out bytes told e n state' o b told' a,
         a.state-is ∙ ap (λ (x : taped.Call). x.state) e,
       )
 
-  untold : length told < 4 → (piece : Piece) → Records (taped.hearCall state piece out bytes told) n state' o b told' → receiverIn state' ≡ receiverIn state
-  unfolding taped.hearCall
+  untold : length told < 4 → (piece : Piece) → Records (taped.hear_call state piece out bytes told) n state' o b told' → receiver_in state' ≡ receiver_in state
+  unfolding taped.hear_call
   untold few piece a = a.reads ∙ rw (lt-ltb (length told) 4 few)
 
-  untold-finish : length told < 4 → Records (taped.finishCall state out bytes told) n state' o b told' → receiverIn state' ≡ receiverIn state
-  unfolding taped.finishCall
+  untold-finish : length told < 4 → Records (taped.finish_call state out bytes told) n state' o b told' → receiver_in state' ≡ receiver_in state
+  unfolding taped.finish_call
   untold-finish few a = a.reads ∙ rw (lt-ltb (length told) 4 few)
 
 -- ---- the plain call that does the same
@@ -296,32 +296,32 @@ module _ (state out bytes told : List ℕ) (n : ℕ) (state' o b told' : List �
 abbrev three : List ℕ
 three = 0 ∷ 0 ∷ 0 ∷ []
 
-abbrev threeOf : doors.Ran → List ℕ
-threeOf r = r.taken ∷ length r.words ∷ (given_of r.why).place ∷ []
+abbrev three_of : doors.Ran → List ℕ
+three_of r = r.taken ∷ length r.words ∷ (given_of r.why).place ∷ []
 
 module _ (state out state' o : List ℕ) where
-  as-heard : (piece : Piece) (t : tape.Ran) → let h = doors.hearing (receiverIn state) piece (length out) in
-      Alike h t → receiverIn state' ≡ t.receiver → state' ≡ cond (ltb 0 t.taken) (wordsOfReceiver t.receiver ++ drop receiverLength state) state →
-      o ≡ t.words ++ drop (length t.words) out → library.Answers (hearCall state piece out three) (given_of h.why).number state' o (threeOf h)
-  unfolding hearCall toldOf
+  as-heard : (piece : Piece) (t : tape.Ran) → let h = doors.hearing (receiver_in state) piece (length out) in
+      Alike h t → receiver_in state' ≡ t.receiver → state' ≡ cond (ltb 0 t.taken) (words_of_receiver t.receiver ++ drop receiver_length state) state →
+      o ≡ t.words ++ drop (length t.words) out → library.Answers (hear_call state piece out three) (given_of h.why).number state' o (three_of h)
+  unfolding hear_call told_of
   as-heard piece t a r s e =
       record {
         number = refl;
-        state-is = s ∙ (λ i. cond (ltb 0 (sym a.taken i)) (wordsOfReceiver (sym a.receiver i) ++ drop receiverLength state) state);
+        state-is = s ∙ (λ i. cond (ltb 0 (sym a.taken i)) (words_of_receiver (sym a.receiver i) ++ drop receiver_length state) state);
         reads = r ∙ sym a.receiver;
         out-is = e ∙ ap (λ (l : List ℕ). l ++ drop (length l) out) (sym a.words);
         told_is = refl;
       }
 
-  as-ended : (t : tape.Ran) → let h = doors.finishing (receiverIn state) (length out) in
-      (given_of h.why).number ≡ 0 → (given_of t.why).number ≡ 0 → h.receiver ≡ t.receiver → h.words ≡ t.words → receiverIn state' ≡ t.receiver →
-      state' ≡ cond (eqb (given_of t.why).number 0) (wordsOfReceiver t.receiver ++ drop receiverLength state) state →
-      o ≡ t.words ++ drop (length t.words) out → library.Answers (finishCall state out three) (given_of h.why).number state' o (threeOf h)
-  unfolding finishCall toldOf
+  as-ended : (t : tape.Ran) → let h = doors.finishing (receiver_in state) (length out) in
+      (given_of h.why).number ≡ 0 → (given_of t.why).number ≡ 0 → h.receiver ≡ t.receiver → h.words ≡ t.words → receiver_in state' ≡ t.receiver →
+      state' ≡ cond (eqb (given_of t.why).number 0) (words_of_receiver t.receiver ++ drop receiver_length state) state →
+      o ≡ t.words ++ drop (length t.words) out → library.Answers (finish_call state out three) (given_of h.why).number state' o (three_of h)
+  unfolding finish_call told_of
   as-ended t z z' f g r s e =
       record {
         number = refl;
-        state-is = s ∙ (λ i. cond (eqb ((z' ∙ sym z) i) 0) (wordsOfReceiver (sym f i) ++ drop receiverLength state) state);
+        state-is = s ∙ (λ i. cond (eqb ((z' ∙ sym z) i) 0) (words_of_receiver (sym f i) ++ drop receiver_length state) state);
         reads = r ∙ sym f;
         out-is = e ∙ ap (λ (l : List ℕ). l ++ drop (length l) out) (sym g);
         told_is = refl;
@@ -334,7 +334,7 @@ module _ (k : Accord) (w : ℕ) (b : Start) where
       LibraryHears k w b (took ++ zs) (ws ++ vs) state → LibraryHears k w b (took ++ zs') (ws ++ vs') state
   lib-moved took ws {state = state} e f x = subst (λ l. l) (λ i. LibraryHears k w b (took ++ e i) (ws ++ f i) state) x
 
-  lib-idle : {took : List (Two Received)} {ws state : List ℕ} (state' vs : List ℕ) → vs ≡ [] → receiverIn state' ≡ receiverIn state → LibraryHears k w b took ws state →
+  lib-idle : {took : List (Two Received)} {ws state : List ℕ} (state' vs : List ℕ) → vs ≡ [] → receiver_in state' ≡ receiver_in state → LibraryHears k w b took ws state →
       LibraryHears k w b (took ++ []) (ws ++ vs) state'
   lib-idle {took = took} {ws = ws} state' vs e f x = rw (e, append-nil took, append-nil ws) (plain.copied x state' f)
 
@@ -343,19 +343,19 @@ module _ (k : Accord) (w : ℕ) (b : Start) where
   lib-step x (LibraryCalled.hears piece out told long n s' o told' a) = plain.hears x piece out told long n s' o told' a
   lib-step {took = took} {ws = ws} {state = state} x (LibraryCalled.tapes piece out bytes told long n s' o b' told' a) =
       let d = heard-by state out bytes told n s' o b' told' long piece a in
-      let t = tapedHearing (receiverIn state) piece (length out) (length bytes) in
+      let t = taped_hearing (receiver_in state) piece (length out) (length bytes) in
       let q = first_of t.taken piece in
-      let h = doors.hearing (receiverIn state) q (length out) in
-      let e = heard-as (receiverIn state) piece (length out) (length bytes) in
+      let h = doors.hearing (receiver_in state) q (length out) in
+      let e = heard-as (receiver_in state) piece (length out) (length bytes) in
       lib-moved took ws
       (ap (λ (i : ℕ). take i (take t.taken piece.symbols)) e.taken ∙ take-take t.taken t.taken piece.symbols (omega arith)
       ∙ ap (λ (i : ℕ). take i piece.symbols) (sym d.0.taken_is))
       (ap (λ (l : List ℕ). take (length l) o) e.words ∙ ap (λ (i : ℕ). take i o) (sym d.0.written_is))
-      (plain.hears x q out three (omega arith) (given_of h.why).number s' o (threeOf h) (as-heard state out s' o q t e d.0.reads d.1 d.0.out-is))
+      (plain.hears x q out three (omega arith) (given_of h.why).number s' o (three_of h) (as-heard state out s' o q t e d.0.reads d.1 d.0.out-is))
   lib-step {took = took} x (LibraryCalled.refuses out told long n s' o told' a z) = rw (append-nil took) (plain.refuses x out told long n s' o told' a z)
   lib-step {state = state} x (LibraryCalled.tape-refuses out bytes told long n s' o b' told' a z) =
       let d = ended_by state out bytes told n s' o b' told' long a in
-      let f = finish-kept (receiverIn state) (length out) (length bytes) (λ e. z (d.0.number ∙ e)) in
+      let f = finish-kept (receiver_in state) (length out) (length bytes) (λ e. z (d.0.number ∙ e)) in
       lib-idle s' (take (written told') o) (ap (λ (i : ℕ). take i o) (d.0.written_is ∙ ap length f.1)) (d.0.reads ∙ f.0) x
   lib-step {state = state} x (LibraryCalled.short piece out told few n s' o told' a) = lib-idle s' [] refl (a.reads ∙ demands.too_short state piece out told few) x
   lib-step {state = state} x (LibraryCalled.tape-short piece out bytes told few n s' o b' told' a) = lib-idle s' [] refl (untold state out bytes told n s' o b' told' few piece a) x
@@ -371,12 +371,12 @@ module _ (k : Accord) (w : ℕ) (b : Start) where
   library-ended-plainly (LibraryMixedEnded.ends m out told long n s' o told' a z) = plain.ends (library-plainly m) out told long n s' o told' a z
   library-ended-plainly {took = took} (LibraryMixedEnded.tape-ends {ws = ws} {state = state} m out bytes told long n s' o b' told' a z) =
       let d = ended_by state out bytes told n s' o b' told' long a in
-      let t = tapedFinishing (receiverIn state) (length out) (length bytes) in
-      let h = doors.finishing (receiverIn state) (length out) in
+      let t = taped_finishing (receiver_in state) (length out) (length bytes) in
+      let h = doors.finishing (receiver_in state) (length out) in
       let z' : (given_of t.why).number ≡ 0 = sym d.0.number ∙ z in
-      let f = finish-done (receiverIn state) (length out) (length bytes) z' in
+      let f = finish-done (receiver_in state) (length out) (length bytes) z' in
       subst (LibraryEnded k w b took) (ap (λ (i : ℕ). ws ++ take i o) (ap length f.2 ∙ sym d.0.written_is))
-      (plain.ends (library-plainly m) out three (omega arith) (given_of h.why).number s' o (threeOf h)
+      (plain.ends (library-plainly m) out three (omega arith) (given_of h.why).number s' o (three_of h)
       (as-ended state out s' o t f.0 z' f.1 f.2 d.0.reads d.1 d.0.out-is) f.0)
 
 -- ---- the demands
@@ -401,40 +401,40 @@ module _ (k : Accord) (w : ℕ) (b : Start) (took : List (Two Received)) (ws : L
 
   -- what a recorded call answers after such a run
   module _ (state : List ℕ) (m : LibraryMixed k w b took ws state) (out bytes told : List ℕ) (long : 4 ≤ length told) (n : ℕ) (state' o b' told' : List ℕ) where
-    run : follows.Follows k w b took ws (receiverIn state)
-    run = follows.follows k w b took ws (receiverIn state) (demands.talks k w b took ws state (library-plainly k w b m))
+    run : follows.Follows k w b took ws (receiver_in state)
+    run = follows.follows k w b took ws (receiver_in state) (demands.talks k w b took ws state (library-plainly k w b m))
 
     -- the recorder's answer, with the bytes that it leaves
     answer_of : tape.Ran → Taped
     answer_of r = record { receiver = r.receiver; taken = r.taken; written = length r.words; recorded = space_of r.records; why = r.why }
 
-    bytesAfter : tape.Ran → List ℕ
-    bytesAfter r = bytes_of r.records ++ drop (space_of r.records) bytes
+    bytes_after : tape.Ran → List ℕ
+    bytes_after r = bytes_of r.records ++ drop (space_of r.records) bytes
 
-    is : (r : tape.Ran) → o ≡ r.words ++ drop (length r.words) out → Is r out bytes (answer_of r) o (bytesAfter r)
-    unfolding answer_of bytesAfter
+    is : (r : tape.Ran) → o ≡ r.words ++ drop (length r.words) out → Is r out bytes (answer_of r) o (bytes_after r)
+    unfolding answer_of bytes_after
     is r e = record { receiver = refl; taken = refl; written = refl; recorded = refl; given = refl; output = e; bytes-are = refl }
 
-    pub piece-recorded : (piece : Piece) → Records (taped.hearCall state piece out bytes told) n state' o b' told' →
-        let d = pieceRecorded (follows.toldOf k w b took) piece (length out) (length bytes) in
+    pub piece-recorded : (piece : Piece) → Records (taped.hear_call state piece out bytes told) n state' o b' told' →
+        let d = piece_recorded (follows.told_of k w b took) piece (length out) (length bytes) in
         (record { number = n; place = get_or told' 2 0 } ≡ d.reason) × (taken told' ≡ d.taken) × (written told' ≡ length d.words) × (o ≡ d.words ++ drop (length d.words) out)
     unfolding answer_of
     piece-recorded piece a =
         let x = (heard-by state out bytes told n state' o b' told' long piece a).0 in
-        let r = tapedHearing (receiverIn state) piece (length out) (length bytes) in
-        let p = (owes.tapes (receiverIn state) piece out bytes (answer_of r) o (bytesAfter r) (is r x.out-is)).owed (follows.toldOf k w b took) run.fine run.machine in
+        let r = taped_hearing (receiver_in state) piece (length out) (length bytes) in
+        let p = (owes.tapes (receiver_in state) piece out bytes (answer_of r) o (bytes_after r) (is r x.out-is)).owed (follows.told_of k w b took) run.fine run.machine in
         ((λ i. record { number = x.number i; place = x.place_is i }) ∙ p.given, x.taken_is ∙ p.taken, x.written_is ∙ p.written, p.output)
 
-    pub finish-recorded : Records (taped.finishCall state out bytes told) n state' o b' told' →
-        let d = finishRecorded (follows.toldOf k w b took) (length out) (length bytes) in
+    pub finish-recorded : Records (taped.finish_call state out bytes told) n state' o b' told' →
+        let d = finish_recorded (follows.told_of k w b took) (length out) (length bytes) in
         (n ≡ d.reason.number) × (written told' ≡ length d.words) × (o ≡ d.words ++ drop (length d.words) out)
     unfolding answer_of
     finish-recorded a =
         let x = (ended_by state out bytes told n state' o b' told' long a).0 in
-        let r = tapedFinishing (receiverIn state) (length out) (length bytes) in
-        let p = (owes.finish-tapes (receiverIn state) out bytes (answer_of r) o (bytesAfter r) (is r x.out-is)).owed (follows.toldOf k w b took) run.fine run.machine in
+        let r = taped_finishing (receiver_in state) (length out) (length bytes) in
+        let p = (owes.finish-tapes (receiver_in state) out bytes (answer_of r) o (bytes_after r) (is r x.out-is)).owed (follows.told_of k w b took) run.fine run.machine in
         (x.number ∙ ap (λ (g : Reason). g.number) p.given, x.written_is ∙ p.written, p.output)
 
 pub round_trip : (k : Accord) (w : ℕ) (b : Start) → StartsAtZero b → (words : List ℕ) (ps : List ℤ) (state ws : List ℕ) → plain.LibrarySends k words ps state →
-    LibraryMixedEnded k w b (symbolsOf (allOnLine ps)) ws → ws ≡ asHeard (start_of b) words
+    LibraryMixedEnded k w b (symbols_of (all_on_line ps)) ws → ws ≡ as_heard (start_of b) words
 round_trip k w b z words ps state ws s m = demands.round_trip k w b z words ps state ws s (library-ended-plainly k w b m)

@@ -16,7 +16,7 @@ use Rattle.calls.proofs.Steps.{walk-heard, walk-said}
 use Rattle.calls.proofs.Prefixes.{joined}
 use Rattle.trellis.specs.Measure.{Two, GoodStart}
 use Rattle.nearest.specs.declared.Received.{Received}
-use Rattle.receiver_meaning.specs.Told.{Told, speakerOf, judgeOf, Fine, withHeard}
+use Rattle.receiver_meaning.specs.Told.{Told, speaker_of, judge_of, Fine, with_heard}
 use Rattle.reasons.specs.Reason.{Reason, given_of}
 use Rattle.openings.specs.declared.Start.{Start}
 use Rattle.receiver.specs.declared.Answer.{Answer}
@@ -30,17 +30,17 @@ use Rattle.receiver.specs.Promise.{Pays, Hears, EndPays, Finishes}
 use Rattle.promises.specs.Talk.{Talk, opens, hears, refuses, Ended, ends}
 
 -- what the receiver has been told after the symbols `took`
-abbrev pub toldOf : Accord → ℕ → Start → List (Two Received) → Told
-toldOf ac w b took = record { accord = ac; window = w; start = start_of b; heard = reverse took }
+abbrev pub told_of : Accord → ℕ → Start → List (Two Received) → Told
+told_of ac w b took = record { accord = ac; window = w; start = start_of b; heard = reverse took }
 
 -- the words of a call are those at the front of the output
 front : (ws out o : List ℕ) (n : ℕ) → n ≡ length ws → o ≡ ws ++ drop (length ws) out → take n o ≡ ws
 front ws out o n e f = ap (take n) f ∙ take_at ws (drop (length ws) out) n (sym e)
 
 pub record Follows (ac : Accord) (w : ℕ) (b : Start) (took : List (Two Received)) (ws : List ℕ) (rx : Receiver) : Type 0 where
-  pub fine : Fine (toldOf ac w b took)
-  pub machine : rx ≡ machine_of (toldOf ac w b took)
-  pub said : ws ≡ (speakerOf (toldOf ac w b took)).spoken (reverse took)
+  pub fine : Fine (told_of ac w b took)
+  pub machine : rx ≡ machine_of (told_of ac w b took)
+  pub said : ws ≡ (speaker_of (told_of ac w b took)).spoken (reverse took)
 
 -- nothing taken and nothing written
 idle : (ac : Accord) (w : ℕ) (b : Start) (took : List (Two Received)) (ws : List ℕ) (rx s : Receiver) (zs : List (Two Received)) (o : List ℕ) (m n : ℕ) →
@@ -53,25 +53,25 @@ idle ac w b took ws rx s zs o m n f p q e =
 
 module _ (ac : Accord) (w : ℕ) (b : Start) (took : List (Two Received)) (ws : List ℕ) (rx : Receiver) (f : Follows ac w b took ws rx) (out o : List ℕ) (r : Answer) where
   abbrev t : Told
-  t = toldOf ac w b took
+  t = told_of ac w b took
 
   -- a piece that goes symbol by symbol
-  walks : (zs : List (Two Received)) (e : WalkEnded (speakerOf t) (judgeOf t)) → walk (speakerOf t) (judgeOf t) (reverse took) zs (length out) ≡ e →
-      Pays (record { reason = e.why; taken = e.taken; words = e.said; told = withHeard t e.heard }) out r o → Follows ac w b (took ++ take r.taken zs)
+  walks : (zs : List (Two Received)) (e : WalkEnded (speaker_of t) (judge_of t)) → walk (speaker_of t) (judge_of t) (reverse took) zs (length out) ≡ e →
+      Pays (record { reason = e.why; taken = e.taken; words = e.said; told = with_heard t e.heard }) out r o → Follows ac w b (took ++ take r.taken zs)
       (ws ++ take r.written o) r.receiver
   walks zs e z k =
       let h : reverse e.heard ≡ took ++ take e.taken zs =
-      ap (λ (x : WalkEnded (speakerOf t) (judgeOf t)). reverse x.heard) (sym z) ∙ walk-heard (speakerOf t) (judgeOf t) (reverse took) zs (length out)
-      ∙ ap₂ (λ (l : List (Two Received)) (x : WalkEnded (speakerOf t) (judgeOf t)). l ++ take x.taken zs) (reverse-reverse took) z in
+      ap (λ (x : WalkEnded (speaker_of t) (judge_of t)). reverse x.heard) (sym z) ∙ walk-heard (speaker_of t) (judge_of t) (reverse took) zs (length out)
+      ∙ ap₂ (λ (l : List (Two Received)) (x : WalkEnded (speaker_of t) (judge_of t)). l ++ take x.taken zs) (reverse-reverse took) z in
       let g : e.heard ≡ reverse (took ++ take r.taken zs) =
       sym (reverse-reverse e.heard) ∙ ap reverse (h ∙ ap (λ (n : ℕ). took ++ take n zs) (sym k.taken)) in
-      let s : (speakerOf t).spoken (reverse took) ++ e.said ≡ (speakerOf t).spoken e.heard =
-      ap (λ (x : WalkEnded (speakerOf t) (judgeOf t)). (speakerOf t).spoken (reverse took) ++ x.said) (sym z) ∙ walk-said (speakerOf t) (speaks t f.fine) (judgeOf t) (reverse took) zs (length out)
-      ∙ ap (λ (x : WalkEnded (speakerOf t) (judgeOf t)). (speakerOf t).spoken x.heard) z in
+      let s : (speaker_of t).spoken (reverse took) ++ e.said ≡ (speaker_of t).spoken e.heard =
+      ap (λ (x : WalkEnded (speaker_of t) (judge_of t)). (speaker_of t).spoken (reverse took) ++ x.said) (sym z) ∙ walk-said (speaker_of t) (speaks t f.fine) (judge_of t) (reverse took) zs (length out)
+      ∙ ap (λ (x : WalkEnded (speaker_of t) (judge_of t)). (speaker_of t).spoken x.heard) z in
       record {
-        fine = subst (λ (l : List (Two Received)). Fine (withHeard t l)) g k.fine;
-        machine = k.receiver ∙ ap (λ (l : List (Two Received)). machine_of (withHeard t l)) g;
-        said = ap₂ (λ (x y : List ℕ). x ++ y) f.said (front e.said out o r.written k.written k.output) ∙ s ∙ ap (λ (l : List (Two Received)). (speakerOf t).spoken l) g;
+        fine = subst (λ (l : List (Two Received)). Fine (with_heard t l)) g k.fine;
+        machine = k.receiver ∙ ap (λ (l : List (Two Received)). machine_of (with_heard t l)) g;
+        said = ap₂ (λ (x y : List ℕ). x ++ y) f.said (front e.said out o r.written k.written k.output) ∙ s ∙ ap (λ (l : List (Two Received)). (speaker_of t).spoken l) g;
       }
 
   pub piece-follows : (p : Piece) → Hears rx p out r o → Follows ac w b (took ++ take r.taken p.symbols) (ws ++ take r.written o) r.receiver
@@ -89,26 +89,26 @@ module _ (ac : Accord) (w : ℕ) (b : Start) (took : List (Two Received)) (ws : 
       (idle ac w b took ws rx r.receiver [] o 0 r.written f refl k.written k.receiver))
       (λ _ k. absurd (z (ap (λ (x : Reason). x.number) k.given))) (h.owed t f.fine f.machine)
 
-  pub finish-answers : Finishes rx out r o → (given_of r.why).number ≡ 0 → ws ++ take r.written o ≡ (speakerOf t).answered (reverse took)
+  pub finish-answers : Finishes rx out r o → (given_of r.why).number ≡ 0 → ws ++ take r.written o ≡ (speaker_of t).answered (reverse took)
   finish-answers h z =
-      finish-cases t (length out) (λ d. EndPays d rx out r o → ws ++ take r.written o ≡ (speakerOf t).answered (reverse took))
+      finish-cases t (length out) (λ d. EndPays d rx out r o → ws ++ take r.written o ≡ (speaker_of t).answered (reverse took))
       (λ _ k. absurd (let n = ap (λ (x : Reason). x.number) k.given in omega arith))
       (λ _ k. ap₂ (λ (x y : List ℕ). x ++ y) f.said (front (rest_of t) out o r.written k.written k.output)
-      ∙ joined ((speakerOf t).spoken (reverse took)) ((speakerOf t).answered (reverse took)) ((speaks t f.fine).within (reverse took))) (h.owed t f.fine f.machine)
+      ∙ joined ((speaker_of t).spoken (reverse took)) ((speaker_of t).answered (reverse took)) ((speaks t f.fine).within (reverse took))) (h.owed t f.fine f.machine)
 
 -- ---- whole runs
 
 pub follows : (ac : Accord) (w : ℕ) (b : Start) (took : List (Two Received)) (ws : List ℕ) (rx : Receiver) → Talk ac w b took ws rx → Follows ac w b took ws rx
 follows ac w b took ws rx (opens r p z) =
     let k = p.fresh z in
-    record { fine = k.0; machine = k.1; said = sym (speaks (toldOf ac w b []) k.0).starts }
+    record { fine = k.0; machine = k.1; said = sym (speaks (told_of ac w b []) k.0).starts }
 follows ac w b took ws rx (hears {took = l} {ws = vs} {rx = q} k p out o r h) = piece-follows ac w b l vs q (follows ac w b l vs q k) out o r p h
 follows ac w b took ws rx (refuses {took = l} {ws = vs} {rx = q} k out o r h z) = finish-refused ac w b l vs q (follows ac w b l vs q k) out o r h z
 
-pub answers : (ac : Accord) (w : ℕ) (b : Start) (took : List (Two Received)) (ws : List ℕ) → Ended ac w b took ws → ws ≡ (speakerOf (toldOf ac w b took)).answered (reverse took)
+pub answers : (ac : Accord) (w : ℕ) (b : Start) (took : List (Two Received)) (ws : List ℕ) → Ended ac w b took ws → ws ≡ (speaker_of (told_of ac w b took)).answered (reverse took)
 answers ac w b took ws (ends {ws = vs} {rx = q} k out o r h z) = finish-answers ac w b took vs q (follows ac w b took vs q k) out o r h z
 
-pub ended-fine : (ac : Accord) (w : ℕ) (b : Start) (took : List (Two Received)) (ws : List ℕ) → Ended ac w b took ws → Fine (toldOf ac w b took)
+pub ended-fine : (ac : Accord) (w : ℕ) (b : Start) (took : List (Two Received)) (ws : List ℕ) → Ended ac w b took ws → Fine (told_of ac w b took)
 ended-fine ac w b took ws (ends {ws = vs} {rx = q} k out o r h z) = (follows ac w b took vs q k).fine
 
 pub start-of : (ac : Accord) (w : ℕ) (b : Start) (took : List (Two Received)) (ws : List ℕ) → Ended ac w b took ws → GoodStart (start_of b)

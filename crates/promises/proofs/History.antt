@@ -10,7 +10,7 @@ use Prim.Native.Nat.{ℕ, ◌+◌, ◌*◌, ◌≤◌}
 use native.Mathlib.Omega.{arith}
 use lib.IntN.{pos}
 use lib.ListN.{length, replicate, length-replicate}
-use Rattle.lists.specs.UpTo.{allUpTo}
+use Rattle.lists.specs.UpTo.{all_up_to}
 use Rattle.points.specs.declared.Accord.{Accord}
 use Rattle.calls.specs.Calls.{walk}
 use Rattle.trellis.specs.Measure.{Two}
@@ -19,10 +19,10 @@ use Rattle.nearest.specs.declared.Received.{Received}
 use Rattle.nearest.specs.declared.Received.TheVariants.{Heard, Missing}
 use Rattle.nearest.specs.Line.{BothInRange}
 use Rattle.reasons.specs.Reason.{reason, given_of}
-use Rattle.points.specs.Agreed.{ofWidth}
-use Rattle.receiver_meaning.specs.Told.{Told, pendingAfter, judgeSymbol, Fine, FineList, withHeard}
-use Rattle.receiver_meaning.specs.Piece.{Piece, markedPiece}
-use Rattle.receiver_meaning.specs.Owed.{pieceOwed}
+use Rattle.points.specs.Agreed.{of_width}
+use Rattle.receiver_meaning.specs.Told.{Told, pending_after, judge_symbol, Fine, FineList, with_heard}
+use Rattle.receiver_meaning.specs.Piece.{Piece, marked_piece}
+use Rattle.receiver_meaning.specs.Owed.{piece_owed}
 use Rattle.receiver_meaning.proofs.Cases.{piece-goes}
 use Rattle.receiver.proofs.Laws.{fresh-most}
 use Rattle.openings.specs.declared.Start.{Start}
@@ -51,13 +51,13 @@ spot_of Missing = record { x = pos 0; y = pos 0 }
 
 pub handed : (y : Two Received) →
     let a = spot_of y.first in
-    let b = spot_of y.second in markedPiece ((missed y.first + 2 * missed y.second) ∷ []) (a.x ∷ a.y ∷ b.x ∷ b.y ∷ []) ≡ single y
-unfolding allUpTo
+    let b = spot_of y.second in marked_piece ((missed y.first + 2 * missed y.second) ∷ []) (a.x ∷ a.y ∷ b.x ∷ b.y ∷ []) ≡ single y
+unfolding all_up_to
 handed y = go y.first y.second
   where
     go : (g h : Received) →
         let a = spot_of g in
-        let b = spot_of h in markedPiece ((missed g + 2 * missed h) ∷ []) (a.x ∷ a.y ∷ b.x ∷ b.y ∷ []) ≡ single (record { first = g; second = h })
+        let b = spot_of h in marked_piece ((missed g + 2 * missed h) ∷ []) (a.x ∷ a.y ∷ b.x ∷ b.y ∷ []) ≡ single (record { first = g; second = h })
     go (Heard s) (Heard t) = refl
     go (Heard s) Missing = refl
     go Missing (Heard t) = refl
@@ -68,13 +68,13 @@ pub record TakesMore (rx : Receiver) : Type 0 where
   pub good : BothInRange symbol
   pub is-taken : (out : List ℕ) (r : Answer) (o : List ℕ) → 64 ≤ length out → Hears rx (single symbol) out r o → (given_of r.why ≡ reason 0) × (r.taken ≡ 1)
 
-fine-same : (t : Told) (zs ys : List (Two Received)) → FineList (withHeard t zs) ys → FineList t ys
+fine-same : (t : Told) (zs ys : List (Two Received)) → FineList (with_heard t zs) ys → FineList t ys
 fine-same t zs [] f = tt
 fine-same t zs (y ∷ ys) f = (f.0, f.1, fine-same t zs ys f.2)
 
 -- one symbol that is not one to refuse, as a piece with room for 64 words
-heard-one : (t : Told) (f : Fine t) (y : Two Received) → BothInRange y → pendingAfter t (y ∷ t.heard) ≤ t.window →
-    (pieceOwed t (single y) 64).told ≡ withHeard t (y ∷ t.heard)
+heard-one : (t : Told) (f : Fine t) (y : Two Received) → BothInRange y → pending_after t (y ∷ t.heard) ≤ t.window →
+    (piece_owed t (single y) 64).told ≡ with_heard t (y ∷ t.heard)
 unfolding walk
 heard-one t f y r h = rw (piece-goes t (single y) 64 refl, however-many t t.heard y 64 r h (fresh-most t f y))
 
@@ -100,7 +100,7 @@ module _ (n : ℕ) where
   abbrev ys : List (Two Received)
   ys = replicate n zeros
 
-  taken-as-well : (room : ℕ) → 64 ≤ room → judgeSymbol (told n) ys zeros room ≡ reason 0
+  taken-as-well : (room : ℕ) → 64 ≤ room → judge_symbol (told n) ys zeros room ≡ reason 0
   taken-as-well room h = however-many (told n) ys zeros room zeros-good (goes_on n) (omega (arith, fresh-most (told n) (steady n) zeros))
 
   more : TakesMore (machine_of (told n))
@@ -116,4 +116,4 @@ module _ (n : ℕ) where
       }
 
   pub no_last : (t : Told) × Fine t × (length t.heard ≡ n) × End (machine_of t) × TakesMore (machine_of t)
-  no_last = (told n, steady n, length-replicate n zeros, fine_end (ofWidth 0) 64 Free ys (steady n), more)
+  no_last = (told n, steady n, length-replicate n zeros, fine_end (of_width 0) 64 Free ys (steady n), more)

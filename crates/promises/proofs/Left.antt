@@ -11,9 +11,9 @@ use lib.Seq.{drop_at}
 use Rattle.trellis.specs.Measure.{Two}
 use Rattle.nearest.specs.declared.Received.{Received}
 use Rattle.reasons.specs.Reason.{Reason, given_of}
-use Rattle.receiver_meaning.specs.Told.{Told, withHeard, Fine}
+use Rattle.receiver_meaning.specs.Told.{Told, with_heard, Fine}
 use Rattle.receiver_meaning.specs.Piece.{Piece}
-use Rattle.receiver_meaning.specs.Owed.{pieceOwed}
+use Rattle.receiver_meaning.specs.Owed.{piece_owed}
 use Rattle.receiver_meaning.proofs.Cases.{piece-cases}
 use Rattle.openings.specs.Opening.{Receiver, shut, machine_of}
 use Rattle.receiver.specs.declared.Answer.{Answer}
@@ -31,19 +31,19 @@ behind : (ws out o : List ℕ) (n : ℕ) → n ≡ length ws → o ≡ ws ++ dro
 behind ws out o n e f = ap (drop n) f ∙ drop_at ws (drop (length ws) out) n (sym e) ∙ ap (λ (m : ℕ). drop m out) (sym e)
 
 -- what the receiver has been told after the first m symbols of a piece
-abbrev pub toldMore : Told → Piece → ℕ → Told
-toldMore t q m = withHeard t (reverse (take m q.symbols) ++ t.heard)
+abbrev pub told_more : Told → Piece → ℕ → Told
+told_more t q m = with_heard t (reverse (take m q.symbols) ++ t.heard)
 
-told-after : (t : Told) (q : Piece) (room : ℕ) → (pieceOwed t q room).told ≡ toldMore t q (pieceOwed t q room).taken
+told-after : (t : Told) (q : Piece) (room : ℕ) → (piece_owed t q room).told ≡ told_more t q (piece_owed t q room).taken
 told-after t q room =
-    piece-cases t q room (λ d. d.told ≡ toldMore t q d.taken) (λ _. ap (withHeard t) (heard-then t t.heard q.symbols room)) (λ _. refl)
+    piece-cases t q room (λ d. d.told ≡ told_more t q d.taken) (λ _. ap (with_heard t) (heard-then t t.heard q.symbols room)) (λ _. refl)
 
 module _ (t : Told) (f : Fine t) (rx : Receiver) (m : rx ≡ machine_of t) (q : Piece) (out : List ℕ) (r : Answer) (o : List ℕ) (h : Hears rx q out r o) where
-  pub hears-left : (r.receiver ≡ machine_of (toldMore t q r.taken)) × (drop r.written o ≡ drop r.written out)
+  pub hears-left : (r.receiver ≡ machine_of (told_more t q r.taken)) × (drop r.written o ≡ drop r.written out)
   hears-left =
       let w = h.owed t f m in
-      let d = pieceOwed t q (length out) in
-      (w.receiver ∙ ap machine_of (told-after t q (length out) ∙ ap (toldMore t q) (sym w.taken)), behind d.words out o r.written w.written w.output)
+      let d = piece_owed t q (length out) in
+      (w.receiver ∙ ap machine_of (told-after t q (length out) ∙ ap (told_more t q) (sym w.taken)), behind d.words out o r.written w.written w.output)
 
   none_written : r.taken ≡ 0 → r.written ≡ 0
   none_written z = go (given_of r.why) ((hears t f rx m out r o q h (given_of r.why)).0 refl)
@@ -77,4 +77,4 @@ hears-refused rx e q out r o h z = ⊎_elim closed going (end_known rx e)
     going k =
         let l = hears-left k.told k.fine rx k.machine q out r o h in
         let n = none_written k.told k.fine rx k.machine q out r o h z in
-        (l.0 ∙ ap (λ (m : ℕ). machine_of (toldMore k.told q m)) z ∙ sym k.machine, n, subst (λ (m : ℕ). drop m o ≡ drop m out) n l.1)
+        (l.0 ∙ ap (λ (m : ℕ). machine_of (told_more k.told q m)) z ∙ sym k.machine, n, subst (λ (m : ℕ). drop m o ≡ drop m out) n l.1)

@@ -12,11 +12,11 @@ use native.Mathlib.Omega.{arith}
 use lib.IntN.{ℤ}
 use lib.ListN.{length, take, drop, length-drop, drop_of_length-le}
 use lib.Seq.{length-take-le, drop-append-add, drop-drop}
-use Rattle.wei.specs.Word.{isWord}
+use Rattle.wei.specs.Word.{is_word}
 use Rattle.points.specs.declared.Accord.{Accord}
 use Rattle.sender.specs.declared.Sender.{Sender}
 use Rattle.sender.specs.Send.{sound, four, Given, sending, End}
-use Rattle.sender.specs.SendList.{GivenList, givenList, sendingAll, sendingList}
+use Rattle.sender.specs.SendList.{GivenList, given_list, sending_all, sending_list}
 use Rattle.sender.proofs.Exactly.{done, refused-keeps, outcome, Outcome, closed, bad-word, no_room, taken}
 use Rattle.sender.proofs.Lists.{onward-by, list-by, list_open, list-nine, sent-room, sent-sound, sending-accord}
 use Rattle.promises.specs.Table as table
@@ -25,7 +25,7 @@ use Rattle.promises.proofs.Numbers.{live-sound, shut-live, sound-live, apart}
 -- ---- an open sender
 
 -- a word sent stands before the others
-more : (u n : ℕ) (ns : List ℕ) (room m k : ℕ) → isWord u n ≡ true → 4 ≤ room → table.WordsGive u ns (room - 4) m k → table.WordsGive u (n ∷ ns) room (m + 1) k
+more : (u n : ℕ) (ns : List ℕ) (room m k : ℕ) → is_word u n ≡ true → 4 ≤ room → table.WordsGive u ns (room - 4) m k → table.WordsGive u (n ∷ ns) room (m + 1) k
 more u n ns room m k w r (table.WordsGive.whole e a l) = table.WordsGive.whole (omega arith) (w, a) (omega arith)
 more u n ns room m k w r (table.WordsGive.four a l x later d f) =
     rw add-one (table.WordsGive.four (w, a) (omega arith) x later d f)
@@ -47,15 +47,15 @@ sent-length s n out z =
     rw t.output (length-drop 4 out)
 
 pub words-case : (s : Sender) → sound s ≡ true → (ns : List ℕ) (out : List ℤ) →
-    table.WordsGive s.accord.u ns (length out) (sendingAll s ns out).sent (sendingAll s ns out).number
-unfolding sendingAll
+    table.WordsGive s.accord.u ns (length out) (sending_all s ns out).sent (sending_all s ns out).number
+unfolding sending_all
 words-case s e [] out = table.WordsGive.whole refl tt (omega arith)
 words-case s e (n ∷ ns) out =
     let g = sending s n out in
-    onward-by (λ r. table.WordsGive s.accord.u (n ∷ ns) (length out) r.sent r.number) g (sendingAll g.sender ns (drop 4 g.output))
+    onward-by (λ r. table.WordsGive s.accord.u (n ∷ ns) (length out) r.sent r.number) g (sending_all g.sender ns (drop 4 g.output))
     (λ z.
     let t = done s n out z in
-    let r = sendingAll g.sender ns (drop 4 g.output) in
+    let r = sending_all g.sender ns (drop 4 g.output) in
     more s.accord.u n ns (length out) r.sent r.number t.word t.room
     (subst (λ (v : ℕ). table.WordsGive v ns (length out - 4) r.sent r.number) (ap (λ (k : Accord). k.u) (sending-accord s n out))
     (subst (λ (v : ℕ). table.WordsGive g.sender.accord.u ns v r.sent r.number) (sent-length s n out z)
@@ -66,8 +66,8 @@ words-case s e (n ∷ ns) out =
 past_end : (ns : List ℕ) (m n : ℕ) (later : List ℕ) → m ≡ length ns → drop m ns ≡ n ∷ later → ⊥
 past_end ns m n later e d = let z : ◌≡◌ {A = ℕ} 0 (suc (length later)) = ap length (sym (drop_of_length-le ns {i = m} (omega arith)) ∙ d) in omega arith
 
-same_next : (u : ℕ) (l : List ℕ) (n x : ℕ) (later after : List ℕ) → l ≡ n ∷ later → l ≡ x ∷ after → isWord u n ≡ true → isWord u x ≡ false → ⊥
-same_next u l n x later after d e a b = let h : n ≡ x = cc in apart (isWord u x) (rw (← h) a) b
+same_next : (u : ℕ) (l : List ℕ) (n x : ℕ) (later after : List ℕ) → l ≡ n ∷ later → l ≡ x ∷ after → is_word u n ≡ true → is_word u x ≡ false → ⊥
+same_next u l n x later after d e a b = let h : n ≡ x = cc in apart (is_word u x) (rw (← h) a) b
 
 words-one : (u : ℕ) (ns : List ℕ) (room m k l : ℕ) → table.WordsGive u ns room m k → table.WordsGive u ns room m l → k ≡ l
 words-one u ns room m k l (table.WordsGive.whole e a r) (table.WordsGive.whole e₂ a₂ r₂) = refl
@@ -83,20 +83,20 @@ words-one u ns room m k l (table.WordsGive.eight a r x later d f g) (table.Words
 -- ---- any end
 
 module _ (s : Sender) (e : End s) (ns : List ℕ) (out : List ℤ) where
-  pub list-case : table.ListGives s ns out (sendingList s ns out).sent (sendingList s ns out).number
+  pub list-case : table.ListGives s ns out (sending_list s ns out).sent (sending_list s ns out).number
   list-case = go (sound s) refl
     where
-      go : (b : Bool) → sound s ≡ b → table.ListGives s ns out (sendingList s ns out).sent (sendingList s ns out).number
+      go : (b : Bool) → sound s ≡ b → table.ListGives s ns out (sending_list s ns out).sent (sending_list s ns out).number
       go true f = rw (list_open s ns out f) (table.ListGives.goes (sound-live s e 0 out s.live refl f) _ (words-case s f ns out))
       go false f = rw (list-nine s ns out f) (table.ListGives.nine (shut-live s e 0 out s.live refl f) refl)
 
-  pub list-is : (m k : ℕ) → m ≡ (sendingList s ns out).sent → table.ListGives s ns out m k → (sendingList s ns out).number ≡ k
+  pub list-is : (m k : ℕ) → m ≡ (sending_list s ns out).sent → table.ListGives s ns out m k → (sending_list s ns out).number ≡ k
   list-is m k z (table.ListGives.nine l h) = ap (λ (g : GivenList). g.number) (list-nine s ns out (live-sound s e 0 out false l))
   list-is m k z (table.ListGives.goes l k' h) =
       let o = list_open s ns out (live-sound s e 0 out true l) in
-      let z' : m ≡ (sendingAll s ns out).sent = z ∙ ap (λ (g : GivenList). g.sent) o in
+      let z' : m ≡ (sending_all s ns out).sent = z ∙ ap (λ (g : GivenList). g.sent) o in
       ap (λ (g : GivenList). g.number) o
-      ∙ words-one s.accord.u ns (length out) m (sendingAll s ns out).number k
+      ∙ words-one s.accord.u ns (length out) m (sending_all s ns out).number k
       (rw z' (words-case s (live-sound s e 0 out true l) ns out)) h
 
 -- ---- what a list leaves behind
@@ -105,12 +105,12 @@ sent-behind : (s : Sender) (n : ℕ) (out : List ℤ) → (sending s n out).numb
 unfolding four
 sent-behind s n out z = rw (done s n out z).output
 
-words-behind : (s : Sender) (ns : List ℕ) (out : List ℤ) → let g = sendingAll s ns out in drop (4 * g.sent) g.output ≡ drop (4 * g.sent) out
-unfolding sendingAll
+words-behind : (s : Sender) (ns : List ℕ) (out : List ℤ) → let g = sending_all s ns out in drop (4 * g.sent) g.output ≡ drop (4 * g.sent) out
+unfolding sending_all
 words-behind s [] out = refl
 words-behind s (n ∷ ns) out =
     let g = sending s n out in
-    let r = sendingAll g.sender ns (drop 4 g.output) in
+    let r = sending_all g.sender ns (drop 4 g.output) in
     onward-by (λ x. drop (4 * x.sent) x.output ≡ drop (4 * x.sent) out) g r
     (λ z.
     let l : 4 * (r.sent + 1) ≡ length (take 4 g.output) + 4 * r.sent = rw (length-take-le 4 g.output (sent-room s n out z)) (omega arith) in
@@ -120,9 +120,9 @@ words-behind s (n ∷ ns) out =
     ∙ drop-drop (4 * r.sent) 4 out ∙ ap (λ (k : ℕ). drop k out) m)
     (λ h. (refused-keeps s n out h).1)
 
-pub list-behind : (s : Sender) (ns : List ℕ) (out : List ℤ) → let g = sendingList s ns out in drop (4 * g.sent) g.output ≡ drop (4 * g.sent) out
+pub list-behind : (s : Sender) (ns : List ℕ) (out : List ℤ) → let g = sending_list s ns out in drop (4 * g.sent) g.output ≡ drop (4 * g.sent) out
 list-behind s ns out = list-by (λ g. drop (4 * g.sent) g.output ≡ drop (4 * g.sent) out) s ns out (words-behind s ns out) refl
 
-pub all-empty : (s : Sender) (out : List ℤ) → sendingAll s [] out ≡ givenList 0 s 0 out
-unfolding sendingAll
+pub all-empty : (s : Sender) (out : List ℤ) → sending_all s [] out ≡ given_list 0 s 0 out
+unfolding sending_all
 all-empty s out = refl

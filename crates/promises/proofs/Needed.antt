@@ -9,13 +9,13 @@ use native.Mathlib.Omega.{arith}
 use lib.Dec.{leb→le, ltb→lt}
 use lib.IntN.{ℤ, pos, negsuc}
 use Rattle.wei.specs.Word.{unpacked}
-use Rattle.wei.specs.State.{nextState}
-use Rattle.wei.specs.Label.{secondLabel}
-use Rattle.wei.specs.Symbol.{lastLabel, symbol_of, symbols_from}
-use Rattle.points.specs.Agreed.{ofWidth}
-use Rattle.points.specs.Points.{coordinates, aPoint}
+use Rattle.wei.specs.State.{next_state}
+use Rattle.wei.specs.Label.{second_label}
+use Rattle.wei.specs.Symbol.{last_label, symbol_of, symbols_from}
+use Rattle.points.specs.Agreed.{of_width}
+use Rattle.points.specs.Points.{coordinates, a_point}
 use Rattle.points.specs.Turn.{point_of}
-use Rattle.maps.specs.PointMap.{first_at, secondAt}
+use Rattle.maps.specs.PointMap.{first_at, second_at}
 use Rattle.distance.specs.Distance.{distance}
 use Rattle.openings.specs.declared.Start.TheVariants.{At}
 use Rattle.sender.specs.declared.Sender.{Sender}
@@ -31,7 +31,7 @@ use Rattle.promises.proofs.Carried.{sent-written}
 -- a point (-1, -1) heard at the corner (-8192, -8192): no other point of width 0 is as near
 strictly : (l w : ℕ) → l < 4 → w < 1 → (point_of l w ≡ record { x = negsuc 0; y = negsuc 0 } → ⊥) →
     distance (record { x = negsuc 8191; y = negsuc 8191 }) (record { x = negsuc 0; y = negsuc 0 }) < distance (record { x = negsuc 8191; y = negsuc 8191 }) (point_of l w)
-unfolding point_of aPoint coordinates distance
+unfolding point_of a_point coordinates distance
 strictly l (suc w) h k n = absurd (omega arith)
 strictly zero zero h k n = ltb→lt _ _ tt
 strictly (suc zero) zero h k n = ltb→lt _ _ tt
@@ -40,26 +40,26 @@ strictly (suc (suc (suc zero))) zero h k n = ltb→lt _ _ tt
 strictly (suc (suc (suc (suc l)))) zero h k n = absurd (omega arith)
 
 -- the coordinates of the word 4
-four-written : sender.coordinatesOf (ofWidth 0) (symbols_from 0 0 0 (4 ∷ [])) ≡ negsuc 0 ∷ negsuc 0 ∷ negsuc 0 ∷ negsuc 0 ∷ []
-unfolding four symbols_from symbol_of unpacked nextState lastLabel secondLabel first_at secondAt point_of aPoint coordinates
+four-written : sender.coordinates_of (of_width 0) (symbols_from 0 0 0 (4 ∷ [])) ≡ negsuc 0 ∷ negsuc 0 ∷ negsuc 0 ∷ negsuc 0 ∷ []
+unfolding four symbols_from symbol_of unpacked next_state last_label second_label first_at second_at point_of a_point coordinates
 four-written = refl
 
 -- the word 4 at width 0, heard at the corner: each sent point is strictly nearest, and the word that comes back is 0, since beyond the cap
 -- all points count for the same and the smaller I3' decides
-pub cap-needed : (ps : List ℤ) (s : Sender) → sender.Talk (ofWidth 0) (4 ∷ []) ps s → (w : ℕ) (ws : List ℕ) → Ended (ofWidth 0) w (At 0) beyond.received ws →
-    Carried (Nearer (ofWidth 0)) beyond.received ps × (ws ≡ 0 ∷ [])
+pub cap-needed : (ps : List ℤ) (s : Sender) → sender.Talk (of_width 0) (4 ∷ []) ps s → (w : ℕ) (ws : List ℕ) → Ended (of_width 0) w (At 0) beyond.received ws →
+    Carried (Nearer (of_width 0)) beyond.received ps × (ws ≡ 0 ∷ [])
 cap-needed ps s k w ws e = (
-  subst (Carried (Nearer (ofWidth 0)) beyond.received) (sym (sent-written (ofWidth 0) (4 ∷ []) ps s k ∙ four-written)) (strictly, strictly, tt),
-  answers (ofWidth 0) w (At 0) beyond.received ws e ∙ beyond-holds.1,
+  subst (Carried (Nearer (of_width 0)) beyond.received) (sym (sent-written (of_width 0) (4 ∷ []) ps s k ∙ four-written)) (strictly, strictly, tt),
+  answers (of_width 0) w (At 0) beyond.received ws e ∙ beyond-holds.1,
 )
 
 half-off : Near 128 (record { x = pos 0; y = pos 0 }) (record { x = negsuc 0; y = negsuc 0 })
 half-off = record { x-near = leb→le 128 128 tt; y-near = leb→le 128 128 tt }
 
 -- midway between the four points of width 0 none is nearest, and the first of those that tie is not the one sent
-pub half-needed : (ps : List ℤ) (s : Sender) → sender.Talk (ofWidth 0) (4 ∷ []) ps s → (w : ℕ) (ws : List ℕ) → Ended (ofWidth 0) w (At 0) midway.received ws →
+pub half-needed : (ps : List ℤ) (s : Sender) → sender.Talk (of_width 0) (4 ∷ []) ps s → (w : ℕ) (ws : List ℕ) → Ended (of_width 0) w (At 0) midway.received ws →
     Carried (Near 128) midway.received ps × (ws ≡ 0 ∷ [])
 half-needed ps s k w ws e = (
-  subst (Carried (Near 128) midway.received) (sym (sent-written (ofWidth 0) (4 ∷ []) ps s k ∙ four-written)) (half-off, half-off, tt),
-  answers (ofWidth 0) w (At 0) midway.received ws e ∙ midway-holds.1,
+  subst (Carried (Near 128) midway.received) (sym (sent-written (of_width 0) (4 ∷ []) ps s k ∙ four-written)) (half-off, half-off, tt),
+  answers (of_width 0) w (At 0) midway.received ws e ∙ midway-holds.1,
 )

@@ -13,33 +13,33 @@ use native.Mathlib.Nat.{mul-le-mul}
 use native.Mathlib.Decide.{dec_le}
 use native.Mathlib.Omega.{arith}
 use lib.IntN.{nat_abs, ℤ_discrete}
-use Rattle.wei.specs.Symbol.{Symbol, firstLabel, lastLabel, Valid}
+use Rattle.wei.specs.Symbol.{Symbol, first_label, last_label, Valid}
 use Rattle.wei.proofs.Labels.{second_below}
 use Rattle.points.specs.declared.Accord.{Accord}
 use Rattle.points.specs.declared.Point.{Point}
-use Rattle.points.specs.Agreed.{isAccord}
-use Rattle.points.specs.Turn.{remainderX, remainderY, Labelled, Small}
-use Rattle.maps.specs.PointMap.{pointAt, first_at, secondAt}
+use Rattle.points.specs.Agreed.{is_accord}
+use Rattle.points.specs.Turn.{remainder_x, remainder_y, Labelled, Small}
+use Rattle.maps.specs.PointMap.{point_at, first_at, second_at}
 use Rattle.maps.proofs.Both.{is-map}
 use Rattle.maps.proofs.Apart.{small_at, symbols-apart}
-use Rattle.trellis.specs.Measure.{cap, counted, farOf, firstFar, secondFar}
+use Rattle.trellis.specs.Measure.{cap, counted, far_of, first_far, second_far}
 use Rattle.distance.specs.declared.Spot.{Spot}
 use Rattle.distance.specs.Distance.{difference, distance}
 use Rattle.nearest.specs.declared.Received.TheVariants.{Heard}
-use Rattle.nearest.specs.Found.{heardAs}
-use Rattle.nearest.specs.Line.{lineDistance, lineMeasure}
+use Rattle.nearest.specs.Found.{heard_as}
+use Rattle.nearest.specs.Line.{line_distance, line_measure}
 use Rattle.trellis.specs.Along.{Closest}
 use Rattle.promises.specs.Noise.{Near, OnlyNearest}
 use Rattle.promises.proofs.Coordinates.{Placed, coordinate-cases, coordinate-least}
 
 -- ---- points in use
 
-odd-x : (l : ℕ) → l < 4 → remainderX l % 2 ≡ 1
+odd-x : (l : ℕ) → l < 4 → remainder_x l % 2 ≡ 1
 odd-x zero h = refl
 odd-x (suc zero) h = refl
 odd-x (suc (suc l)) h = refl
 
-odd-y : (l : ℕ) → l < 4 → remainderY l % 2 ≡ 1
+odd-y : (l : ℕ) → l < 4 → remainder_y l % 2 ≡ 1
 odd-y zero h = refl
 odd-y (suc zero) h = refl
 odd-y (suc (suc zero)) h = refl
@@ -50,10 +50,10 @@ pub record InUse (l : ℕ) (p : Point) : Type 0 where
   pub y-placed : Placed p.y
   pub labelled : Labelled l p
 
-pub in_use : (k : Accord) → isAccord k ≡ true → (l w : ℕ) → l < 4 → w < 2 ^ k.u → InUse l (pointAt k l w)
+pub in_use : (k : Accord) → is_accord k ≡ true → (l w : ℕ) → l < 4 → w < 2 ^ k.u → InUse l (point_at k l w)
 in_use k h l w b c =
-    let a : Labelled l (pointAt k l w) = (is-map k.map).labelled k.u l w h b c in
-    let s : Small (pointAt k l w) = small_at k h l w c in
+    let a : Labelled l (point_at k l w) = (is-map k.map).labelled k.u l w h b c in
+    let s : Small (point_at k l w) = small_at k h l w c in
     record {
       x-placed = record { odd = ap (λ (n : ℕ). n % 2) a.x-is ∙ odd-x l b; small = s.x-small };
       y-placed = record { odd = ap (λ (n : ℕ). n % 2) a.y-is ∙ odd-y l b; small = s.y-small };
@@ -94,24 +94,24 @@ point-apart h p q l m w a b e =
     (λ g _. omega (arith, coordinate-least 127 z h.x p.x q.x w.x-near a.x-placed b.x-placed))
     (λ y. absurd (e (λ i. record { x = sym x i; y = sym y i }))))
 
-pub near-only : (k : Accord) → isAccord k ≡ true → (h : Spot) (l w : ℕ) → l < 4 → w < 2 ^ k.u → Near 127 h (pointAt k l w) → OnlyNearest k h (pointAt k l w)
+pub near-only : (k : Accord) → is_accord k ≡ true → (h : Spot) (l w : ℕ) → l < 4 → w < 2 ^ k.u → Near 127 h (point_at k l w) → OnlyNearest k h (point_at k l w)
 near-only k g h l w a b i =
     record {
-      counts = omega (arith, near-far 127 h (pointAt k l w) (omega arith) i);
-      nearer = λ m v c d e. omega (arith, point-apart h (pointAt k l w) (pointAt k m v) l m i (in_use k g l w a b) (in_use k g m v c d) e);
+      counts = omega (arith, near-far 127 h (point_at k l w) (omega arith) i);
+      nearer = λ m v c d e. omega (arith, point-apart h (point_at k l w) (point_at k m v) l m i (in_use k g l w a b) (in_use k g m v c d) e);
     }
 
 -- ---- one symbol
 
-pub first_below : (u : ℕ) (c : Symbol) → Valid u c → firstLabel c < 4
+pub first_below : (u : ℕ) (c : Symbol) → Valid u c → first_label c < 4
 first_below u c v = omega (arith, v.i2-below, v.i3-below)
 
-pub last-below : (c : Symbol) → lastLabel c < 4
-unfolding lastLabel
-last-below c = second_below (firstLabel c) c.y0 c.i1
+pub last-below : (c : Symbol) → last_label c < 4
+unfolding last_label
+last-below c = second_below (first_label c) c.y0 c.i1
 
-pub far-points : (ac : Accord) (g h : Spot) (c : Symbol) → (lineMeasure ac).far (heardAs (Heard g) (Heard h)) c ≡ counted (distance g (first_at ac c)) + counted (distance h (secondAt ac c))
-unfolding farOf firstFar secondFar lineDistance first_at secondAt
+pub far-points : (ac : Accord) (g h : Spot) (c : Symbol) → (line_measure ac).far (heard_as (Heard g) (Heard h)) c ≡ counted (distance g (first_at ac c)) + counted (distance h (second_at ac c))
+unfolding far_of first_far second_far line_distance first_at second_at
 far-points ac g h c = refl
 
 counted-less : (a b : ℕ) → a < b → a < cap → counted a < counted b
@@ -126,20 +126,20 @@ same_point p q = go (ℤ_discrete p.x q.x) (ℤ_discrete p.y q.y)
     go (yes x) (no y) = no (λ e. y (ap (λ (z : Point). z.y) e))
     go (no x) d = no (λ e. x (ap (λ (z : Point). z.x) e))
 
-module _ (ac : Accord) (a : isAccord ac ≡ true) (c : Symbol) (v : Valid ac.u c) (g h : Spot) where
-  pub only-closest : OnlyNearest ac g (first_at ac c) → OnlyNearest ac h (secondAt ac c) → Closest ac.u (lineMeasure ac) (heardAs (Heard g) (Heard h)) c
-  unfolding first_at secondAt
-  only-closest m n d w e = rw (far-points ac g h c, far-points ac g h d) (go (same_point (first_at ac d) (first_at ac c)) (same_point (secondAt ac d) (secondAt ac c)))
+module _ (ac : Accord) (a : is_accord ac ≡ true) (c : Symbol) (v : Valid ac.u c) (g h : Spot) where
+  pub only-closest : OnlyNearest ac g (first_at ac c) → OnlyNearest ac h (second_at ac c) → Closest ac.u (line_measure ac) (heard_as (Heard g) (Heard h)) c
+  unfolding first_at second_at
+  only-closest m n d w e = rw (far-points ac g h c, far-points ac g h d) (go (same_point (first_at ac d) (first_at ac c)) (same_point (second_at ac d) (second_at ac c)))
     where
       one : (first_at ac d ≡ first_at ac c → ⊥) → counted (distance g (first_at ac c)) < counted (distance g (first_at ac d))
-      one z = counted-less (distance g (first_at ac c)) (distance g (first_at ac d)) (m.nearer (firstLabel d) d.w1 (first_below ac.u d w) w.w1-below z) m.counts
+      one z = counted-less (distance g (first_at ac c)) (distance g (first_at ac d)) (m.nearer (first_label d) d.w1 (first_below ac.u d w) w.w1-below z) m.counts
 
-      two : (secondAt ac d ≡ secondAt ac c → ⊥) → counted (distance h (secondAt ac c)) < counted (distance h (secondAt ac d))
-      two z = counted-less (distance h (secondAt ac c)) (distance h (secondAt ac d)) (n.nearer (lastLabel d) d.w2 (last-below d) w.w2-below z) n.counts
+      two : (second_at ac d ≡ second_at ac c → ⊥) → counted (distance h (second_at ac c)) < counted (distance h (second_at ac d))
+      two z = counted-less (distance h (second_at ac c)) (distance h (second_at ac d)) (n.nearer (last_label d) d.w2 (last-below d) w.w2-below z) n.counts
 
-      go : Dec (first_at ac d ≡ first_at ac c) → Dec (secondAt ac d ≡ secondAt ac c) →
-          counted (distance g (first_at ac c)) + counted (distance h (secondAt ac c)) < counted (distance g (first_at ac d)) + counted (distance h (secondAt ac d))
+      go : Dec (first_at ac d ≡ first_at ac c) → Dec (second_at ac d ≡ second_at ac c) →
+          counted (distance g (first_at ac c)) + counted (distance h (second_at ac c)) < counted (distance g (first_at ac d)) + counted (distance h (second_at ac d))
       go (yes x) (yes y) = absurd (e (symbols-apart ac a d c w v x y))
       go (yes x) (no y) = let z : counted (distance g (first_at ac d)) ≡ counted (distance g (first_at ac c)) = ap (λ (p : Point). counted (distance g p)) x in omega (arith, two y)
-      go (no x) (yes y) = let z : counted (distance h (secondAt ac d)) ≡ counted (distance h (secondAt ac c)) = ap (λ (p : Point). counted (distance h p)) y in omega (arith, one x)
+      go (no x) (yes y) = let z : counted (distance h (second_at ac d)) ≡ counted (distance h (second_at ac c)) = ap (λ (p : Point). counted (distance h p)) y in omega (arith, one x)
       go (no x) (no y) = omega (arith, one x, two y)

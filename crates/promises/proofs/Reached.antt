@@ -6,7 +6,7 @@
 use mathlib.Core.Path.{◌≡◌, refl}
 use mathlib.Core.List.{[]}
 use Prim.Native.Nat.{ℕ}
-use Rattle.points.specs.Agreed.{ofWidth}
+use Rattle.points.specs.Agreed.{of_width}
 use Rattle.reasons.specs.declared.Why.{Why}
 use Rattle.reasons.specs.Reason.{given_of}
 use Rattle.sender.specs.Send as sender
@@ -14,15 +14,15 @@ use Rattle.openings.specs.declared.Start.TheVariants.{Free, At}
 use Rattle.openings.specs.Opening.{opening}
 pub use Rattle.worked_cases.proofs.Computed.{closed-row, uneven-row, sample-row, window-row, room_row, finish-row}
 
-pub sender-reached : ((sender.opening (ofWidth 9)).number ≡ 1) × ((sender.sending sender.shut 0 []).number ≡ 9)
-    × ((sender.sending (sender.fresh (ofWidth 0)) 8 []).number ≡ 4) × ((sender.sending (sender.fresh (ofWidth 0)) 7 []).number ≡ 8)
+pub sender-reached : ((sender.opening (of_width 9)).number ≡ 1) × ((sender.sending sender.shut 0 []).number ≡ 9)
+    × ((sender.sending (sender.fresh (of_width 0)) 8 []).number ≡ 4) × ((sender.sending (sender.fresh (of_width 0)) 7 []).number ≡ 8)
 unfolding sender.opening sender.sending
 sender-reached = (refl, refl, refl, refl)
 
-abbrev openingRow : Why → ℕ
-openingRow w = (given_of w).number
+abbrev opening_row : Why → ℕ
+opening_row w = (given_of w).number
 
-pub opening-reached : (openingRow (opening (ofWidth 9) 0 (At 16)).why ≡ 1) × (openingRow (opening (ofWidth 8) 0 (At 16)).why ≡ 2)
-    × (openingRow (opening (ofWidth 8) 65 Free).why ≡ 2) × (openingRow (opening (ofWidth 8) 64 (At 16)).why ≡ 3)
+pub opening-reached : (opening_row (opening (of_width 9) 0 (At 16)).why ≡ 1) × (opening_row (opening (of_width 8) 0 (At 16)).why ≡ 2)
+    × (opening_row (opening (of_width 8) 65 Free).why ≡ 2) × (opening_row (opening (of_width 8) 64 (At 16)).why ≡ 3)
 unfolding opening
 opening-reached = (refl, refl, refl, refl)

@@ -17,12 +17,12 @@ use Rattle.receiver.specs.declared.Answer.{Answer}
 use Rattle.receiver.specs.Doors.{hearing, finishing}
 use Rattle.receiver.specs.Promise.{Hears, Finishes}
 use Rattle.recorder.specs.declared.Taped.{Taped}
-use Rattle.recorder.specs.Doors.{tapedHearing, tapedFinishing}
+use Rattle.recorder.specs.Doors.{taped_hearing, taped_finishing}
 use Rattle.recorder.specs.Promise.{Tapes, FinishTaped}
 use Rattle.c_recorder.specs.Calls as taped
 use Rattle.c_recorder.specs.Promise.{Records}
-use Rattle.c_states.specs.State.{receiverIn}
-use Rattle.demfizagu.specs.Calls.{receiverOpening, hearCall, finishCall}
+use Rattle.c_states.specs.State.{receiver_in}
+use Rattle.demfizagu.specs.Calls.{receiver_opening, hear_call, finish_call}
 use Rattle.demfizagu.specs.Promise as library
 use Rattle.promises.specs.Library.{taken, written}
 
@@ -48,38 +48,38 @@ pub data AnyEnd : Receiver → Type 0 where
   fresh : (k : Accord) (w : ℕ) (b : Start) → AnyEnd (opening k w b).receiver
   heard : {rx : Receiver} → AnyEnd rx → (p : Piece) (room : ℕ) → AnyEnd (hearing rx p room).receiver
   finished : {rx : Receiver} → AnyEnd rx → (room : ℕ) → AnyEnd (finishing rx room).receiver
-  taped-heard : {rx : Receiver} → AnyEnd rx → (p : Piece) (room bytes : ℕ) → AnyEnd (tapedHearing rx p room bytes).receiver
-  taped-finished : {rx : Receiver} → AnyEnd rx → (room bytes : ℕ) → AnyEnd (tapedFinishing rx room bytes).receiver
+  taped-heard : {rx : Receiver} → AnyEnd rx → (p : Piece) (room bytes : ℕ) → AnyEnd (taped_hearing rx p room bytes).receiver
+  taped-finished : {rx : Receiver} → AnyEnd rx → (room bytes : ℕ) → AnyEnd (taped_finishing rx room bytes).receiver
 
 -- ---- the library's calls
 
 -- a plain call with a `told` of three places, a recorded one with four; a shorter `told` is an 8, and nothing happens; a state may be copied
 pub data LibraryCalled (state : List ℕ) : List (Two Received) → List ℕ → List ℕ → Type 0 where
-  hears : (piece : Piece) (out told : List ℕ) → 3 ≤ length told → (n : ℕ) (state' o told' : List ℕ) → library.Answers (hearCall state piece out told) n state' o told' →
+  hears : (piece : Piece) (out told : List ℕ) → 3 ≤ length told → (n : ℕ) (state' o told' : List ℕ) → library.Answers (hear_call state piece out told) n state' o told' →
       LibraryCalled state (take (taken told') piece.symbols) (take (written told') o) state'
-  tapes : (piece : Piece) (out bytes told : List ℕ) → 4 ≤ length told → (n : ℕ) (state' o b told' : List ℕ) → Records (taped.hearCall state piece out bytes told) n state' o b told' →
+  tapes : (piece : Piece) (out bytes told : List ℕ) → 4 ≤ length told → (n : ℕ) (state' o b told' : List ℕ) → Records (taped.hear_call state piece out bytes told) n state' o b told' →
       LibraryCalled state (take (taken told') piece.symbols) (take (written told') o) state'
-  refuses : (out told : List ℕ) → 3 ≤ length told → (n : ℕ) (state' o told' : List ℕ) → library.Answers (finishCall state out told) n state' o told' → (n ≡ 0 → ⊥) →
+  refuses : (out told : List ℕ) → 3 ≤ length told → (n : ℕ) (state' o told' : List ℕ) → library.Answers (finish_call state out told) n state' o told' → (n ≡ 0 → ⊥) →
       LibraryCalled state [] (take (written told') o) state'
-  tape-refuses : (out bytes told : List ℕ) → 4 ≤ length told → (n : ℕ) (state' o b told' : List ℕ) → Records (taped.finishCall state out bytes told) n state' o b told' → (n ≡ 0 → ⊥) →
+  tape-refuses : (out bytes told : List ℕ) → 4 ≤ length told → (n : ℕ) (state' o b told' : List ℕ) → Records (taped.finish_call state out bytes told) n state' o b told' → (n ≡ 0 → ⊥) →
       LibraryCalled state [] (take (written told') o) state'
-  short : (piece : Piece) (out told : List ℕ) → length told < 3 → (n : ℕ) (state' o told' : List ℕ) → library.Answers (hearCall state piece out told) n state' o told' → LibraryCalled state [] [] state'
-  tape-short : (piece : Piece) (out bytes told : List ℕ) → length told < 4 → (n : ℕ) (state' o b told' : List ℕ) → Records (taped.hearCall state piece out bytes told) n state' o b told' →
+  short : (piece : Piece) (out told : List ℕ) → length told < 3 → (n : ℕ) (state' o told' : List ℕ) → library.Answers (hear_call state piece out told) n state' o told' → LibraryCalled state [] [] state'
+  tape-short : (piece : Piece) (out bytes told : List ℕ) → length told < 4 → (n : ℕ) (state' o b told' : List ℕ) → Records (taped.hear_call state piece out bytes told) n state' o b told' →
       LibraryCalled state [] [] state'
-  short-finish : (out told : List ℕ) → length told < 3 → (n : ℕ) (state' o told' : List ℕ) → library.Answers (finishCall state out told) n state' o told' → LibraryCalled state [] [] state'
-  tape-short-finish : (out bytes told : List ℕ) → length told < 4 → (n : ℕ) (state' o b told' : List ℕ) → Records (taped.finishCall state out bytes told) n state' o b told' →
+  short-finish : (out told : List ℕ) → length told < 3 → (n : ℕ) (state' o told' : List ℕ) → library.Answers (finish_call state out told) n state' o told' → LibraryCalled state [] [] state'
+  tape-short-finish : (out bytes told : List ℕ) → length told < 4 → (n : ℕ) (state' o b told' : List ℕ) → Records (taped.finish_call state out bytes told) n state' o b told' →
       LibraryCalled state [] [] state'
-  copied : (other : List ℕ) → receiverIn other ≡ receiverIn state → LibraryCalled state [] [] other
+  copied : (other : List ℕ) → receiver_in other ≡ receiver_in state → LibraryCalled state [] [] other
 
 pub data LibraryMixed (k : Accord) (w : ℕ) (b : Start) : List (Two Received) → List ℕ → List ℕ → Type 0 where
-  opens : (before state : List ℕ) (n : ℕ) → library.Opens receiverIn (receiverOpening before k w b) n state → n ≡ 0 → LibraryMixed k w b [] [] state
+  opens : (before state : List ℕ) (n : ℕ) → library.Opens receiver_in (receiver_opening before k w b) n state → n ≡ 0 → LibraryMixed k w b [] [] state
   calls : {took zs : List (Two Received)} {ws vs state state' : List ℕ} → LibraryMixed k w b took ws state → LibraryCalled state zs vs state' →
       LibraryMixed k w b (took ++ zs) (ws ++ vs) state'
 
 pub data LibraryMixedEnded (k : Accord) (w : ℕ) (b : Start) : List (Two Received) → List ℕ → Type 0 where
   ends : {took : List (Two Received)} {ws state : List ℕ} → LibraryMixed k w b took ws state →
-      (out told : List ℕ) → 3 ≤ length told → (n : ℕ) (state' o told' : List ℕ) → library.Answers (finishCall state out told) n state' o told' → n ≡ 0 →
+      (out told : List ℕ) → 3 ≤ length told → (n : ℕ) (state' o told' : List ℕ) → library.Answers (finish_call state out told) n state' o told' → n ≡ 0 →
       LibraryMixedEnded k w b took (ws ++ take (written told') o)
   tape-ends : {took : List (Two Received)} {ws state : List ℕ} → LibraryMixed k w b took ws state →
-      (out bytes told : List ℕ) → 4 ≤ length told → (n : ℕ) (state' o b' told' : List ℕ) → Records (taped.finishCall state out bytes told) n state' o b' told' → n ≡ 0 →
+      (out bytes told : List ℕ) → 4 ≤ length told → (n : ℕ) (state' o b' told' : List ℕ) → Records (taped.finish_call state out bytes told) n state' o b' told' → n ≡ 0 →
       LibraryMixedEnded k w b took (ws ++ take (written told') o)

@@ -8,7 +8,7 @@
 use Rattle.std.specs.Prelude.{◌≡◌, List, [], ◌∷◌, ℕ, ◌^◌, ◌≤◌, ◌<◌, ℤ, nat_abs}
 use Rattle.points.specs.declared.Accord.{Accord}
 use Rattle.points.specs.declared.Point.{Point}
-use Rattle.maps.specs.PointMap.{pointAt}
+use Rattle.maps.specs.PointMap.{point_at}
 use Rattle.trellis.specs.Measure.{Two, cap}
 use Rattle.distance.specs.declared.Spot.{Spot}
 use Rattle.distance.specs.Distance.{difference, distance}
@@ -22,7 +22,7 @@ pub record Near (n : ℕ) (h : Spot) (p : Point) : Type 0 where
 
 -- "Width u uses w below 2^u, so each label has 2^u points": all points of the width and map
 abbrev pub Nearer : Accord → Spot → Point → Type 0
-Nearer k h p = (l w : ℕ) → l < 4 → w < 2 ^ k.u → (pointAt k l w ≡ p → ⊥) → distance h p < distance h (pointAt k l w)
+Nearer k h p = (l w : ℕ) → l < 4 → w < 2 ^ k.u → (point_at k l w ≡ p → ⊥) → distance h p < distance h (point_at k l w)
 
 -- "The squared distance of each single 2D point is to count for no more than 262,144 in any sum" (02, Wish 8): beyond that all points are alike
 pub record OnlyNearest (k : Accord) (h : Spot) (p : Point) : Type 0 where

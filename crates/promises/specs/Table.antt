@@ -12,39 +12,39 @@
 -- A receiver that has been told t is open; a closed one is answered 9, as said in proofs/Demand1.
 use Rattle.std.specs.Prelude.{ℕ, ◌+◌, ◌-◌, ◌*◌, ◌≤◌, ◌<◌, ◌≡◌, true, false, ◌⊎◌, List, [], ◌∷◌, ◌++◌, reverse, ℤ, length, take, drop}
 use Rattle.points.specs.declared.Accord.{Accord}
-use Rattle.points.specs.Agreed.{isAccord}
-use Rattle.wei.specs.Word.{isWord}
+use Rattle.points.specs.Agreed.{is_accord}
+use Rattle.wei.specs.Word.{is_word}
 use Rattle.calls.specs.Calls.{fresh, rest}
 use Rattle.trellis.specs.Lists.{Every}
 use Rattle.trellis.specs.Measure.{Two}
 use Rattle.nearest.specs.declared.Received.{Received}
 use Rattle.nearest.specs.Line.{BothInRange}
-use Rattle.receiver_meaning.specs.Told.{Told, speakerOf, pendingAfter, faultOf}
+use Rattle.receiver_meaning.specs.Told.{Told, speaker_of, pending_after, fault_of}
 use Rattle.reasons.specs.Reason.{Reason, reason}
 use Rattle.sender.specs.declared.Sender.{Sender}
 use Rattle.openings.specs.declared.Start.{Start}
 use Rattle.openings.specs.declared.Start.TheVariants.{At}
-use Rattle.openings.specs.Given.{startFits}
+use Rattle.openings.specs.Given.{start_fits}
 use Rattle.receiver_meaning.specs.Piece.{Piece}
 
 -- "u above 8 at an opening"; "a sender has only 1"
 pub data SenderOpens (k : Accord) : ℕ → Type 0 where
-  one : isAccord k ≡ false → SenderOpens k 1
-  done : isAccord k ≡ true → SenderOpens k 0
+  one : is_accord k ≡ false → SenderOpens k 1
+  done : is_accord k ≡ true → SenderOpens k 0
 
 -- "Sending one word: 9, 4, 8"
 pub data SendGives (s : Sender) (n : ℕ) (out : List ℤ) : ℕ → Type 0 where
   nine : s.live ≡ false → SendGives s n out 9
-  four : s.live ≡ true → isWord s.accord.u n ≡ false → SendGives s n out 4
-  eight : s.live ≡ true → isWord s.accord.u n ≡ true → length out < 4 → SendGives s n out 8
-  done : s.live ≡ true → isWord s.accord.u n ≡ true → 4 ≤ length out → SendGives s n out 0
+  four : s.live ≡ true → is_word s.accord.u n ≡ false → SendGives s n out 4
+  eight : s.live ≡ true → is_word s.accord.u n ≡ true → length out < 4 → SendGives s n out 8
+  done : s.live ≡ true → is_word s.accord.u n ≡ true → 4 ≤ length out → SendGives s n out 0
 
 -- "It stops at the first word that would be refused and says how many were sent and why; words before it stay sent" (02, Wish 1): the m words
 -- before it are words and have four places each
 pub data WordsGive (u : ℕ) (ns : List ℕ) (room m : ℕ) : ℕ → Type 0 where
-  whole : m ≡ length ns → Every (λ n. isWord u n ≡ true) ns → 4 * m ≤ room → WordsGive u ns room m 0
-  four : Every (λ n. isWord u n ≡ true) (take m ns) → 4 * m ≤ room → (n : ℕ) (later : List ℕ) → drop m ns ≡ n ∷ later → isWord u n ≡ false → WordsGive u ns room m 4
-  eight : Every (λ n. isWord u n ≡ true) (take m ns) → 4 * m ≤ room → (n : ℕ) (later : List ℕ) → drop m ns ≡ n ∷ later → isWord u n ≡ true → room < 4 * m + 4 → WordsGive u ns room m 8
+  whole : m ≡ length ns → Every (λ n. is_word u n ≡ true) ns → 4 * m ≤ room → WordsGive u ns room m 0
+  four : Every (λ n. is_word u n ≡ true) (take m ns) → 4 * m ≤ room → (n : ℕ) (later : List ℕ) → drop m ns ≡ n ∷ later → is_word u n ≡ false → WordsGive u ns room m 4
+  eight : Every (λ n. is_word u n ≡ true) (take m ns) → 4 * m ≤ room → (n : ℕ) (later : List ℕ) → drop m ns ≡ n ∷ later → is_word u n ≡ true → room < 4 * m + 4 → WordsGive u ns room m 8
 
 -- "An empty list to an open sender sends nothing and answers 0, to a closed one 9" (02, Wish 1)
 pub data ListGives (s : Sender) (ns : List ℕ) (out : List ℤ) (m : ℕ) : ℕ → Type 0 where
@@ -53,24 +53,24 @@ pub data ListGives (s : Sender) (ns : List ℕ) (out : List ℤ) (m : ℕ) : ℕ
 
 -- "Opening order: 1, 2, 3": "u above 8", "window not 1 to 64", "named start above 15"
 pub data ReceiverOpens (k : Accord) (w : ℕ) (b : Start) : ℕ → Type 0 where
-  one : isAccord k ≡ false → ReceiverOpens k w b 1
-  two : isAccord k ≡ true → (w ≡ 0) ⊎ (64 < w) → ReceiverOpens k w b 2
-  three : isAccord k ≡ true → 1 ≤ w → w ≤ 64 → (n : ℕ) → b ≡ At n → 15 < n → ReceiverOpens k w b 3
-  done : isAccord k ≡ true → 1 ≤ w → w ≤ 64 → startFits b ≡ true → ReceiverOpens k w b 0
+  one : is_accord k ≡ false → ReceiverOpens k w b 1
+  two : is_accord k ≡ true → (w ≡ 0) ⊎ (64 < w) → ReceiverOpens k w b 2
+  three : is_accord k ≡ true → 1 ≤ w → w ≤ 64 → (n : ℕ) → b ≡ At n → 15 < n → ReceiverOpens k w b 3
+  done : is_accord k ≡ true → 1 ≤ w → w ≤ 64 → start_fits b ≡ true → ReceiverOpens k w b 0
 
 -- "The order of checks becomes 5, 6, 8" (02, Wish 6)
 pub data SymbolGives (t : Told) (ys : List (Two Received)) (y : Two Received) (room : ℕ) : Reason → Type 0 where
-  five : faultOf y < 4 → SymbolGives t ys y room (record { number = 5; place = faultOf y })
-  six : BothInRange y → t.window < pendingAfter t (y ∷ ys) → SymbolGives t ys y room (reason 6)
-  eight : BothInRange y → pendingAfter t (y ∷ ys) ≤ t.window → room < length (fresh (speakerOf t) ys y) → SymbolGives t ys y room (reason 8)
-  taken : BothInRange y → pendingAfter t (y ∷ ys) ≤ t.window → length (fresh (speakerOf t) ys y) ≤ room → SymbolGives t ys y room (reason 0)
+  five : fault_of y < 4 → SymbolGives t ys y room (record { number = 5; place = fault_of y })
+  six : BothInRange y → t.window < pending_after t (y ∷ ys) → SymbolGives t ys y room (reason 6)
+  eight : BothInRange y → pending_after t (y ∷ ys) ≤ t.window → room < length (fresh (speaker_of t) ys y) → SymbolGives t ys y room (reason 8)
+  taken : BothInRange y → pending_after t (y ∷ ys) ≤ t.window → length (fresh (speaker_of t) ys y) ≤ room → SymbolGives t ys y room (reason 0)
 
 -- "Earlier symbols of that piece stay taken": the symbols zs, heard after ys, were each answered with 0 in the room left then, and n is the
 -- sum of their words
 pub data Takes (t : Told) : List (Two Received) → List (Two Received) → ℕ → ℕ → Type 0 where
   none : (ys : List (Two Received)) (room : ℕ) → Takes t ys [] room 0
   next : (ys zs : List (Two Received)) (y : Two Received) (room n : ℕ) → SymbolGives t ys y room (reason 0) →
-      Takes t (y ∷ ys) zs (room - length (fresh (speakerOf t) ys y)) n → Takes t ys (y ∷ zs) room (length (fresh (speakerOf t) ys y) + n)
+      Takes t (y ∷ ys) zs (room - length (fresh (speaker_of t) ys y)) n → Takes t ys (y ∷ zs) room (length (fresh (speaker_of t) ys y) + n)
 
 -- "A piece: 9, 10, then symbol by symbol .., stopping at the first refusal"
 pub data PieceGives (t : Told) (q : Piece) (room m n : ℕ) : Reason → Type 0 where
@@ -81,5 +81,5 @@ pub data PieceGives (t : Told) (q : Piece) (room m n : ℕ) : Reason → Type 0 
 
 -- "Finish: 9, 8"; "Need for 8: room .. at finish for all pending words"
 pub data FinishGives (t : Told) (room : ℕ) : ℕ → Type 0 where
-  eight : room < length (rest (speakerOf t) t.heard) → FinishGives t room 8
-  done : length (rest (speakerOf t) t.heard) ≤ room → FinishGives t room 0
+  eight : room < length (rest (speaker_of t) t.heard) → FinishGives t room 8
+  done : length (rest (speaker_of t) t.heard) ≤ room → FinishGives t room 0

@@ -2,13 +2,13 @@
 // `requests::card_verb`.
 ghost use Rattle.std.specs.Prelude.{◌≡◌};
 ghost use Rattle.text.specs.Token.{tokens};
-ghost use Rattle.protocol.specs.Request.{cardVerb};
+ghost use Rattle.protocol.specs.Request.{card_verb};
 
 use requests::Request;
 use text::token;
 
 pub fn tried(word: &[u8], rest: &[u8]) -> Request
-    ensures { result ≡ cardVerb word.now (tokens rest.now) }
+    ensures { result ≡ card_verb word.now (tokens rest.now) }
 {
     if token::same(word, b"card") {
         return requests::card_verb::read(rest);

@@ -2,16 +2,16 @@
 // that is lent for them.
 ghost use Rattle.std.specs.Prelude.{◌≡◌, length};
 ghost use Rattle.text.specs.Token.{tokens};
-ghost use Rattle.protocol.specs.Request.{listVerb, listCoordinates, listWords};
+ghost use Rattle.protocol.specs.Request.{list_verb, list_coordinates, list_words};
 
 use crate::piece;
 use requests::Request;
 use text::token;
 
 pub fn tried(word: &[u8], rest: &[u8], coordinates: &mut [i32], words: &mut [u32]) -> Request
-    ensures value { result ≡ listVerb (length coordinates.old) (length words.old) word.now (tokens rest.now) }
-    ensures coordinates_after { coordinates.new ≡ listCoordinates word.now (tokens rest.now) coordinates.old }
-    ensures words_after { words.new ≡ listWords word.now (tokens rest.now) words.old }
+    ensures value { result ≡ list_verb (length coordinates.old) (length words.old) word.now (tokens rest.now) }
+    ensures coordinates_after { coordinates.new ≡ list_coordinates word.now (tokens rest.now) coordinates.old }
+    ensures words_after { words.new ≡ list_words word.now (tokens rest.now) words.old }
 {
     if token::same(word, b"list") {
         return requests::list::read(rest, words);

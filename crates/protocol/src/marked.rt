@@ -2,7 +2,7 @@
 // coordinates into the lists that are lent for them. It is the first that is tried, so it answers for all verbs.
 ghost use Rattle.std.specs.Prelude.{◌≡◌, ◌∷◌, length};
 ghost use Rattle.text.specs.Token.{tokens};
-ghost use Rattle.protocol.specs.Request.{verbOf, lineFills, wordFills, markFills};
+ghost use Rattle.protocol.specs.Request.{verb_of, line_fills, word_fills, mark_fills};
 
 use crate::list;
 use requests::Request;
@@ -15,10 +15,10 @@ pub fn tried(
     words: &mut [u32],
     marks: &mut [u8],
 ) -> Request
-    ensures value { result ≡ verbOf (length coordinates.old) (length words.old) (length marks.old) word.now (tokens rest.now) }
-    ensures coordinates_after { coordinates.new ≡ lineFills (word.now ∷ tokens rest.now) coordinates.old }
-    ensures words_after { words.new ≡ wordFills (word.now ∷ tokens rest.now) words.old }
-    ensures marks_after { marks.new ≡ markFills (word.now ∷ tokens rest.now) marks.old }
+    ensures value { result ≡ verb_of (length coordinates.old) (length words.old) (length marks.old) word.now (tokens rest.now) }
+    ensures coordinates_after { coordinates.new ≡ line_fills (word.now ∷ tokens rest.now) coordinates.old }
+    ensures words_after { words.new ≡ word_fills (word.now ∷ tokens rest.now) words.old }
+    ensures marks_after { marks.new ≡ mark_fills (word.now ∷ tokens rest.now) marks.old }
 {
     if token::same(word, b"marked") {
         return requests::marked::read(rest, coordinates, marks);

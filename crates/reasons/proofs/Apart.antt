@@ -9,15 +9,15 @@ use lib.Dec.{eqb}
 use borrow.Author.Tests.{eqb-true}
 use Rattle.reasons.specs.declared.Why.{Why}
 use Rattle.reasons.specs.declared.Why.TheVariants.{Done, BadWidth, BadWindow, BadStart, BadSample, Full, NoRoom, Closed, Uneven}
-use Rattle.reasons.specs.Reason.{Reason, reason, given_of, isDone}
+use Rattle.reasons.specs.Reason.{Reason, reason, given_of, is_done}
 
-whyOf : Reason → Why
-whyOf r =
+why_of : Reason → Why
+why_of r =
     cond (eqb r.number 0) Done (cond (eqb r.number 1) BadWidth (cond (eqb r.number 2) BadWindow (cond (eqb r.number 3) BadStart (cond (eqb r.number 5) (BadSample r.place)
     (cond (eqb r.number 6) Full (cond (eqb r.number 8) NoRoom (cond (eqb r.number 9) Closed Uneven)))))))
 
-back : (w : Why) → whyOf (given_of w) ≡ w
-unfolding whyOf
+back : (w : Why) → why_of (given_of w) ≡ w
+unfolding why_of
 back Done = refl
 back BadWidth = refl
 back BadWindow = refl
@@ -29,12 +29,12 @@ back Closed = refl
 back Uneven = refl
 
 pub given-one : (v w : Why) → given_of v ≡ given_of w → v ≡ w
-given-one v w e = sym (back v) ∙ ap whyOf e ∙ back w
+given-one v w e = sym (back v) ∙ ap why_of e ∙ back w
 
 -- a call that stops at a refusal takes nothing else for done
-pub done-given : (w : Why) → isDone w ≡ true → given_of w ≡ reason 0
-unfolding whyOf
-done-given w e = let d : whyOf (given_of w) ≡ Done = rw (eqb-true (given_of w).number 0 e) in ap given_of (sym (back w) ∙ d)
+pub done-given : (w : Why) → is_done w ≡ true → given_of w ≡ reason 0
+unfolding why_of
+done-given w e = let d : why_of (given_of w) ≡ Done = rw (eqb-true (given_of w).number 0 e) in ap given_of (sym (back w) ∙ d)
 
 pub never-seven : (w : Why) → (given_of w).number ≡ 7 → ⊥
 never-seven Done e = omega arith

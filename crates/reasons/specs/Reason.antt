@@ -3,7 +3,7 @@
 --   Reason        a number of the table, with the place where it is 5
 --   reason n      the number n, which has no place
 --   given_of why   what the code's reason stands for
---   isDone why    nothing was refused
+--   is_done why    nothing was refused
 use Rattle.std.specs.Prelude.{ℕ, Bool, eqb}
 use Rattle.reasons.specs.declared.Why.{Why}
 use Rattle.reasons.specs.declared.Why.TheVariants.{Done, BadWidth, BadWindow, BadStart, BadSample, Full, NoRoom, Closed, Uneven}
@@ -27,5 +27,5 @@ given_of NoRoom = reason 8
 given_of Closed = reason 9
 given_of Uneven = reason 10
 
-abbrev pub isDone : Why → Bool
-isDone w = eqb (given_of w).number 0
+abbrev pub is_done : Why → Bool
+is_done w = eqb (given_of w).number 0

@@ -1,7 +1,7 @@
 // Why a call of the receiving end stopped, and the number of 01's table for it. Whoever speaks of reasons, the machine as well as the
 // doors above it and the programs, uses these and no numbers of its own.
 ghost use Rattle.std.specs.Prelude.{◌≡◌};
-ghost use Rattle.reasons.specs.Reason.{given_of, isDone};
+ghost use Rattle.reasons.specs.Reason.{given_of, is_done};
 
 // A bad sample carries the place of the first coordinate at fault, 0 to 3.
 #[derive(Drop)]
@@ -36,7 +36,7 @@ pub fn number(why: Why) -> u32
 
 // Whether a reason says that nothing was refused.
 pub fn is_done(why: Why) -> bool
-    ensures { result ≡ isDone why }
+    ensures { result ≡ is_done why }
 {
     number(why) == 0
 }

@@ -12,15 +12,15 @@ use native.Mathlib.Omega.{arith}
 use lib.Dec.{ltb}
 use lib.ListN.{length, take, drop}
 use Rattle.calls.specs.Calls.{rest}
-use Rattle.trellis.specs.Words.{wordsFrom}
+use Rattle.trellis.specs.Words.{words_from}
 use Rattle.machine.specs.declared.Core.{Core}
 use Rattle.machine.specs.declared.Receiver.{Receiver}
 use Rattle.reasons.specs.declared.Why.TheVariants.{Done, NoRoom, Closed, Uneven}
-use Rattle.machine.specs.Machine.{shut, lastWords, sound, wayFrom, machine_of}
+use Rattle.machine.specs.Machine.{shut, last_words, sound, way_from, machine_of}
 use Rattle.machine.specs.Parts.{whole}
 use Rattle.sums.specs.Sums.{end_of}
 use Rattle.lists.proofs.UpTo.{and_both}
-use Rattle.receiver_meaning.specs.Told.{Told, speakerOf, Fine, withHeard}
+use Rattle.receiver_meaning.specs.Told.{Told, speaker_of, Fine, with_heard}
 use Rattle.reasons.specs.Reason.{reason, given_of}
 use Rattle.machine.proofs.Owed.{machine-same, sound-told, last-told, rest-many}
 use Rattle.machine.proofs.Finish.{last-many, last-from}
@@ -31,8 +31,8 @@ use Rattle.receiver_meaning.specs.Piece.{Piece}
 use Rattle.pieces.specs.Running.{Ran, running}
 use Rattle.pieces.specs.Lent.{RunsLent}
 use Rattle.receiver.specs.Doors.{stopped, hearing, finishing}
-use Rattle.receiver_meaning.specs.Owed.{Owed, ended_of, pieceOwed, FinishOwed, finishOwed}
-use Rattle.receiver.specs.Promise.{Is, parts_of, lentLive, answer_of, Hears, Finishes}
+use Rattle.receiver_meaning.specs.Owed.{Owed, ended_of, piece_owed, FinishOwed, finish_owed}
+use Rattle.receiver.specs.Promise.{Is, parts_of, lent_live, answer_of, Hears, Finishes}
 use Rattle.pieces.proofs.Runs.{walked, RunsAs, runs}
 
 -- ---- a piece
@@ -44,8 +44,8 @@ pub record OwedBy (h : Ran) (d : Owed) : Type 0 where
   pub fine : Fine d.told
   pub receiver : h.receiver ≡ machine_of d.told
 
-pub hearing-owes : (t : Told) → Fine t → (p : Piece) (room : ℕ) → OwedBy (hearing (machine_of t) p room) (pieceOwed t p room)
-unfolding hearing pieceOwed
+pub hearing-owes : (t : Told) → Fine t → (p : Piece) (room : ℕ) → OwedBy (hearing (machine_of t) p room) (piece_owed t p room)
+unfolding hearing piece_owed
 hearing-owes t f p room = rw (sound-told t f) (go p.fits)
   where
     e : RunsAs t (ended_of t p room) 0 [] (running p.symbols (machine_of t) 0 [] room)
@@ -54,7 +54,7 @@ hearing-owes t f p room = rw (sound-told t f) (go p.fits)
         (runs t p.symbols t.heard f 0 [] room)
 
     ends : Owed
-    ends = let r = ended_of t p room in record { reason = r.why; taken = r.taken; words = r.said; told = withHeard t r.heard }
+    ends = let r = ended_of t p room in record { reason = r.why; taken = r.taken; words = r.said; told = with_heard t r.heard }
 
     go : (b : Bool) → OwedBy (cond b (running p.symbols (machine_of t) 0 [] room) (stopped (machine_of t) Uneven))
         (cond b ends (record { reason = reason 10; taken = 0; words = []; told = t }))
@@ -88,20 +88,20 @@ pub record EndedBy (h : Ran) (rx : Receiver) (d : FinishOwed) : Type 0 where
   pub words : h.words ≡ d.words
   pub receiver : h.receiver ≡ cond d.closes shut rx
 
-finishing-by : (rx : Receiver) (room n : ℕ) (ws : List ℕ) → sound rx ≡ true → rx.core.pending ≡ n → lastWords rx ≡ ws →
+finishing-by : (rx : Receiver) (room n : ℕ) (ws : List ℕ) → sound rx ≡ true → rx.core.pending ≡ n → last_words rx ≡ ws →
     finishing rx room ≡ cond (ltb room n) (stopped rx NoRoom) (record { receiver = shut; taken = 0; words = ws; why = Done })
 unfolding finishing
 finishing-by rx room n ws a b c = cc
 
-pub finishing-owes : (t : Told) → Fine t → (room : ℕ) → EndedBy (finishing (machine_of t) room) (machine_of t) (finishOwed t room)
-unfolding finishOwed
+pub finishing-owes : (t : Told) → Fine t → (room : ℕ) → EndedBy (finishing (machine_of t) room) (machine_of t) (finish_owed t room)
+unfolding finish_owed
 finishing-owes t f room =
-    subst (λ (h : Ran). EndedBy h (machine_of t) (finishOwed t room))
+    subst (λ (h : Ran). EndedBy h (machine_of t) (finish_owed t room))
     (sym (finishing-by (machine_of t) room (length ws) ws (sound-told t f) (sym (rest-many t f)) (last-told t f)))
     (go (ltb room (length ws)))
   where
     ws : List ℕ
-    ws = rest (speakerOf t) t.heard
+    ws = rest (speaker_of t) t.heard
 
     go : (b : Bool) → EndedBy (cond b (stopped (machine_of t) NoRoom) (record { receiver = shut; taken = 0; words = ws; why = Done })) (machine_of t)
         (cond b (record { reason = reason 8; words = []; closes = false }) (record { reason = reason 0; words = ws; closes = true }))
@@ -120,7 +120,7 @@ finishes rx out r o k =
             taken = h.taken ∙ d.taken;
             written = h.written ∙ ap length d.words;
             output = h.output ∙ ap (λ (ws : List ℕ). ws ++ drop (length ws) out) d.words;
-            receiver = h.receiver ∙ d.receiver ∙ ap (cond (finishOwed t (length out)).closes shut) (sym e);
+            receiver = h.receiver ∙ d.receiver ∙ ap (cond (finish_owed t (length out)).closes shut) (sym e);
           };
     }
 
@@ -136,11 +136,11 @@ module _ (rx : Receiver) (out : List ℕ) where
   finish-full e h = rw (e, lt-ltb (length out) rx.core.pending h) (record { receiver = refl; taken = refl; written = refl; given = refl; output = refl })
 
   pub finish-done : sound rx ≡ true → rx.core.pending ≤ length out → (s : ℕ) → s ≡ end_of rx.sums → (o : List ℕ) →
-      o ≡ wordsFrom rx.core.accord.u rx.core.turn (take rx.core.pending (wayFrom rx.core rx.registers rx.picks s)) ++ drop rx.core.pending out →
+      o ≡ words_from rx.core.accord.u rx.core.turn (take rx.core.pending (way_from rx.core rx.registers rx.picks s)) ++ drop rx.core.pending out →
       Is (finishing rx (length out)) out (record { receiver = shut; taken = 0; written = rx.core.pending; why = Done }) o
   unfolding finishing
   finish-done e h s k o w =
-      let z : o ≡ lastWords rx ++ drop (length (lastWords rx)) out = w ∙ ap₂ (λ (ws : List ℕ) (n : ℕ). ws ++ drop n out) (last-from rx s k) (sym (last-many rx)) in
+      let z : o ≡ last_words rx ++ drop (length (last_words rx)) out = w ∙ ap₂ (λ (ws : List ℕ) (n : ℕ). ws ++ drop n out) (last-from rx s k) (sym (last-many rx)) in
       rw (e, le-ltb (length out) rx.core.pending h) (record { receiver = refl; taken = refl; written = sym (last-many rx); given = refl; output = z })
 
   pub hear-closed : (p : Piece) → sound rx ≡ false → Is (hearing rx p (length out)) out (record { receiver = rx; taken = 0; written = 0; why = Closed }) out
@@ -158,24 +158,24 @@ module _ (rx : Receiver) (out : List ℕ) where
 -- ---- parts that are lent
 
 module _ (live : Bool) (picks : List ℕ) where
-  pub lent-live : length picks ≡ 72 → lentLive live picks ≡ live
+  pub lent-live : length picks ≡ 72 → lent_live live picks ≡ live
   lent-live e = rw (eq-eqb (length picks) 72 e) (go live) where
     go : (b : Bool) → (b && true) ≡ b
     go true = refl
     go false = refl
 
-  pub lent_none : (length picks ≡ 72 → ⊥) → lentLive live picks ≡ false
+  pub lent_none : (length picks ≡ 72 → ⊥) → lent_live live picks ≡ false
   lent_none e = rw (ne_eqb (length picks) 72 e) (go live) where
     go : (b : Bool) → (b && false) ≡ false
     go true = refl
     go false = refl
 
-  pub lent-all : lentLive live picks ≡ true → length picks ≡ 72
+  pub lent-all : lent_live live picks ≡ true → length picks ≡ 72
   lent-all e = eqb-true (length picks) 72 (and_both live _ e).1
 
 -- a receiver that lends its own picks
 pub hears-lent : (rx : Receiver) (p : Piece) (out : List ℕ) (h : Heard) (sums registers picks o : List ℕ) → length rx.picks ≡ 72
-    → Is (hearing (parts_of (lentLive rx.live rx.picks) rx.core rx.sums rx.registers rx.picks) p (length out)) out (answer_of (lentLive rx.live rx.picks) h sums registers picks) o
+    → Is (hearing (parts_of (lent_live rx.live rx.picks) rx.core rx.sums rx.registers rx.picks) p (length out)) out (answer_of (lent_live rx.live rx.picks) h sums registers picks) o
     → Hears rx p out (answer_of rx.live h sums registers picks) o
 hears-lent rx p out h sums registers picks o n is =
     hears rx p out (answer_of rx.live h sums registers picks) o

@@ -8,7 +8,7 @@ use Prim.Native.Nat.{ℕ}
 use lib.Dec.{ltb}
 use lib.ListN.{length}
 use Rattle.machine.specs.declared.Receiver.{Receiver}
-use Rattle.machine.specs.Machine.{shut, lastWords, sound}
+use Rattle.machine.specs.Machine.{shut, last_words, sound}
 use Rattle.reasons.specs.declared.Why.TheVariants.{Done, NoRoom, Closed}
 use Rattle.reasons.specs.Reason.{Reason, given_of}
 use Rattle.receiver_meaning.specs.Piece.{Piece}
@@ -32,7 +32,7 @@ pub finishes-left : (rx : Receiver) (out : List ℕ) (r : Answer) (o : List ℕ)
 unfolding finishing
 finishes-left rx out r o p z = go (sound rx) (ltb (length out) rx.core.pending) p.always
   where
-    go : (i j : Bool) → Is (cond i (cond j (stopped rx NoRoom) (record { receiver = shut; taken = 0; words = lastWords rx; why = Done })) (stopped rx Closed)) out r o → (r.receiver ≡ rx) × (o ≡ out)
+    go : (i j : Bool) → Is (cond i (cond j (stopped rx NoRoom) (record { receiver = shut; taken = 0; words = last_words rx; why = Done })) (stopped rx Closed)) out r o → (r.receiver ≡ rx) × (o ≡ out)
     go false j k = (k.receiver, k.output)
     go true true k = (k.receiver, k.output)
     go true false k = absurd (z (ap (λ (g : Reason). g.number) k.given))

@@ -6,7 +6,7 @@ use Rattle.std.specs.Prelude.{ℕ, cond, [], ltb}
 use Rattle.machine.specs.declared.Receiver.{Receiver}
 use Rattle.reasons.specs.declared.Why.{Why}
 use Rattle.reasons.specs.declared.Why.TheVariants.{Done, NoRoom, Closed, Uneven}
-use Rattle.machine.specs.Machine.{shut, lastWords, sound}
+use Rattle.machine.specs.Machine.{shut, last_words, sound}
 use Rattle.receiver_meaning.specs.Piece.{Piece}
 use Rattle.pieces.specs.Running.{running}
 pub use Rattle.pieces.specs.Running.{Ran}
@@ -27,5 +27,5 @@ hearing rx p room =
 unfoldable pub finishing : Receiver → ℕ → Ran
 finishing rx room =
     cond (sound rx)
-    (cond (ltb room rx.core.pending) (stopped rx NoRoom) (record { receiver = shut; taken = 0; words = lastWords rx; why = Done }))
+    (cond (ltb room rx.core.pending) (stopped rx NoRoom) (record { receiver = shut; taken = 0; words = last_words rx; why = Done }))
     (stopped rx Closed)

@@ -1,7 +1,7 @@
 -- The promises of the receiver's doors. `always` fixes result and output for every record, so any two results are equal (proofs/Settled);
 -- `owed` says, for whatever the receiver has been told, what that is in the words of 01.
 --   parts_of, answer_of        a receiver, and an answer, put together from their parts
---   lentLive live picks      whether parts that are lent are those of a live receiver
+--   lent_live live picks      whether parts that are lent are those of a live receiver
 --   HearsLent                what a piece does to such parts
 --   Hears rx p out r o       the promise of `hear`, where the output holds `out` before the call and `o` after it
 --   Finishes rx out r o      the promise of `finish`
@@ -16,7 +16,7 @@ use Rattle.pieces.specs.declared.Heard.{Heard}
 use Rattle.pieces.specs.Running.{Ran, Written}
 use Rattle.receiver_meaning.specs.Piece.{Piece}
 use Rattle.receiver.specs.Doors.{hearing, finishing}
-use Rattle.receiver_meaning.specs.Owed.{Owed, pieceOwed, FinishOwed, finishOwed}
+use Rattle.receiver_meaning.specs.Owed.{Owed, piece_owed, FinishOwed, finish_owed}
 
 -- ---- a piece and a finish
 
@@ -33,8 +33,8 @@ pub record Is (ran : Ran) (out : List ℕ) (r : Answer) (o : List ℕ) : Type 0 
 abbrev pub parts_of : Bool → Core → List ℕ → List ℕ → List ℕ → Receiver
 parts_of live core sums registers picks = record { live = live; core = core; sums = sums; registers = registers; picks = picks }
 
-abbrev pub lentLive : Bool → List ℕ → Bool
-lentLive live picks = live && eqb (length picks) 72
+abbrev pub lent_live : Bool → List ℕ → Bool
+lent_live live picks = live && eqb (length picks) 72
 
 abbrev pub answer_of : Bool → Heard → List ℕ → List ℕ → List ℕ → Answer
 answer_of live r sums registers picks = record { receiver = parts_of live r.core sums registers picks; taken = r.taken; written = r.written; why = r.why }
@@ -42,7 +42,7 @@ answer_of live r sums registers picks = record { receiver = parts_of live r.core
 -- the promise of a piece to a receiver in its parts, whose lists are lent: before the call they hold sums, registers and picks
 abbrev pub HearsLent : Bool → Core → List ℕ → List ℕ → List ℕ → Piece → List ℕ → Heard → List ℕ → List ℕ → List ℕ → List ℕ → Type 0
 HearsLent live core sums registers picks p out r sums' registers' picks' o =
-    Is (hearing (parts_of (lentLive live picks) core sums registers picks) p (length out)) out (answer_of (lentLive live picks) r sums' registers' picks') o
+    Is (hearing (parts_of (lent_live live picks) core sums registers picks) p (length out)) out (answer_of (lent_live live picks) r sums' registers' picks') o
 
 -- the answer is what is owed for what the receiver has been told
 pub record Pays (d : Owed) (out : List ℕ) (r : Answer) (o : List ℕ) : Type 0 where
@@ -55,7 +55,7 @@ pub record Pays (d : Owed) (out : List ℕ) (r : Answer) (o : List ℕ) : Type 0
 
 pub record Hears (rx : Receiver) (p : Piece) (out : List ℕ) (r : Answer) (o : List ℕ) : Type 0 where
   pub always : Is (hearing rx p (length out)) out r o
-  pub owed : (t : Told) → Fine t → rx ≡ machine_of t → Pays (pieceOwed t p (length out)) out r o
+  pub owed : (t : Told) → Fine t → rx ≡ machine_of t → Pays (piece_owed t p (length out)) out r o
 
 pub record EndPays (d : FinishOwed) (rx : Receiver) (out : List ℕ) (r : Answer) (o : List ℕ) : Type 0 where
   pub given : given_of r.why ≡ d.reason
@@ -66,4 +66,4 @@ pub record EndPays (d : FinishOwed) (rx : Receiver) (out : List ℕ) (r : Answer
 
 pub record Finishes (rx : Receiver) (out : List ℕ) (r : Answer) (o : List ℕ) : Type 0 where
   pub always : Is (finishing rx (length out)) out r o
-  pub owed : (t : Told) → Fine t → rx ≡ machine_of t → EndPays (finishOwed t (length out)) rx out r o
+  pub owed : (t : Told) → Fine t → rx ≡ machine_of t → EndPays (finish_owed t (length out)) rx out r o

@@ -6,11 +6,11 @@
 // writes the pending words of the answer and closes the receiver. A refused symbol leaves the receiver as it was. A closed receiver,
 // and any record that is out of range, is answered 9.
 ghost use Rattle.std.specs.Prelude.{◌≡◌, ◌&&◌};
-ghost use Rattle.machine.specs.Machine.{core, soundCore};
-ghost use Rattle.lists.specs.UpTo.{allUpTo};
+ghost use Rattle.machine.specs.Machine.{core, sound_core};
+ghost use Rattle.lists.specs.UpTo.{all_up_to};
 ghost use Rattle.sums.specs.Sums.{limit};
-ghost use Rattle.receiver_meaning.specs.Piece.{pieceWith, markedPiece, piece_of};
-ghost use Rattle.receiver.specs.Promise.{lentLive, HearsLent, Hears, Finishes};
+ghost use Rattle.receiver_meaning.specs.Piece.{piece_with, marked_piece, piece_of};
+ghost use Rattle.receiver.specs.Promise.{lent_live, HearsLent, Hears, Finishes};
 
 use machine::{Core, Receiver};
 use pieces::Heard;
@@ -48,7 +48,7 @@ fn nothing_heard(core: Core, why: Why) -> Heard
 
 // Whether parts that are lent are those of an open receiver in range.
 fn lent_fit(live: bool, core: Core, sums: &[u32; 16], picks: &[u64]) -> bool
-    ensures { result ≡ (lentLive live picks.now && (soundCore core && allUpTo limit sums.now)) }
+    ensures { result ≡ (lent_live live picks.now && (sound_core core && all_up_to limit sums.now)) }
 {
     if picks.len() != 72 {
         return false;
@@ -70,7 +70,7 @@ pub fn hear_piece_lent(
     picks: &mut [u64],
     out: &mut [u32],
 ) -> Heard
-    ensures { HearsLent live core sums.old registers.old picks.old (pieceWith marked marks.now samples.now) out.old
+    ensures { HearsLent live core sums.old registers.old picks.old (piece_with marked marks.now samples.now) out.old
         result sums.new registers.new picks.new out.new }
 {
     if !lent_fit(live, core, sums, picks) {
@@ -84,7 +84,7 @@ pub fn hear_piece_lent(
 
 // A piece to a whole receiver: it is taken apart once, its arrays are lent to each symbol, and it is put together again at the end.
 fn hear_piece(rx: Receiver, marked: bool, marks: &[u8], samples: &[i32], out: &mut [u32]) -> Answer
-    ensures { Hears rx (pieceWith marked marks.now samples.now) out.old result out.new }
+    ensures { Hears rx (piece_with marked marks.now samples.now) out.old result out.new }
 {
     let live = rx.live;
     let core = rx.core;
@@ -129,7 +129,7 @@ pub fn hear(rx: Receiver, samples: &[i32], out: &mut [u32]) -> Answer
 // The same with a mark for each symbol: 0 both points heard, 1 the first missing, 2 the second, 3 both. The coordinates of a missing
 // point are there, and are not looked at. Refused as a whole, with 10, also where the marks are not one for each symbol or one is above 3.
 pub fn hear_marked(rx: Receiver, samples: &[i32], marks: &[u8], out: &mut [u32]) -> Answer
-    ensures { Hears rx (markedPiece marks.now samples.now) out.old result out.new }
+    ensures { Hears rx (marked_piece marks.now samples.now) out.old result out.new }
 {
     hear_piece(rx, true, marks, samples, out)
 }

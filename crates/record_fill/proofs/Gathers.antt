@@ -22,11 +22,11 @@ use Rattle.records.specs.declared.Stage.{Stage}
 use Rattle.records.specs.declared.Stage.TheVariants.{Fresh, Part, Whole, Bad}
 use Rattle.records.specs.declared.Frame.{Frame}
 use Rattle.records.specs.Kinds.{kind_of}
-use Rattle.records.specs.Values.{byteFits}
-use Rattle.records.specs.Frames.{capped, mayGrow, grown, pushed, Read, ended, before, following}
+use Rattle.records.specs.Values.{byte_fits}
+use Rattle.records.specs.Frames.{capped, may_grow, grown, pushed, Read, ended, before, following}
 use Rattle.records.proofs.Counts.{capped-more}
 use Rattle.records.proofs.Steps.{size_fits}
-use Rattle.record_fill.specs.Runs.{insideAt, inside, gathered, run_of, Advances}
+use Rattle.record_fill.specs.Runs.{inside_at, inside, gathered, run_of, Advances}
 
 not-true : false ≡ true → ⊥
 not-true e = let z : ◌≡◌ {A = ℕ} 0 1 = cc in omega arith
@@ -38,7 +38,7 @@ capped-full n h = rw (le-ltb n 18446744073709551615 h)
 
 -- ---- the test
 
-inside-stage : (t : Stage) (have size : ℕ) → insideAt t have size ≡ true → (t ≡ Part) × (have < size)
+inside-stage : (t : Stage) (have size : ℕ) → inside_at t have size ≡ true → (t ≡ Part) × (have < size)
 inside-stage Fresh have size e = absurd (not-true e)
 inside-stage Part have size e = (refl, ltb-true have size e)
 inside-stage Whole have size e = absurd (not-true e)
@@ -47,7 +47,7 @@ inside-stage Bad have size e = absurd (not-true e)
 pub inside-yes : (f : Frame) → inside f ≡ true → (f.stage ≡ Part) × (f.have < (kind_of f.kind).size) × (eqb f.kind 5 ≡ false)
 inside-yes f = go (eqb f.kind 5)
   where
-    go : (b : Bool) → cond b false (insideAt f.stage f.have (kind_of f.kind).size) ≡ true → (f.stage ≡ Part) × (f.have < (kind_of f.kind).size) × (b ≡ false)
+    go : (b : Bool) → cond b false (inside_at f.stage f.have (kind_of f.kind).size) ≡ true → (f.stage ≡ Part) × (f.have < (kind_of f.kind).size) × (b ≡ false)
     go true e = absurd (not-true e)
     go false e = let i = inside-stage f.stage f.have (kind_of f.kind).size e in (i.0, i.1, refl)
 
@@ -84,7 +84,7 @@ advance-one f bs from g h e z =
 
 module _ (f : Frame) (p : f.stage ≡ Part) (q : eqb f.kind 5 ≡ false) (h : f.have < (kind_of f.kind).size) where
   grows : (b : ℕ) → pushed f b ≡ gathered f 1 (b ∷ [])
-  unfolding pushed grown mayGrow byteFits
+  unfolding pushed grown may_grow byte_fits
   grows b = rw (p, lt-ltb f.have 9 (omega (arith, size_fits f.kind)), q)
 
 followed : (f g : Frame) (b : ℕ) (bs : List ℕ) → pushed f b ≡ g → following f (b ∷ bs) ≡ before (ended g.stage g) (following g bs)

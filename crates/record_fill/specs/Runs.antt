@@ -9,21 +9,21 @@ use Rattle.records.specs.declared.Stage.{Stage}
 use Rattle.records.specs.declared.Stage.TheVariants.{Fresh, Part, Whole, Bad}
 use Rattle.records.specs.declared.Frame.{Frame}
 use Rattle.records.specs.Kinds.{kind_of}
-use Rattle.records.specs.Frames.{capped, stageAt, ended, following}
+use Rattle.records.specs.Frames.{capped, stage_at, ended, following}
 
-abbrev pub insideAt : Stage → ℕ → ℕ → Bool
-insideAt Fresh have size = false
-insideAt Part have size = ltb have size
-insideAt Whole have size = false
-insideAt Bad have size = false
+abbrev pub inside_at : Stage → ℕ → ℕ → Bool
+inside_at Fresh have size = false
+inside_at Part have size = ltb have size
+inside_at Whole have size = false
+inside_at Bad have size = false
 
 abbrev pub inside : Frame → Bool
-inside f = cond (eqb f.kind 5) false (insideAt f.stage f.have (kind_of f.kind).size)
+inside f = cond (eqb f.kind 5) false (inside_at f.stage f.have (kind_of f.kind).size)
 
 abbrev pub gathered : Frame → ℕ → List ℕ → Frame
 gathered f n xs =
     record {
-      stage = stageAt (f.have + n) (kind_of f.kind).size;
+      stage = stage_at (f.have + n) (kind_of f.kind).size;
       phase = f.phase;
       kind = f.kind;
       have = f.have + n;

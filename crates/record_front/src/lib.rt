@@ -2,8 +2,8 @@
 // copied; where it does not, more bytes are wanted. `push` tells the same byte by byte.
 ghost use Rattle.std.specs.Prelude.{◌≡◌};
 ghost use Rattle.records.specs.Kinds.{begins as Kinds·begins};
-ghost use Rattle.records.specs.Values.{bodyFits};
-ghost use Rattle.record_front.specs.Fronts.{emptyOf, cut_of, frontOf};
+ghost use Rattle.records.specs.Values.{body_fits};
+ghost use Rattle.record_front.specs.Fronts.{empty_of, cut_of, front_of};
 
 use records::{Phase, after, byte_fits, kind_of, may_stand};
 
@@ -37,7 +37,7 @@ fn begins(phase: Phase) -> bool
 
 // No byte is there.
 fn empty(phase: Phase, ends: bool) -> Sign
-    ensures { result ≡ emptyOf phase ends }
+    ensures { result ≡ empty_of phase ends }
 {
     if !ends {
         return Sign::More;
@@ -54,7 +54,7 @@ fn cut(ends: bool) -> Sign
 
 // Whether all bytes of a body may be there.
 fn fits(kind: u8, body: &[u8]) -> bool
-    ensures { result ≡ bodyFits kind body.now }
+    ensures { result ≡ body_fits kind body.now }
 {
     if kind != 5 {
         return true;
@@ -71,7 +71,7 @@ fn fits(kind: u8, body: &[u8]) -> bool
 
 // The front of some bytes. `ends`: the capture has no more than these.
 pub fn look(phase: Phase, bytes: &[u8], ends: bool) -> Front
-    ensures { result ≡ frontOf phase bytes.now ends }
+    ensures { result ≡ front_of phase bytes.now ends }
 {
     let n = bytes.len();
     if n == 0 {

@@ -24,31 +24,31 @@ use Rattle.reasons.specs.Reason.{given_of}
 use Rattle.openings.specs.declared.Opened.{Opened}
 use Rattle.openings.specs.Given.{start_at}
 use Rattle.openings.specs.Opening.{Opens}
-use Rattle.receiver_meaning.specs.Piece.{Piece, piece_of, markedPiece}
+use Rattle.receiver_meaning.specs.Piece.{Piece, piece_of, marked_piece}
 use Rattle.records.specs.Values.{bytes_of}
 use Rattle.recorder.specs.declared.Taped.{Taped}
-use Rattle.recorder.specs.Recorded.{openRecords, openingRecorded}
+use Rattle.recorder.specs.Recorded.{open_records, opening_recorded}
 use Rattle.recorder.specs.Taping.{Ran}
-use Rattle.recorder.specs.Doors.{tapedHearing, tapedFinishing}
+use Rattle.recorder.specs.Doors.{taped_hearing, taped_finishing}
 use Rattle.recorder.specs.Promise.{Is, OpenTaped}
 use Rattle.recorder.proofs.Opens.{open-space}
 use Rattle.page.specs.Page.{Puts}
 use Rattle.phrases.proofs.Phrases.{puts-as, nothing_put}
-use Rattle.answers.specs.Answer.{numberLine, heardLine, unreadLine}
+use Rattle.answers.specs.Answer.{number_line, heard_line, unread_line}
 use Rattle.requests.specs.declared.Request.{Request}
 use Rattle.requests.specs.declared.Request.TheVariants as request
 use Rattle.requests.specs.contracts.Request.{the_type}
 use Rattle.requests.specs.Named.{Named}
 use Rattle.requests.specs.Verb.{Fit}
-use Rattle.protocol.specs.Request.{requestOf}
+use Rattle.protocol.specs.Request.{request_of}
 use Rattle.desk.specs.Room.{Long}
 use Rattle.line_buffer.specs.declared.Part.{Part}
 use Rattle.line_buffer.specs.Part.{Gathered}
 use Rattle.line_reply.specs.Line.{named_by}
 use Rattle.line_reply.proofs.Named.{cut}
 use Rattle.record_text.specs.declared.Noted.{Noted}
-use Rattle.record_text.specs.Note.{Note, stays, opens, taped, startNumber, noting, notingLine, Notes}
-use Rattle.record_text.specs.Room.{pageRoom, Ready}
+use Rattle.record_text.specs.Note.{Note, stays, opens, taped, start_number, noting, noting_line, Notes}
+use Rattle.record_text.specs.Room.{page_room, Ready}
 
 -- what was put at the front of a list fits it
 pub front-few : (ws out o : List ℕ) → o ≡ ws ++ drop (length ws) out → length o ≡ length out → length ws ≤ length out
@@ -65,7 +65,7 @@ module _ (begun : Bool) (ran : Ran) (room bytes o b : List ℕ) (t : Taped) (is 
   words_are : take t.written o ≡ ran.words
   words_are = rw (is.written, is.output) (take_at ran.words (drop (length ran.words) room) (length ran.words) refl)
 
-  pub tells : (page page' : List ℕ) (at : ℕ) → at ≤ length page → Puts page 0 (heardLine t.taken (given_of t.why) (take t.written o)) at page'
+  pub tells : (page page' : List ℕ) (at : ℕ) → at ≤ length page → Puts page 0 (heard_line t.taken (given_of t.why) (take t.written o)) at page'
       → Notes (taped begun ran) bytes page (record { receiver = t.receiver; begun = begun; recorded = t.recorded; at = at; ends = false }) b page'
   tells page page' at h p =
       record {
@@ -94,14 +94,14 @@ module _ (rx : Receiver) (begun : Bool) (k : Accord) (w s : ℕ) (bytes page : L
   ends-before e = rw e (record { receiver = refl; begun = refl; ends = refl; recorded = refl; bytes-are = refl; puts = nothing_put page 0; fits = omega arith; near = omega arith })
 
   module _ (first : begun ≡ false) (n : ℕ) (b : List ℕ) (is : OpenTaped k w s bytes n b) (kept : length b ≡ length bytes)
-      (o : Opened) (opened : Opens k w (start_at s) o) (page' : List ℕ) (at : ℕ) (h : at ≤ length page) (p : Puts page 0 (numberLine n) at page') where
+      (o : Opened) (opened : Opens k w (start_at s) o) (page' : List ℕ) (at : ℕ) (h : at ≤ length page) (p : Puts page 0 (number_line n) at page') where
     abbrev left : ℕ → Bool → Noted
     left m z = record { receiver = o.receiver; begun = z; recorded = m; at = at; ends = false }
 
     pub opens-first : n ≡ 0 → Notes (opens rx begun k w s (length bytes)) bytes page (left 4 true) b page'
     unfolding opens
     opens-first z =
-        let e : openingRecorded k w s (length bytes) ≡ 0 = sym is.number ∙ z in
+        let e : opening_recorded k w s (length bytes) ≡ 0 = sym is.number ∙ z in
         rw (first, e)
         (record {
           receiver = opened.always-receiver;
@@ -109,15 +109,15 @@ module _ (rx : Receiver) (begun : Bool) (k : Accord) (w s : ℕ) (bytes page : L
           ends = refl;
           recorded = sym (open-space k w s);
           bytes-are = rw e at is.bytes-are;
-          puts = puts-as (ap numberLine z) p;
-          fits = omega (arith, open-space k w s, front-few (bytes_of (openRecords k w s)) bytes b (rw e at is.bytes-are) kept);
+          puts = puts-as (ap number_line z) p;
+          fits = omega (arith, open-space k w s, front-few (bytes_of (open_records k w s)) bytes b (rw e at is.bytes-are) kept);
           near = h;
         })
 
     pub opens_not : (n ≡ 0 → ⊥) → Notes (opens rx begun k w s (length bytes)) bytes page (left 0 false) b page'
     unfolding opens bytes_of
     opens_not z =
-        let e : openingRecorded k w s (length bytes) ≡ n = sym is.number in
+        let e : opening_recorded k w s (length bytes) ≡ n = sym is.number in
         let f : eqb n 0 ≡ false = ne_eqb n 0 z in
         rw (first, e, f)
         (record {
@@ -138,36 +138,36 @@ module _ (rx : Receiver) (begun : Bool) (l : Named) (room : ℕ) where
   pub noted-as : {asked k : Request} → asked ≡ k → noting rx begun k l room ≡ noting rx begun asked l room
   noted-as e = ap (λ (a : Request). noting rx begun a l room) (sym e)
 
-  pub at-noted : {asked : Request} {k : Accord} {w s n : ℕ} → asked ≡ request.At k w s → n ≡ startNumber s → opens rx begun k w n room ≡ noting rx begun asked l room
+  pub at-noted : {asked : Request} {k : Accord} {w s n : ℕ} → asked ≡ request.At k w s → n ≡ start_number s → opens rx begun k w n room ≡ noting rx begun asked l room
   unfolding noting
   at-noted {k = k} {w = w} e z = ap (λ (m : ℕ). opens rx begun k w m room) z ∙ noted-as e
 
   -- the places of an output that is lent as long as the cap says
   at_cap : (p : Piece) {cap : ℕ} → cap ≤ length l.words
-      → taped begun (tapedHearing rx p (length (take cap l.words)) room) ≡ taped begun (tapedHearing rx p cap room)
-  at_cap p {cap} h = ap (λ (m : ℕ). taped begun (tapedHearing rx p m room)) (length-take-le cap l.words h)
+      → taped begun (taped_hearing rx p (length (take cap l.words)) room) ≡ taped begun (taped_hearing rx p cap room)
+  at_cap p {cap} h = ap (λ (m : ℕ). taped begun (taped_hearing rx p m room)) (length-take-le cap l.words h)
 
   pub piece-noted : {asked : Request} {cap n : ℕ} → asked ≡ request.Piece cap n → cap ≤ length l.words
-      → taped begun (tapedHearing rx (piece_of (take n l.coordinates)) (length (take cap l.words)) room) ≡ noting rx begun asked l room
+      → taped begun (taped_hearing rx (piece_of (take n l.coordinates)) (length (take cap l.words)) room) ≡ noting rx begun asked l room
   unfolding noting
   piece-noted {n = n} e h = at_cap (piece_of (take n l.coordinates)) h ∙ noted-as e
 
   pub marked-noted : {asked : Request} {cap k n : ℕ} → asked ≡ request.Marked cap k n → cap ≤ length l.words
-      → taped begun (tapedHearing rx (markedPiece (take k l.marks) (take n l.coordinates)) (length (take cap l.words)) room) ≡ noting rx begun asked l room
+      → taped begun (taped_hearing rx (marked_piece (take k l.marks) (take n l.coordinates)) (length (take cap l.words)) room) ≡ noting rx begun asked l room
   unfolding noting
-  marked-noted {k = k} {n = n} e h = at_cap (markedPiece (take k l.marks) (take n l.coordinates)) h ∙ noted-as e
+  marked-noted {k = k} {n = n} e h = at_cap (marked_piece (take k l.marks) (take n l.coordinates)) h ∙ noted-as e
 
   pub finish-noted : {asked : Request} {cap : ℕ} → asked ≡ request.Finish cap → cap ≤ length l.words
-      → taped begun (tapedFinishing rx (length (take cap l.words)) room) ≡ noting rx begun asked l room
+      → taped begun (taped_finishing rx (length (take cap l.words)) room) ≡ noting rx begun asked l room
   unfolding noting
-  finish-noted {cap = cap} e h = ap (λ (m : ℕ). taped begun (tapedFinishing rx m room)) (length-take-le cap l.words h) ∙ noted-as e
+  finish-noted {cap = cap} e h = ap (λ (m : ℕ). taped begun (taped_finishing rx m room)) (length-take-le cap l.words h) ∙ noted-as e
 
 -- the verbs that are no receiver's, by their tags
-isOther : ℕ → Bool
-isOther n = eqb n 1 || (eqb n 2 || (eqb n 3 || (eqb n 9 || (eqb n 10 || (eqb n 11 || (eqb n 12 || eqb n 14))))))
+is_other : ℕ → Bool
+is_other n = eqb n 1 || (eqb n 2 || (eqb n 3 || (eqb n 9 || (eqb n 10 || (eqb n 11 || (eqb n 12 || eqb n 14))))))
 
-other_tag : (n : ℕ) → OneOf (1 ∷ 2 ∷ 3 ∷ 9 ∷ 10 ∷ 11 ∷ 12 ∷ 14 ∷ []) n → isOther n ≡ true
-unfolding isOther
+other_tag : (n : ℕ) → OneOf (1 ∷ 2 ∷ 3 ∷ 9 ∷ 10 ∷ 11 ∷ 12 ∷ 14 ∷ []) n → is_other n ≡ true
+unfolding is_other
 other_tag n (inl e) = rw e
 other_tag n (inr (inl e)) = rw e
 other_tag n (inr (inr (inl e))) = rw e
@@ -178,8 +178,8 @@ other_tag n (inr (inr (inr (inr (inr (inr (inl e))))))) = rw e
 other_tag n (inr (inr (inr (inr (inr (inr (inr e))))))) = rw e
 
 pub other-noted : (rx : Receiver) (begun : Bool) (l : Named) (room : ℕ) (asked : Request) → OneOf (1 ∷ 2 ∷ 3 ∷ 9 ∷ 10 ∷ 11 ∷ 12 ∷ 14 ∷ []) (tag_of the_type asked)
-    → stays rx begun unreadLine ≡ noting rx begun asked l room
-unfolding noting isOther
+    → stays rx begun unread_line ≡ noting rx begun asked l room
+unfolding noting is_other
 other-noted rx begun l room request.Nothing h = absurd (subst T (sym (other_tag 0 h)) tt)
 other-noted rx begun l room request.Unread h = refl
 other-noted rx begun l room (request.Sender k) h = refl
@@ -199,7 +199,7 @@ other-noted rx begun l room (request.Card accepted) h = refl
 -- ---- a line
 
 -- a request that was read into the lists can be answered
-pub ready : {asked : Request} (l : Named) {l' : Named} {page : List ℕ} → Long l → pageRoom ≤ length page
+pub ready : {asked : Request} (l : Named) {l' : Named} {page : List ℕ} → Long l → page_room ≤ length page
     → length l'.coordinates ≡ length l.coordinates → length l'.words ≡ length l.words → length l'.marks ≡ length l.marks
     → Fit (length l.coordinates) asked → Ready asked l' page
 ready {asked} l long p e g m f =
@@ -212,8 +212,8 @@ ready {asked} l long p e g m f =
 -- what a request does goes by what it names
 pub noting-only : (rx : Receiver) (begun : Bool) (room : ℕ) (k : Request) (l l' : Named) → cut k l ≡ cut k l' → noting rx begun k l room ≡ noting rx begun k l' room
 unfolding noting
-noting-only rx begun room (request.Piece cap n) l l' e = ap (λ (c : Named). taped begun (tapedHearing rx (piece_of c.coordinates) cap room)) e
-noting-only rx begun room (request.Marked cap m n) l l' e = ap (λ (c : Named). taped begun (tapedHearing rx (markedPiece c.marks c.coordinates) cap room)) e
+noting-only rx begun room (request.Piece cap n) l l' e = ap (λ (c : Named). taped begun (taped_hearing rx (piece_of c.coordinates) cap room)) e
+noting-only rx begun room (request.Marked cap m n) l l' e = ap (λ (c : Named). taped begun (taped_hearing rx (marked_piece c.marks c.coordinates) cap room)) e
 noting-only rx begun room request.Nothing l l' e = refl
 noting-only rx begun room request.Unread l l' e = refl
 noting-only rx begun room (request.Sender k) l l' e = refl
@@ -229,13 +229,13 @@ noting-only rx begun room request.Missing l l' e = refl
 noting-only rx begun room (request.Card accepted) l l' e = refl
 
 module _ {line : List ℕ} {part : Part} {s : List ℕ} (g : Gathered line part s) (rx : Receiver) (begun : Bool) (room : ℕ) where
-  pub long-noted : part.long ≡ true → stays rx begun unreadLine ≡ notingLine (length line) rx begun s room
-  unfolding notingLine
+  pub long-noted : part.long ≡ true → stays rx begun unread_line ≡ noting_line (length line) rx begun s room
+  unfolding noting_line
   long-noted e = sym (rw (lt-ltb (length line) (length s) (g.too_long e)))
 
   pub line-noted : part.long ≡ false
-      → noting rx begun (requestOf 4096 4096 1024 (take part.held line)) (named_by (take part.held line)) room ≡ notingLine (length line) rx begun s room
-  unfolding notingLine
+      → noting rx begun (request_of 4096 4096 1024 (take part.held line)) (named_by (take part.held line)) room ≡ noting_line (length line) rx begun s room
+  unfolding noting_line
   line-noted f =
       let few : length s ≤ length line = omega (arith, ap length (g.kept f), length-take part.held line) in
       rw (g.kept f, le-ltb (length line) (length s) few)

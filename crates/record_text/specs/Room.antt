@@ -1,5 +1,5 @@
 -- The sizes of what is lent, so that no answer is ever cut short. Definitions only.
---   pageRoom        what any answer takes at most: three numbers with the spaces between them, a place, 4096 words, a newline
+--   page_room        what any answer takes at most: three numbers with the spaces between them, a place, 4096 words, a newline
 --   Ready asked ..  the sizes that a request names fit, the lists have their sizes (`Long`), and the page has that room
 use Rattle.std.specs.Prelude.{ℕ, ◌+◌, ◌*◌, ◌≤◌, List, length}
 use Rattle.requests.specs.declared.Request.{Request}
@@ -7,10 +7,10 @@ use Rattle.requests.specs.Named.{Named}
 use Rattle.requests.specs.Verb.{Fit}
 use Rattle.desk.specs.Room.{Long}
 
-abbrev pub pageRoom : ℕ
-pageRoom = 92 + 4096 * 21
+abbrev pub page_room : ℕ
+page_room = 92 + 4096 * 21
 
 pub record Ready (asked : Request) (l : Named) (page : List ℕ) : Type 0 where
   pub long : Long l
-  pub page-long : pageRoom ≤ length page
+  pub page-long : page_room ≤ length page
   pub fit : Fit (length l.coordinates) asked

@@ -3,16 +3,16 @@
 // written.
 ghost use Rattle.std.specs.Prelude.{◌≡◌, List, ℕ, ◌≤◌, length};
 ghost use Rattle.recorder.specs.Promise.{Is};
-ghost use Rattle.receiver_meaning.specs.Piece.{piece_of, markedPiece};
+ghost use Rattle.receiver_meaning.specs.Piece.{piece_of, marked_piece};
 ghost use Rattle.recorder.specs.Taping.{Ran};
-ghost use Rattle.recorder.specs.Doors.{tapedHearing, tapedFinishing};
+ghost use Rattle.recorder.specs.Doors.{taped_hearing, taped_finishing};
 ghost use Rattle.requests.specs.Named.{named};
-ghost use Rattle.answers.specs.Answer.{unreadLine};
-ghost use Rattle.protocol.specs.Request.{requestOf};
+ghost use Rattle.answers.specs.Answer.{unread_line};
+ghost use Rattle.protocol.specs.Request.{request_of};
 ghost use Rattle.line_buffer.specs.Part.{Gathered};
 ghost use Rattle.line_reply.specs.Line.{named_by};
-ghost use Rattle.record_text.specs.Note.{startNumber, stays, opens, taped, noting, notingLine, Notes};
-ghost use Rattle.record_text.specs.Room.{pageRoom, Ready};
+ghost use Rattle.record_text.specs.Note.{start_number, stays, opens, taped, noting, noting_line, Notes};
+ghost use Rattle.record_text.specs.Room.{page_room, Ready};
 
 use line_buffer::Part;
 use machine::Receiver;
@@ -49,8 +49,8 @@ fn idle(rx: Receiver, begun: bool, ends: bool) -> Noted
 }
 
 fn unread(rx: Receiver, begun: bool, bytes: &[u8], page: &mut [u8]) -> Noted
-    requires { pageRoom ≤ length page.old }
-    ensures { Notes (stays rx begun unreadLine) bytes.now page.old result bytes.now page.new }
+    requires { page_room ≤ length page.old }
+    ensures { Notes (stays rx begun unread_line) bytes.now page.old result bytes.now page.new }
 {
     Noted {
         receiver: rx,
@@ -71,7 +71,7 @@ fn opening(
     bytes: &mut [u8],
     page: &mut [u8],
 ) -> Noted
-    requires { pageRoom ≤ length page.old }
+    requires { page_room ≤ length page.old }
     ensures { Notes (opens rx begun accord window start (length bytes.old)) bytes.old page.old result bytes.new page.new }
 {
     if begun {
@@ -101,7 +101,7 @@ fn opening(
 
 // A named state: 16 is none, and the number of a record's free start, so another that is none stands in for it.
 fn start_number(state: u32) -> u32
-    ensures { result ≡ startNumber state }
+    ensures { result ≡ start_number state }
 {
     if state == FREE {
         return 17;
@@ -111,7 +111,7 @@ fn start_number(state: u32) -> u32
 
 // The answer to a recorded call, with the words that it wrote.
 fn tell(begun: bool, t: Taped, out: &[u32], page: &mut [u8]) -> Noted
-    requires { (t.written ≤ length out.now) × (length out.now ≤ 4096) × (pageRoom ≤ length page.old) }
+    requires { (t.written ≤ length out.now) × (length out.now ≤ 4096) × (page_room ≤ length page.old) }
     ensures { (ran : Ran) (room bytes b : List ℕ) → Is ran room bytes t out.now b → length b ≡ length bytes
         → Notes (taped begun ran) bytes page.old result b page.new }
 {
@@ -136,8 +136,8 @@ fn hear(
     bytes: &mut [u8],
     page: &mut [u8],
 ) -> Noted
-    requires { (length out.old ≤ 4096) × (pageRoom ≤ length page.old) }
-    ensures { Notes (taped begun (tapedHearing rx (piece_of piece.now) (length out.old) (length bytes.old)))
+    requires { (length out.old ≤ 4096) × (page_room ≤ length page.old) }
+    ensures { Notes (taped begun (taped_hearing rx (piece_of piece.now) (length out.old) (length bytes.old)))
         bytes.old page.old result bytes.new page.new }
 {
     let t = recorder::hear(rx, piece, out, bytes);
@@ -153,8 +153,8 @@ fn hear_marked(
     bytes: &mut [u8],
     page: &mut [u8],
 ) -> Noted
-    requires { (length out.old ≤ 4096) × (pageRoom ≤ length page.old) }
-    ensures { Notes (taped begun (tapedHearing rx (markedPiece marks.now piece.now) (length out.old) (length bytes.old)))
+    requires { (length out.old ≤ 4096) × (page_room ≤ length page.old) }
+    ensures { Notes (taped begun (taped_hearing rx (marked_piece marks.now piece.now) (length out.old) (length bytes.old)))
         bytes.old page.old result bytes.new page.new }
 {
     let t = recorder::hear_marked(rx, piece, marks, out, bytes);
@@ -162,8 +162,8 @@ fn hear_marked(
 }
 
 fn finish(rx: Receiver, begun: bool, out: &mut [u32], bytes: &mut [u8], page: &mut [u8]) -> Noted
-    requires { (length out.old ≤ 4096) × (pageRoom ≤ length page.old) }
-    ensures { Notes (taped begun (tapedFinishing rx (length out.old) (length bytes.old)))
+    requires { (length out.old ≤ 4096) × (page_room ≤ length page.old) }
+    ensures { Notes (taped begun (taped_finishing rx (length out.old) (length bytes.old)))
         bytes.old page.old result bytes.new page.new }
 {
     let t = recorder::finish(rx, out, bytes);
@@ -225,8 +225,8 @@ pub fn note(
 
 // What a line within its buffer does. The lists that it is read into last no longer than the line.
 fn obey(rx: Receiver, begun: bool, line: &[u8], bytes: &mut [u8], page: &mut [u8]) -> Noted
-    requires { pageRoom ≤ length page.old }
-    ensures { Notes (noting rx begun (requestOf 4096 4096 1024 line.now) (named_by line.now) (length bytes.old))
+    requires { page_room ≤ length page.old }
+    ensures { Notes (noting rx begun (request_of 4096 4096 1024 line.now) (named_by line.now) (length bytes.old))
         bytes.old page.old result bytes.new page.new }
 {
     let mut coordinates = [0i32; 4096];
@@ -254,9 +254,9 @@ pub fn line(
     bytes: &mut [u8],
     page: &mut [u8],
 ) -> Noted
-    requires { (pageRoom ≤ length page.old) × (part.held ≤ length line.now) }
+    requires { (page_room ≤ length page.old) × (part.held ≤ length line.now) }
     ensures { (s : List ℕ) → Gathered line.now part s
-        → Notes (notingLine (length line.now) rx begun s (length bytes.old))
+        → Notes (noting_line (length line.now) rx begun s (length bytes.old))
         bytes.old page.old result bytes.new page.new }
 {
     if part.long {

@@ -1,8 +1,8 @@
 // Records put into lent bytes: one place that writes an open, one that writes a symbol, one that writes words, one that writes a finish.
 // Each writes at the front of the bytes that it is lent and leaves the rest as it was; what the bytes say is records/specs/Values.
 ghost use Rattle.std.specs.Prelude.{◌≡◌, cond, [], ◌∷◌, ◌+◌, ◌*◌, ◌%◌, ◌≤◌, ◌<◌, pos, nat_abs, leb, length};
-ghost use Rattle.records.specs.Values.{half_of, openKind, openEntry, symbolEntry, markedEntry, wordEntry, finishEntry};
-ghost use Rattle.record_write.specs.Front.{symbolIn, symbolRecord, symbolSpace, wordEntries, symbolRecords, finishRecords, Fronted, Small};
+ghost use Rattle.records.specs.Values.{half_of, open_kind, open_entry, symbol_entry, marked_entry, word_entry, finish_entry};
+ghost use Rattle.record_write.specs.Front.{symbol_in, symbol_record, symbol_space, word_entries, symbol_records, finish_records, Fronted, Small};
 
 use points::{Accord, Map};
 
@@ -19,7 +19,7 @@ fn bits(x: i32) -> u32
 
 // The kind that opens a line of this map.
 fn open_kind(map: Map) -> u8
-    ensures { result ≡ openKind map }
+    ensures { result ≡ open_kind map }
 {
     match map {
         Map::Round => 1,
@@ -30,7 +30,7 @@ fn open_kind(map: Map) -> u8
 // The map and the numbers of an opening.
 pub fn put_open(k: Accord, window: u32, start: u32, bytes: &mut [u8])
     requires { (4 ≤ length bytes.old) × (k.u < 256) × (window < 256) × (start < 256) }
-    ensures { Fronted (openEntry k window start ∷ []) bytes.old bytes.new }
+    ensures { Fronted (open_entry k window start ∷ []) bytes.old bytes.new }
 {
     let map = k.map;
     bytes[0] = open_kind(map);
@@ -42,7 +42,7 @@ pub fn put_open(k: Accord, window: u32, start: u32, bytes: &mut [u8])
 // The coordinates of a symbol of which nothing is missing.
 fn put_symbol(x0: i32, x1: i32, x2: i32, x3: i32, bytes: &mut [u8])
     requires { (9 ≤ length bytes.old) × (nat_abs x0 ≤ 32768) × (nat_abs x1 ≤ 32768) × (nat_abs x2 ≤ 32768) × (nat_abs x3 ≤ 32768) }
-    ensures { Fronted (symbolEntry x0 x1 x2 x3 ∷ []) bytes.old bytes.new }
+    ensures { Fronted (symbol_entry x0 x1 x2 x3 ∷ []) bytes.old bytes.new }
 {
     let a = bits(x0);
     let b = bits(x1);
@@ -62,7 +62,7 @@ fn put_symbol(x0: i32, x1: i32, x2: i32, x3: i32, bytes: &mut [u8])
 // The mark of another, and its coordinates.
 fn put_marked(mark: u8, x0: i32, x1: i32, x2: i32, x3: i32, bytes: &mut [u8])
     requires { (10 ≤ length bytes.old) × (nat_abs x0 ≤ 32768) × (nat_abs x1 ≤ 32768) × (nat_abs x2 ≤ 32768) × (nat_abs x3 ≤ 32768) }
-    ensures { Fronted (markedEntry mark x0 x1 x2 x3 ∷ []) bytes.old bytes.new }
+    ensures { Fronted (marked_entry mark x0 x1 x2 x3 ∷ []) bytes.old bytes.new }
 {
     let a = bits(x0);
     let b = bits(x1);
@@ -82,7 +82,7 @@ fn put_marked(mark: u8, x0: i32, x1: i32, x2: i32, x3: i32, bytes: &mut [u8])
 
 fn put_word(w: u32, bytes: &mut [u8])
     requires { 5 ≤ length bytes.old }
-    ensures { Fronted (wordEntry w ∷ []) bytes.old bytes.new }
+    ensures { Fronted (word_entry w ∷ []) bytes.old bytes.new }
 {
     bytes[0] = 3;
     bytes[1] = (w % 256) as u8;
@@ -93,7 +93,7 @@ fn put_word(w: u32, bytes: &mut [u8])
 
 pub fn put_words(words: &[u32], bytes: &mut [u8])
     requires { 5 * length words.now ≤ length bytes.old }
-    ensures { Fronted (wordEntries words.now) bytes.old bytes.new }
+    ensures { Fronted (word_entries words.now) bytes.old bytes.new }
 {
     let mut i: usize = 0;
     let mut at: usize = 0;
@@ -106,7 +106,7 @@ pub fn put_words(words: &[u32], bytes: &mut [u8])
 
 // How many bytes the record of a symbol has: who needs to know asks here.
 pub fn symbol_space(mark: u8, four: &[i32]) -> usize
-    ensures { result ≡ symbolSpace (symbolIn mark four.now) }
+    ensures { result ≡ symbol_space (symbol_in mark four.now) }
 {
     if mark == 0 { 9 } else { 10 }
 }
@@ -127,8 +127,8 @@ fn heard(missing: bool, x: i32) -> i32
 
 // A symbol, by its mark.
 fn put_record(mark: u8, four: &[i32], bytes: &mut [u8])
-    requires { (length four.now ≡ 4) × Small (symbolIn mark four.now) × (symbolSpace (symbolIn mark four.now) ≤ length bytes.old) }
-    ensures { Fronted (symbolRecord (symbolIn mark four.now) ∷ []) bytes.old bytes.new }
+    requires { (length four.now ≡ 4) × Small (symbol_in mark four.now) × (symbol_space (symbol_in mark four.now) ≤ length bytes.old) }
+    ensures { Fronted (symbol_record (symbol_in mark four.now) ∷ []) bytes.old bytes.new }
 {
     if mark == 0 {
         put_symbol(four[0], four[1], four[2], four[3], bytes);
@@ -145,8 +145,8 @@ fn put_record(mark: u8, four: &[i32], bytes: &mut [u8])
 
 // A symbol that was taken, then the words that it released, in their order.
 pub fn put_taken(mark: u8, four: &[i32], words: &[u32], bytes: &mut [u8])
-    requires { (length four.now ≡ 4) × Small (symbolIn mark four.now) × (symbolSpace (symbolIn mark four.now) + 5 * length words.now ≤ length bytes.old) }
-    ensures { Fronted (symbolRecords (symbolIn mark four.now) words.now) bytes.old bytes.new }
+    requires { (length four.now ≡ 4) × Small (symbol_in mark four.now) × (symbol_space (symbol_in mark four.now) + 5 * length words.now ≤ length bytes.old) }
+    ensures { Fronted (symbol_records (symbol_in mark four.now) words.now) bytes.old bytes.new }
 {
     let size = symbol_space(mark, four);
     put_record(mark, four, bytes);
@@ -155,7 +155,7 @@ pub fn put_taken(mark: u8, four: &[i32], words: &[u32], bytes: &mut [u8])
 
 fn put_end(bytes: &mut [u8])
     requires { 1 ≤ length bytes.old }
-    ensures { Fronted (finishEntry ∷ []) bytes.old bytes.new }
+    ensures { Fronted (finish_entry ∷ []) bytes.old bytes.new }
 {
     bytes[0] = 4;
 }
@@ -163,7 +163,7 @@ fn put_end(bytes: &mut [u8])
 // A finish, then the words that it wrote.
 pub fn put_finish(words: &[u32], bytes: &mut [u8])
     requires { 1 + 5 * length words.now ≤ length bytes.old }
-    ensures { Fronted (finishRecords words.now) bytes.old bytes.new }
+    ensures { Fronted (finish_records words.now) bytes.old bytes.new }
 {
     put_end(bytes);
     put_words(words, &mut bytes[1..]);

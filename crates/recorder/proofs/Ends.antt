@@ -13,13 +13,13 @@ use lib.Dec.{T, eqb, ltb}
 use lib.ListN.{length, take, drop}
 use lib.Seq.{take-append_seam}
 use Rattle.machine.specs.declared.Receiver.{Receiver}
-use Rattle.machine.specs.Machine.{shut, lastWords, sound}
+use Rattle.machine.specs.Machine.{shut, last_words, sound}
 use Rattle.machine.specs.Parts.{whole}
 use Rattle.machine.proofs.Finish.{last-many}
 use Rattle.machine.proofs.Sound.{sound-live}
 use Rattle.reasons.specs.declared.Why.{Why}
 use Rattle.reasons.specs.declared.Why.TheVariants.{Done, NoRoom, Closed, Uneven}
-use Rattle.reasons.specs.Reason.{Reason, given_of, isDone}
+use Rattle.reasons.specs.Reason.{Reason, given_of, is_done}
 use Rattle.reasons.proofs.Apart.{done-given}
 use Rattle.receiver_meaning.specs.Piece.{Piece}
 use Rattle.receiver.specs.declared.Answer.{Answer}
@@ -29,14 +29,14 @@ use Rattle.receiver.specs.Promise.{parts_of}
 use Rattle.receiver.proofs.Doors.{lent-live}
 use Rattle.receiver.proofs.Left.{finishes-left}
 use Rattle.records.specs.Values.{bytes_of}
-use Rattle.record_write.specs.Front.{Fronted, finishRecords, space_of}
+use Rattle.record_write.specs.Front.{Fronted, finish_records, space_of}
 use Rattle.record_write.proofs.Fronts.{finish-space}
 use Rattle.recorder.specs.declared.piece.Kept.{Kept}
 use Rattle.recorder.specs.Taping.{Ran, taping}
 use Rattle.recorder.specs.Lent.{RunsTaped}
 use Rattle.recorder.specs.declared.Taped.{Taped}
-use Rattle.recorder.specs.Doors.{stopped, tapedHearing, tapedFinishing}
-use Rattle.recorder.specs.Promise.{Is, tapedParts, TapesLent, Tapes, FinishTaped}
+use Rattle.recorder.specs.Doors.{stopped, taped_hearing, taped_finishing}
+use Rattle.recorder.specs.Promise.{Is, taped_parts, TapesLent, Tapes, FinishTaped}
 use Rattle.recorder.proofs.Owes.{tapes, finish-tapes}
 
 abbrev pub nothing : Receiver → Why → Taped
@@ -50,27 +50,27 @@ nothing_is rx w out bytes = record { receiver = refl; taken = refl; written = re
 
 module _ (rx : Receiver) (out bytes : List ℕ) (p : Piece) where
   abbrev Heard : Taped → List ℕ → List ℕ → Type 0
-  Heard r o b = Is (tapedHearing rx p (length out) (length bytes)) out bytes r o b
+  Heard r o b = Is (taped_hearing rx p (length out) (length bytes)) out bytes r o b
 
   pub tape-closed : sound rx ≡ false → Heard (nothing rx Closed) out bytes
-  unfolding tapedHearing
+  unfolding taped_hearing
   tape-closed e = rw e (nothing_is rx Closed out bytes)
 
   pub tape-uneven : sound rx ≡ true → p.fits ≡ false → Heard (nothing rx Uneven) out bytes
-  unfolding tapedHearing
+  unfolding taped_hearing
   tape-uneven e n = rw (e, n) (nothing_is rx Uneven out bytes)
 
   tape-is : sound rx ≡ true → p.fits ≡ true → (r : Taped) (o b : List ℕ) → Is (taping p.symbols rx 0 [] [] (length out) (length bytes)) out bytes r o b → Heard r o b
-  unfolding tapedHearing
+  unfolding taped_hearing
   tape-is e z r o b is = rw (e, z) is
 
   -- an open receiver is live, and its piece is a run
   pub tape-parts : sound rx ≡ true → p.fits ≡ true → (h : Kept) (sums registers picks o b : List ℕ) →
       RunsTaped (taping p.symbols (whole rx.core rx.sums rx.registers rx.picks) 0 [] [] (length out) (length bytes)) out bytes h sums registers picks o b →
-      Heard (tapedParts rx.live h sums registers picks) o b
+      Heard (taped_parts rx.live h sums registers picks) o b
   tape-parts e z h sums registers picks o b k =
-      tape-is e z (tapedParts rx.live h sums registers picks) o b
-      (subst (λ (v : Bool). Is (taping p.symbols (lives v) 0 [] [] (length out) (length bytes)) out bytes (tapedParts v h sums registers picks) o b) (sym (sound-live rx e))
+      tape-is e z (taped_parts rx.live h sums registers picks) o b
+      (subst (λ (v : Bool). Is (taping p.symbols (lives v) 0 [] [] (length out) (length bytes)) out bytes (taped_parts v h sums registers picks) o b) (sym (sound-live rx e))
       (record {
         receiver = k.receiver;
         taken = k.taken;
@@ -86,14 +86,14 @@ module _ (rx : Receiver) (out bytes : List ℕ) (p : Piece) where
 
 -- a receiver that lends its own picks
 pub tapes-lent : (rx : Receiver) (p : Piece) (out bytes : List ℕ) (h : Kept) (sums registers picks o b : List ℕ) → length rx.picks ≡ 72 →
-    TapesLent rx p out bytes h sums registers picks o b → Tapes rx p out bytes (tapedParts rx.live h sums registers picks) o b
+    TapesLent rx p out bytes h sums registers picks o b → Tapes rx p out bytes (taped_parts rx.live h sums registers picks) o b
 tapes-lent rx p out bytes h sums registers picks o b n is =
-    tapes rx p out bytes (tapedParts rx.live h sums registers picks) o b (subst Lent (lent-live rx.live rx.picks n) is)
+    tapes rx p out bytes (taped_parts rx.live h sums registers picks) o b (subst Lent (lent-live rx.live rx.picks n) is)
   where
     Lent : Bool → Type 0
     Lent v =
-        Is (tapedHearing (parts_of v rx.core rx.sums rx.registers rx.picks) p (length out) (length bytes)) out bytes
-        (tapedParts v h sums registers picks) o b
+        Is (taped_hearing (parts_of v rx.core rx.sums rx.registers rx.picks) p (length out) (length bytes)) out bytes
+        (taped_parts v h sums registers picks) o b
 
 -- ---- a finish
 
@@ -102,7 +102,7 @@ module _ (rx : Receiver) (out bytes : List ℕ) where
   Ended ran r = Is ran out bytes r out bytes
 
   pub finish-closed : sound rx ≡ false → FinishTaped rx out bytes (nothing rx Closed) out bytes
-  unfolding tapedFinishing doors.finishing
+  unfolding taped_finishing doors.finishing
   finish-closed e = finish-tapes rx out bytes (nothing rx Closed) out bytes (rw e (nothing_is rx Closed out bytes))
 
   abbrev h : doors.Ran
@@ -110,54 +110,54 @@ module _ (rx : Receiver) (out bytes : List ℕ) where
 
   -- what the receiver says: whether it is open, and whether its places are too few
   abbrev said : Bool → Bool → doors.Ran
-  said a b = cond a (cond b (doors.stopped rx NoRoom) (record { receiver = shut; taken = 0; words = lastWords rx; why = Done })) (doors.stopped rx Closed)
+  said a b = cond a (cond b (doors.stopped rx NoRoom) (record { receiver = shut; taken = 0; words = last_words rx; why = Done })) (doors.stopped rx Closed)
 
-  finish-many : isDone h.why ≡ true → length h.words ≡ rx.core.pending
+  finish-many : is_done h.why ≡ true → length h.words ≡ rx.core.pending
   unfolding doors.finishing
   finish-many = go (sound rx) (ltb (length out) rx.core.pending) where
-    go : (a b : Bool) → isDone (said a b).why ≡ true → length (said a b).words ≡ rx.core.pending
+    go : (a b : Bool) → is_done (said a b).why ≡ true → length (said a b).words ≡ rx.core.pending
     go true true e = absurd (subst T (sym e) tt)
     go true false e = last-many rx
     go false b e = absurd (subst T (sym e) tt)
 
-  refused-eight : sound rx ≡ true → isDone h.why ≡ false → h.why ≡ NoRoom
+  refused-eight : sound rx ≡ true → is_done h.why ≡ false → h.why ≡ NoRoom
   unfolding doors.finishing
   refused-eight e = rw e (pick (ltb (length out) rx.core.pending)) where
-    pick : (b : Bool) → isDone (said true b).why ≡ false → (said true b).why ≡ NoRoom
+    pick : (b : Bool) → is_done (said true b).why ≡ false → (said true b).why ≡ NoRoom
     pick true d = refl
     pick false d = absurd (subst T d tt)
 
   -- what the recorder makes of it
-  abbrev recordedOf : Bool → Bool → Ran
-  recordedOf done short =
-      cond done (cond short (stopped rx NoRoom) (record { receiver = h.receiver; taken = 0; words = h.words; records = finishRecords h.words; why = Done })) (stopped rx h.why)
+  abbrev recorded_of : Bool → Bool → Ran
+  recorded_of done short =
+      cond done (cond short (stopped rx NoRoom) (record { receiver = h.receiver; taken = 0; words = h.words; records = finish_records h.words; why = Done })) (stopped rx h.why)
 
   short-by : Bool
-  short-by = ltb (length bytes) (space_of (finishRecords h.words))
+  short-by = ltb (length bytes) (space_of (finish_records h.words))
 
   -- an 8 of the receiver's own, or of the bytes
   pub finish-short : sound rx ≡ true → length bytes < 1 + 5 * rx.core.pending → FinishTaped rx out bytes (nothing rx NoRoom) out bytes
-  unfolding tapedFinishing short-by
-  finish-short e few = finish-tapes rx out bytes (nothing rx NoRoom) out bytes (go (isDone h.why) refl)
+  unfolding taped_finishing short-by
+  finish-short e few = finish-tapes rx out bytes (nothing rx NoRoom) out bytes (go (is_done h.why) refl)
     where
-      go : (b : Bool) → isDone h.why ≡ b → Ended (recordedOf b short-by) (nothing rx NoRoom)
+      go : (b : Bool) → is_done h.why ≡ b → Ended (recorded_of b short-by) (nothing rx NoRoom)
       go true d =
-          rw (lt-ltb (length bytes) (space_of (finishRecords h.words)) (omega (arith, finish-space h.words, finish-many d))) (nothing_is rx NoRoom out bytes)
+          rw (lt-ltb (length bytes) (space_of (finish_records h.words)) (omega (arith, finish-space h.words, finish-many d))) (nothing_is rx NoRoom out bytes)
       go false d = rw (refused-eight e d) (nothing_is rx NoRoom out bytes)
 
   module _ (a : Answer) (o : List ℕ) (is : receives.Finishes rx out a o) where
-    same : isDone a.why ≡ isDone h.why
+    same : is_done a.why ≡ is_done h.why
     same = ap (λ (r : Reason). eqb r.number 0) is.always.given
 
-    pub finish-refused : isDone a.why ≡ false → FinishTaped rx out bytes (nothing rx a.why) o bytes
-    unfolding tapedFinishing bytes_of
+    pub finish-refused : is_done a.why ≡ false → FinishTaped rx out bytes (nothing rx a.why) o bytes
+    unfolding taped_finishing bytes_of
     finish-refused d =
         let not0 : (given_of a.why).number ≡ 0 → ⊥ = λ z. let e : ◌≡◌ {A = Bool} false true = sym d ∙ ap (λ (n : ℕ). eqb n 0) z in subst T (sym e) tt in
         let l = finishes-left rx out a o is not0 in
         finish-tapes rx out bytes (nothing rx a.why) o bytes
         (rw (sym same ∙ d) (record { receiver = refl; taken = refl; written = refl; recorded = refl; given = is.always.given; output = l.1; bytes-are = refl }))
 
-    module _ (d : isDone a.why ≡ true) where
+    module _ (d : is_done a.why ≡ true) where
       words_are : take a.written o ≡ h.words
       words_are = rw (is.always.written, is.always.output) (take-append_seam h.words (drop (length h.words) out))
 
@@ -167,13 +167,13 @@ module _ (rx : Receiver) (out bytes : List ℕ) where
       abbrev done : Taped
       done = record { receiver = a.receiver; taken = 0; written = a.written; recorded = 1 + 5 * a.written; why = a.why }
 
-      pub finish-done : 1 + 5 * rx.core.pending ≤ length bytes → (b : List ℕ) → Fronted (finishRecords (take a.written o)) bytes b → FinishTaped rx out bytes done o b
-      unfolding tapedFinishing
+      pub finish-done : 1 + 5 * rx.core.pending ≤ length bytes → (b : List ℕ) → Fronted (finish_records (take a.written o)) bytes b → FinishTaped rx out bytes done o b
+      unfolding taped_finishing
       finish-done room b put =
           let n = is.always.written in
           let k = sym same ∙ d in
           finish-tapes rx out bytes done o b
-          (rw (k, le-ltb (length bytes) (space_of (finishRecords h.words)) (omega (arith, finish-space h.words, finish-many k)))
+          (rw (k, le-ltb (length bytes) (space_of (finish_records h.words)) (omega (arith, finish-space h.words, finish-many k)))
           (record {
             receiver = is.always.receiver;
             taken = refl;
@@ -181,5 +181,5 @@ module _ (rx : Receiver) (out bytes : List ℕ) where
             recorded = rw (finish-space h.words, n);
             given = done-given a.why d;
             output = is.always.output;
-            bytes-are = subst (λ (l : List ℕ). Fronted (finishRecords l) bytes b) words_are put;
+            bytes-are = subst (λ (l : List ℕ). Fronted (finish_records l) bytes b) words_are put;
           }))

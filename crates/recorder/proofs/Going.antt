@@ -21,16 +21,16 @@ use Rattle.machine.specs.Machine.{Outcome, sound}
 use Rattle.machine.specs.Parts.{whole}
 use Rattle.reasons.specs.declared.Why.{Why}
 use Rattle.reasons.specs.declared.Why.TheVariants.{Done}
-use Rattle.reasons.specs.Reason.{reason, given_of, isDone}
+use Rattle.reasons.specs.Reason.{reason, given_of, is_done}
 use Rattle.reasons.proofs.Apart.{done-given}
-use Rattle.receiver_meaning.specs.Piece.{symbolsWith, mark_of, laterMarks}
+use Rattle.receiver_meaning.specs.Piece.{symbols_with, mark_of, later_marks}
 use Rattle.piece_input.proofs.Marks.{mark-from, later-from}
 use Rattle.pieces.proofs.Lent.{part, lent_fits, back_is, back-take, back-drop, back-length}
 use Rattle.records.specs.Values.{Entry, bytes_of}
-use Rattle.record_write.specs.Front.{symbolIn, symbolRecords, space_of}
+use Rattle.record_write.specs.Front.{symbol_in, symbol_records, space_of}
 use Rattle.record_write.proofs.Fronts.{bytes-append}
 use Rattle.recorder.specs.declared.piece.Step.{Step}
-use Rattle.recorder.specs.Taping.{tapedAt, recordsOf, Ran, taping}
+use Rattle.recorder.specs.Taping.{taped_at, records_of, Ran, taping}
 use Rattle.recorder.specs.Lent.{StepIs, RunsTaped}
 use Rattle.recorder.proofs.Left.{taped-refused, taped-sound}
 
@@ -53,7 +53,7 @@ pub record Stand : Type 0 where
 
 -- the end of the whole piece
 abbrev pub all_of : Given → Ran
-all_of z = taping (symbolsWith z.ms z.xs) z.rx 0 [] [] (length z.out) (length z.bytes)
+all_of z = taping (symbols_with z.ms z.xs) z.rx 0 [] [] (length z.out) (length z.bytes)
 
 pub record Going (z : Given) (s : Stand) : Type 0 where
   pub even : length z.xs % 4 ≡ 0
@@ -70,10 +70,10 @@ pub record Going (z : Given) (s : Stand) : Type 0 where
   pub rest-bytes : drop s.recorded s.bytes ≡ drop s.recorded z.bytes
   pub records : List Entry
   pub are : take s.recorded s.bytes ≡ bytes_of records
-  pub same : all_of z ≡ taping (symbolsWith (drop s.taken z.ms) (drop s.i z.xs)) s.rx s.taken (take s.written s.out) records (length z.out) (length z.bytes)
+  pub same : all_of z ≡ taping (symbols_with (drop s.taken z.ms) (drop s.i z.xs)) s.rx s.taken (take s.written s.out) records (length z.out) (length z.bytes)
 
 -- the symbol at the front of some coordinates, with its mark, and those after it
-front-symbol : (ms : List ℕ) (zs : List ℤ) → 4 ≤ length zs → symbolsWith ms zs ≡ symbolIn (mark_of ms) (take 4 zs) ∷ symbolsWith (laterMarks ms) (drop 4 zs)
+front-symbol : (ms : List ℕ) (zs : List ℤ) → 4 ≤ length zs → symbols_with ms zs ≡ symbol_in (mark_of ms) (take 4 zs) ∷ symbols_with (later_marks ms) (drop 4 zs)
 front-symbol ms [] h = absurd (omega arith)
 front-symbol ms (a ∷ []) h = absurd (omega arith)
 front-symbol ms (a ∷ b ∷ []) h = absurd (omega arith)
@@ -82,21 +82,21 @@ front-symbol ms (a ∷ b ∷ c ∷ d ∷ zs) h = refl
 
 -- one symbol of a run
 module _ (y : Two Received) (zs : List (Two Received)) (rx : Receiver) (n : ℕ) (ws : List ℕ) (rs : List Entry) (room bytes : ℕ)
-    (o : Outcome) (e : tapedAt rx y (room - length ws) (bytes - space_of rs) ≡ o) where
+    (o : Outcome) (e : taped_at rx y (room - length ws) (bytes - space_of rs) ≡ o) where
   abbrev further : Outcome → Ran
-  further o = taping zs o.receiver (n + 1) (ws ++ o.words) (rs ++ symbolRecords y o.words) room bytes
+  further o = taping zs o.receiver (n + 1) (ws ++ o.words) (rs ++ symbol_records y o.words) room bytes
 
   abbrev halted : Outcome → Ran
   halted o = record { receiver = rx; taken = n; words = ws; records = rs; why = o.why }
 
-  once : taping (y ∷ zs) rx n ws rs room bytes ≡ cond (isDone o.why) (further o) (halted o)
+  once : taping (y ∷ zs) rx n ws rs room bytes ≡ cond (is_done o.why) (further o) (halted o)
   unfolding taping
-  once = ap (λ (q : Outcome). cond (isDone q.why) (further q) (halted q)) e
+  once = ap (λ (q : Outcome). cond (is_done q.why) (further q) (halted q)) e
 
-  run_on : isDone o.why ≡ true → taping (y ∷ zs) rx n ws rs room bytes ≡ further o
+  run_on : is_done o.why ≡ true → taping (y ∷ zs) rx n ws rs room bytes ≡ further o
   run_on d = once ∙ rw d
 
-  run-stop : isDone o.why ≡ false → taping (y ∷ zs) rx n ws rs room bytes ≡ halted o
+  run-stop : is_done o.why ≡ false → taping (y ∷ zs) rx n ws rs room bytes ≡ halted o
   run-stop d = once ∙ rw d
 
 -- ---- before the first symbol, and after the last
@@ -139,7 +139,7 @@ module _ (z : Given) where
   end core sums registers picks out bytes taken w v why i g past =
       let s : Stand = record { out = out; bytes = bytes; rx = whole core sums registers picks; taken = taken; written = w; recorded = v; why = why; i = i } in
       let ran : all_of z ≡ record { receiver = s.rx; taken = taken; words = take w out; records = g.records; why = Done } =
-      g.same ∙ ap (λ (zs : List ℤ). taping (symbolsWith (drop taken z.ms) zs) s.rx taken (take w out) g.records (length z.out) (length z.bytes))
+      g.same ∙ ap (λ (zs : List ℤ). taping (symbols_with (drop taken z.ms) zs) s.rx taken (take w out) g.records (length z.out) (length z.bytes))
       (drop_of_length-le z.xs {i = i} past) in
       rw ran
       (record {
@@ -155,11 +155,11 @@ module _ (z : Given) where
 -- ---- a turn of the loop
 
 -- the four coordinates from the place i on; a list from the place w on, as it is lent, and the list when that has come back as ys
-abbrev pub fourAt : List ℤ → ℕ → List ℤ
-fourAt xs i = take (i + 4 - i) (drop i xs)
+abbrev pub four_at : List ℤ → ℕ → List ℤ
+four_at xs i = take (i + 4 - i) (drop i xs)
 
-abbrev pub lentFrom : ℕ → List ℕ → List ℕ
-lentFrom w l = take (length l - w) (drop w l)
+abbrev pub lent_from : ℕ → List ℕ → List ℕ
+lent_from w l = take (length l - w) (drop w l)
 
 abbrev pub returned : ℕ → List ℕ → List ℕ → List ℕ
 returned w l ys = take w l ++ (ys ++ drop (length l - w) (drop w l))
@@ -168,7 +168,7 @@ module _ (z : Given) (s : Stand) (g : Going z s) (more : s.i < length z.xs) wher
   pub four : s.i + 4 ≤ length z.xs
   four = omega (arith, g.even, g.count, g.within)
 
-  pub four-long : length (fourAt z.xs s.i) ≡ 4
+  pub four-long : length (four_at z.xs s.i) ≡ 4
   four-long =
       let n : s.i + 4 - s.i ≡ 4 = omega arith in
       rw n (length-take-le 4 (drop s.i z.xs) (rw length-drop (omega (arith, four))))
@@ -184,9 +184,9 @@ pub record Turn (z : Given) (s : Stand) : Type 0 where
   pub picks : List ℕ
   pub ys : List ℕ
   pub zs : List ℕ
-  pub is : StepIs s.rx (symbolIn mark (fourAt z.xs s.i)) (lentFrom s.written s.out) (lentFrom s.recorded s.bytes) step sums registers picks ys zs
-  pub kept : length ys ≡ length (lentFrom s.written s.out)
-  pub kept-bytes : length zs ≡ length (lentFrom s.recorded s.bytes)
+  pub is : StepIs s.rx (symbol_in mark (four_at z.xs s.i)) (lent_from s.written s.out) (lent_from s.recorded s.bytes) step sums registers picks ys zs
+  pub kept : length ys ≡ length (lent_from s.written s.out)
+  pub kept-bytes : length zs ≡ length (lent_from s.recorded s.bytes)
 
 module _ (z : Given) (s : Stand) (t : Turn z s) where
   abbrev g : Going z s
@@ -196,37 +196,37 @@ module _ (z : Given) (s : Stand) (t : Turn z s) where
   r = t.step
 
   abbrev y : Two Received
-  y = symbolIn t.mark (fourAt z.xs s.i)
+  y = symbol_in t.mark (four_at z.xs s.i)
 
   abbrev left : ℕ
-  left = length (lentFrom s.written s.out)
+  left = length (lent_from s.written s.out)
 
   abbrev left-bytes : ℕ
-  left-bytes = length (lentFrom s.recorded s.bytes)
+  left-bytes = length (lent_from s.recorded s.bytes)
 
   abbrev o : Outcome
-  o = tapedAt s.rx y left left-bytes
+  o = taped_at s.rx y left left-bytes
 
   abbrev new : List Entry
-  new = recordsOf y o
+  new = records_of y o
 
   abbrev ahead : List (Two Received)
-  ahead = symbolsWith (drop (s.taken + 1) z.ms) (drop (s.i + 4) z.xs)
+  ahead = symbols_with (drop (s.taken + 1) z.ms) (drop (s.i + 4) z.xs)
 
   -- the output and the bytes after it
-  abbrev pub outNext : List ℕ
-  outNext = returned s.written s.out t.ys
+  abbrev pub out_next : List ℕ
+  out_next = returned s.written s.out t.ys
 
-  abbrev pub bytesNext : List ℕ
-  bytesNext = returned s.recorded s.bytes t.zs
+  abbrev pub bytes_next : List ℕ
+  bytes_next = returned s.recorded s.bytes t.zs
 
-  symbols-are : symbolsWith (drop s.taken z.ms) (drop s.i z.xs) ≡ y ∷ ahead
+  symbols-are : symbols_with (drop s.taken z.ms) (drop s.i z.xs) ≡ y ∷ ahead
   symbols-are =
       let n : s.i + 4 - s.i ≡ 4 = omega arith in
       front-symbol (drop s.taken z.ms) (drop s.i z.xs) (rw length-drop (omega (arith, four z s g t.more)))
       ∙ rw (n, drop-drop 4 s.i z.xs, mark-from z.ms s.taken, later-from z.ms s.taken, t.mark-is)
 
-  here : tapedAt s.rx y (length z.out - length (take s.written s.out)) (length z.bytes - space_of g.records) ≡ o
+  here : taped_at s.rx y (length z.out - length (take s.written s.out)) (length z.bytes - space_of g.records) ≡ o
   here =
       let b : left ≡ length z.out - length (take s.written s.out) =
       rw (part s.out z.out o.words t.ys s.written g.long g.room g.rest t.is.output t.kept, length-drop, wrote z s g) in
@@ -244,27 +244,27 @@ module _ (z : Given) (s : Stand) (t : Turn z s) where
   more-space =
       rw t.is.recorded (lent_fits s.bytes z.bytes (bytes_of new) t.zs s.recorded g.wide g.space g.rest-bytes t.is.bytes-are t.kept-bytes)
 
-  pub more-length : length outNext ≡ length z.out
+  pub more-length : length out_next ≡ length z.out
   more-length = back-length s.out z.out o.words t.ys s.written g.long g.room g.rest t.is.output t.kept
 
-  pub more-wide : length bytesNext ≡ length z.bytes
+  pub more-wide : length bytes_next ≡ length z.bytes
   more-wide = back-length s.bytes z.bytes (bytes_of new) t.zs s.recorded g.wide g.space g.rest-bytes t.is.bytes-are t.kept-bytes
 
-  spoken : take (s.written + r.written) outNext ≡ take s.written s.out ++ o.words
+  spoken : take (s.written + r.written) out_next ≡ take s.written s.out ++ o.words
   spoken =
-      ap (λ (n : ℕ). take (s.written + n) outNext) t.is.written
+      ap (λ (n : ℕ). take (s.written + n) out_next) t.is.written
       ∙ back-take s.out z.out o.words t.ys s.written g.long g.room g.rest t.is.output t.kept
 
-  grown : take (s.recorded + r.recorded) bytesNext ≡ take s.recorded s.bytes ++ bytes_of new
+  grown : take (s.recorded + r.recorded) bytes_next ≡ take s.recorded s.bytes ++ bytes_of new
   grown =
-      ap (λ (n : ℕ). take (s.recorded + n) bytesNext) t.is.recorded
+      ap (λ (n : ℕ). take (s.recorded + n) bytes_next) t.is.recorded
       ∙ back-take s.bytes z.bytes (bytes_of new) t.zs s.recorded g.wide g.space g.rest-bytes t.is.bytes-are t.kept-bytes
 
   abbrev pub next : Stand
   next =
       record {
-        out = outNext;
-        bytes = bytesNext;
+        out = out_next;
+        bytes = bytes_next;
         rx = whole r.core t.sums t.registers t.picks;
         taken = s.taken + 1;
         written = s.written + r.written;
@@ -273,10 +273,10 @@ module _ (z : Given) (s : Stand) (t : Turn z s) where
         i = s.i + 4;
       }
 
-  pub go_on : isDone r.why ≡ true → length t.picks ≡ 72 → Going z next
+  pub go_on : is_done r.why ≡ true → length t.picks ≡ 72 → Going z next
   go_on done of-72 =
-      let d : isDone o.why ≡ true = ap isDone (sym t.is.why) ∙ done in
-      let k : new ≡ symbolRecords y o.words = rw d in
+      let d : is_done o.why ≡ true = ap is_done (sym t.is.why) ∙ done in
+      let k : new ≡ symbol_records y o.words = rw d in
       record {
         even = g.even;
         within = four z s g t.more;
@@ -291,20 +291,20 @@ module _ (z : Given) (s : Stand) (t : Turn z s) where
         rest = rw t.is.written (back-drop s.out z.out o.words t.ys s.written g.long g.room g.rest t.is.output t.kept);
         rest-bytes =
             rw t.is.recorded (back-drop s.bytes z.bytes (bytes_of new) t.zs s.recorded g.wide g.space g.rest-bytes t.is.bytes-are t.kept-bytes);
-        records = g.records ++ symbolRecords y o.words;
-        are = grown ∙ ap₂ (λ (l m : List ℕ). l ++ m) g.are (ap bytes_of k) ∙ sym (bytes-append g.records (symbolRecords y o.words));
+        records = g.records ++ symbol_records y o.words;
+        are = grown ∙ ap₂ (λ (l m : List ℕ). l ++ m) g.are (ap bytes_of k) ∙ sym (bytes-append g.records (symbol_records y o.words));
         same =
             same-on ∙ run_on y ahead s.rx s.taken (take s.written s.out) g.records (length z.out) (length z.bytes) o here d
-            ∙ ap₂ (λ (x : Receiver) (ws : List ℕ). taping ahead x (s.taken + 1) ws (g.records ++ symbolRecords y o.words) (length z.out) (length z.bytes))
+            ∙ ap₂ (λ (x : Receiver) (ws : List ℕ). taping ahead x (s.taken + 1) ws (g.records ++ symbol_records y o.words) (length z.out) (length z.bytes))
             (sym t.is.receiver) (sym spoken);
       }
 
-  pub stop : isDone r.why ≡ false →
+  pub stop : is_done r.why ≡ false →
       RunsTaped (all_of z) z.out z.bytes (record { core = r.core; taken = s.taken; written = s.written + r.written; recorded = s.recorded + r.recorded; why = r.why })
-      t.sums t.registers t.picks outNext bytesNext
+      t.sums t.registers t.picks out_next bytes_next
   unfolding bytes_of
   stop no_more =
-      let d : isDone o.why ≡ false = ap isDone (sym t.is.why) ∙ no_more in
+      let d : is_done o.why ≡ false = ap is_done (sym t.is.why) ∙ no_more in
       let k = taped-refused s.rx y left left-bytes d in
       let l = wrote z s g in
       let n : r.written ≡ 0 = t.is.written ∙ ap length k.0 in

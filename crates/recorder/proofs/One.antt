@@ -24,19 +24,19 @@ use Rattle.machine.specs.Machine.{Outcome, refused}
 use Rattle.machine.specs.Parts.{whole}
 use Rattle.reasons.specs.declared.Why.{Why}
 use Rattle.reasons.specs.declared.Why.TheVariants.{Done, NoRoom}
-use Rattle.reasons.specs.Reason.{given_of, isDone}
+use Rattle.reasons.specs.Reason.{given_of, is_done}
 use Rattle.reasons.proofs.Apart.{given-one, done-given}
-use Rattle.receiver_meaning.specs.Told.{faultOf}
-use Rattle.receiver_meaning.specs.Piece.{markedSymbol, symbolsWith}
+use Rattle.receiver_meaning.specs.Told.{fault_of}
+use Rattle.receiver_meaning.specs.Piece.{marked_symbol, symbols_with}
 use Rattle.receiver_meaning.proofs.Telling.{in-range}
 use Rattle.pieces.specs.declared.Heard.{Heard}
 use Rattle.pieces.specs.Running.{symbol_at, Ran, running}
 use Rattle.pieces.specs.Lent.{RunsLent}
 use Rattle.pieces.proofs.Kept.{symbol-refused}
 use Rattle.records.specs.Values.{bytes_of}
-use Rattle.record_write.specs.Front.{symbolIn, spot_of, symbolSpace, symbolRecords, Fronted, SmallSpot, Small}
+use Rattle.record_write.specs.Front.{symbol_in, spot_of, symbol_space, symbol_records, Fronted, SmallSpot, Small}
 use Rattle.record_write.proofs.Fronts.{symbol-space}
-use Rattle.recorder.specs.Taping.{tapedAt}
+use Rattle.recorder.specs.Taping.{taped_at}
 use Rattle.recorder.specs.Lent.{Refuses, StepOf, StepIs}
 use Rattle.recorder.proofs.Prefix.{few, back, front}
 use Rattle.recorder.proofs.Symbols.{enough, short}
@@ -51,22 +51,22 @@ abbrev stayed : Receiver → Outcome → Ran
 stayed rx o = record { receiver = rx; taken = 0; words = []; why = o.why }
 
 abbrev one : Receiver → Outcome → Ran
-one rx o = cond (isDone o.why) (took o) (stayed rx o)
+one rx o = cond (is_done o.why) (took o) (stayed rx o)
 
-run-one : (rx : Receiver) (n : ℕ) (xs : List ℤ) → length xs ≡ 4 → (room : ℕ) → running (symbolsWith (n ∷ []) xs) rx 0 [] room ≡ one rx (symbol_at rx (symbolIn n xs) room)
+run-one : (rx : Receiver) (n : ℕ) (xs : List ℤ) → length xs ≡ 4 → (room : ℕ) → running (symbols_with (n ∷ []) xs) rx 0 [] room ≡ one rx (symbol_at rx (symbol_in n xs) room)
 unfolding running
 run-one rx n [] f room = absurd (omega arith)
 run-one rx n (a ∷ []) f room = absurd (omega arith)
 run-one rx n (a ∷ b ∷ []) f room = absurd (omega arith)
 run-one rx n (a ∷ b ∷ c ∷ []) f room = absurd (omega arith)
-run-one rx n (a ∷ b ∷ c ∷ d ∷ []) f room = ap (λ (m : ℕ). one rx (symbol_at rx (markedSymbol n a b c d) m)) (sub-zero room)
+run-one rx n (a ∷ b ∷ c ∷ d ∷ []) f room = ap (λ (m : ℕ). one rx (symbol_at rx (marked_symbol n a b c d) m)) (sub-zero room)
 run-one rx n (a ∷ b ∷ c ∷ d ∷ e ∷ xs) f room = absurd (omega arith)
 
 -- a symbol that is taken is in range
-taken-in-range : (rx : Receiver) (y : Two Received) (room : ℕ) → isDone (symbol_at rx y room).why ≡ true → BothInRange y
+taken-in-range : (rx : Receiver) (y : Two Received) (room : ℕ) → is_done (symbol_at rx y room).why ≡ true → BothInRange y
 unfolding symbol_at
-taken-in-range rx y room e = go (ltb (faultOf y) 4) refl where
-  go : (b : Bool) → ltb (faultOf y) 4 ≡ b → BothInRange y
+taken-in-range rx y room e = go (ltb (fault_of y) 4) refl where
+  go : (b : Bool) → ltb (fault_of y) 4 ≡ b → BothInRange y
   go true k = absurd (let z : ◌≡◌ {A = Bool} false true = rw k at e in subst T (sym z) tt)
   go false k = in-range y k
 
@@ -84,11 +84,11 @@ pub record Asked (rx : Receiver) (n : ℕ) (xs : List ℤ) (room : List ℕ) : T
   pub registers : List ℕ
   pub picks : List ℕ
   pub after : List ℕ
-  pub was : RunsLent (running (symbolsWith (n ∷ []) xs) rx 0 [] (length room)) room heard sums registers picks after
+  pub was : RunsLent (running (symbols_with (n ∷ []) xs) rx 0 [] (length room)) room heard sums registers picks after
 
 module _ (rx : Receiver) (n : ℕ) (xs : List ℤ) (room : List ℕ) (a : Asked rx n xs room) where
   abbrev y : Two Received
-  y = symbolIn n xs
+  y = symbol_in n xs
 
   abbrev o : Outcome
   o = symbol_at rx y (length room)
@@ -100,44 +100,44 @@ module _ (rx : Receiver) (n : ℕ) (xs : List ℤ) (room : List ℕ) (a : Asked 
   is_one = subst Went (run-one rx n xs a.four (length room)) a.was
 
   why-is : a.heard.why ≡ o.why
-  why-is = given-one a.heard.why o.why (is_one.given ∙ go (isDone o.why) refl) where
-    go : (b : Bool) → isDone o.why ≡ b → given_of (cond b (took o) (stayed rx o)).why ≡ given_of o.why
+  why-is = given-one a.heard.why o.why (is_one.given ∙ go (is_done o.why) refl) where
+    go : (b : Bool) → is_done o.why ≡ b → given_of (cond b (took o) (stayed rx o)).why ≡ given_of o.why
     go true e = sym (done-given o.why e)
     go false e = refl
 
-  short-as : length room ≡ 0 → (m bytes : ℕ) → bytes < symbolSpace y → tapedAt rx y m bytes ≡ refused rx (cond (isDone a.heard.why) NoRoom a.heard.why)
+  short-as : length room ≡ 0 → (m bytes : ℕ) → bytes < symbol_space y → taped_at rx y m bytes ≡ refused rx (cond (is_done a.heard.why) NoRoom a.heard.why)
   short-as z m bytes few =
       let e : (symbol_at rx y 0).why ≡ a.heard.why = ap (λ (n : ℕ). (symbol_at rx y n).why) (sym z) ∙ sym why-is in
-      short rx y m bytes few ∙ ap (λ (v : Why). refused rx (cond (isDone v) NoRoom v)) e
+      short rx y m bytes few ∙ ap (λ (v : Why). refused rx (cond (is_done v) NoRoom v)) e
 
-  pub refuses-eight : length room ≡ 0 → isDone a.heard.why ≡ true → Refuses rx y NoRoom
+  pub refuses-eight : length room ≡ 0 → is_done a.heard.why ≡ true → Refuses rx y NoRoom
   refuses-eight z e = (refl, λ m bytes few. short-as z m bytes few ∙ rw e)
 
-  pub refuses-so : length room ≡ 0 → isDone a.heard.why ≡ false → Refuses rx y a.heard.why
+  pub refuses-so : length room ≡ 0 → is_done a.heard.why ≡ false → Refuses rx y a.heard.why
   refuses-so z e = (e, λ m bytes few. short-as z m bytes few ∙ rw e)
 
   -- how it went, by whether it was taken
-  refused-is : isDone o.why ≡ false → Went (stayed rx o)
+  refused-is : is_done o.why ≡ false → Went (stayed rx o)
   refused-is e = rw e at is_one
 
-  taken_is : isDone o.why ≡ true → Went (took o)
+  taken_is : is_done o.why ≡ true → Went (took o)
   taken_is e = rw e at is_one
 
-  not_taken : a.heard.taken ≡ 0 → isDone o.why ≡ false
-  not_taken z = go (isDone o.why) refl where
-    go : (b : Bool) → isDone o.why ≡ b → isDone o.why ≡ false
+  not_taken : a.heard.taken ≡ 0 → is_done o.why ≡ false
+  not_taken z = go (is_done o.why) refl where
+    go : (b : Bool) → is_done o.why ≡ b → is_done o.why ≡ false
     go true e = absurd (omega (arith, (taken_is e).taken))
     go false e = e
 
-  is-taken : (a.heard.taken ≡ 0 → ⊥) → isDone o.why ≡ true
-  is-taken z = go (isDone o.why) refl where
-    go : (b : Bool) → isDone o.why ≡ b → isDone o.why ≡ true
+  is-taken : (a.heard.taken ≡ 0 → ⊥) → is_done o.why ≡ true
+  is-taken z = go (is_done o.why) refl where
+    go : (b : Bool) → is_done o.why ≡ b → is_done o.why ≡ true
     go true e = e
     go false e = absurd (z (refused-is e).taken)
 
 -- ---- the ends of a symbol
 
-pub step-short : (core : Core) (sums registers picks out bytes : List ℕ) (y : Two Received) (w : Why) → Refuses (whole core sums registers picks) y w → length bytes < symbolSpace y →
+pub step-short : (core : Core) (sums registers picks out bytes : List ℕ) (y : Two Received) (w : Why) → Refuses (whole core sums registers picks) y w → length bytes < symbol_space y →
     StepIs (whole core sums registers picks) y out bytes (record { core = core; written = 0; recorded = 0; why = w }) sums registers picks out bytes
 unfolding bytes_of
 step-short core sums registers picks out bytes y w r few =
@@ -145,7 +145,7 @@ step-short core sums registers picks out bytes y w r few =
 
 pub record Lends (rx : Receiver) (n : ℕ) (xs : List ℤ) (out bytes : List ℕ) : Type 0 where
   pub size : ℕ
-  pub size_is : size ≡ symbolSpace (symbolIn n xs)
+  pub size_is : size ≡ symbol_space (symbol_in n xs)
   pub wide : size ≤ length bytes
   pub m : ℕ
   pub m-is : m ≡ min (length out) ((length bytes - size) / 5)
@@ -160,28 +160,28 @@ module _ (rx : Receiver) (n : ℕ) (xs : List ℤ) (out bytes : List ℕ) (l : L
   h = a.heard
 
   abbrev it : Two Received
-  it = symbolIn n xs
+  it = symbol_in n xs
 
   abbrev said : Outcome
   said = symbol_at rx it (length (take l.m out))
 
   -- the whole output after the call
-  abbrev outAfter : List ℕ
-  outAfter = a.after ++ drop l.m out
+  abbrev out_after : List ℕ
+  out_after = a.after ++ drop l.m out
 
   m-in : l.m ≤ length out
   m-in = omega (arith, l.m-is)
 
-  same : said ≡ tapedAt rx it (length out) (length bytes)
+  same : said ≡ taped_at rx it (length out) (length bytes)
   same =
-      let e : length (take l.m out) ≡ min (length out) ((length bytes - symbolSpace it) / 5) = length-take-le l.m out m-in ∙ l.m-is ∙ rw l.size_is in
+      let e : length (take l.m out) ≡ min (length out) ((length bytes - symbol_space it) / 5) = length-take-le l.m out m-in ∙ l.m-is ∙ rw l.size_is in
       sym (enough rx it (length out) (length bytes) (omega (arith, l.size_is, l.wide)) ∙ ap (symbol_at rx it) (sym e))
 
   -- the step is the outcome's, where it is that of what was said
   abbrev Steps : ℕ → ℕ → List ℕ → Outcome → Type 0
-  Steps written recorded b q = StepOf it q out bytes (record { core = h.core; written = written; recorded = recorded; why = h.why }) a.sums a.registers a.picks outAfter b
+  Steps written recorded b q = StepOf it q out bytes (record { core = h.core; written = written; recorded = recorded; why = h.why }) a.sums a.registers a.picks out_after b
 
-  pub step-refused : h.taken ≡ 0 → Steps 0 0 bytes (tapedAt rx it (length out) (length bytes))
+  pub step-refused : h.taken ≡ 0 → Steps 0 0 bytes (taped_at rx it (length out) (length bytes))
   unfolding bytes_of
   step-refused z =
       let e = not_taken rx n xs (take l.m out) a z in
@@ -199,7 +199,7 @@ module _ (rx : Receiver) (n : ℕ) (xs : List ℤ) (out bytes : List ℕ) (l : L
       })
 
   module _ (some : h.taken ≡ 0 → ⊥) where
-    done : isDone said.why ≡ true
+    done : is_done said.why ≡ true
     done = is-taken rx n xs (take l.m out) a some
 
     r : RunsLent (took said) (take l.m out) h a.sums a.registers a.picks a.after
@@ -213,20 +213,20 @@ module _ (rx : Receiver) (n : ℕ) (xs : List ℤ) (out bytes : List ℕ) (l : L
     unfolding r
     space = omega (arith, r.written, few_words, l.m-is, l.wide)
 
-    pub lent-few : h.written ≤ length outAfter
+    pub lent-few : h.written ≤ length out_after
     unfolding r
     lent-few =
         rw (length-append a.after (drop l.m out), length-drop)
         (omega (arith, r.written, few_words, m-in, length-take-le l.m out m-in, l.kept))
 
-    words_are : take h.written outAfter ≡ said.words
+    words_are : take h.written out_after ≡ said.words
     unfolding r
-    words_are = ap (λ (n : ℕ). take n outAfter) r.written ∙ front out said.words a.after l.m m-in r.output l.kept
+    words_are = ap (λ (n : ℕ). take n out_after) r.written ∙ front out said.words a.after l.m m-in r.output l.kept
 
-    pub words-many : h.written ≡ length (take h.written outAfter)
-    words-many = sym (length-take-le h.written outAfter lent-few)
+    pub words-many : h.written ≡ length (take h.written out_after)
+    words-many = sym (length-take-le h.written out_after lent-few)
 
-    pub words-space : symbolSpace it + 5 * length (take h.written outAfter) ≤ length bytes
+    pub words-space : symbol_space it + 5 * length (take h.written out_after) ≤ length bytes
     words-space = omega (arith, words-many, space, l.size_is)
 
     pub small : Small it
@@ -236,8 +236,8 @@ module _ (rx : Receiver) (n : ℕ) (xs : List ℤ) (out bytes : List ℕ) (l : L
         (spot-small it.first r.first-in, spot-small it.second r.second-in)
 
     -- the records are put
-    pub step-taken : (b : List ℕ) → Fronted (symbolRecords it (take h.written outAfter)) bytes b →
-        Steps h.written (l.size + 5 * h.written) b (tapedAt rx it (length out) (length bytes))
+    pub step-taken : (b : List ℕ) → Fronted (symbol_records it (take h.written out_after)) bytes b →
+        Steps h.written (l.size + 5 * h.written) b (taped_at rx it (length out) (length bytes))
     unfolding r done
     step-taken b put =
         let w : h.written ≡ length said.words = r.written in
@@ -248,5 +248,5 @@ module _ (rx : Receiver) (n : ℕ) (xs : List ℤ) (out bytes : List ℕ) (l : L
           written = w;
           recorded = rw (done, symbol-space it said.words, w, l.size_is);
           output = back out said.words a.after l.m m-in r.output l.kept;
-          bytes-are = rw done (subst (λ (v : List ℕ). Fronted (symbolRecords it v) bytes b) words_are put);
+          bytes-are = rw done (subst (λ (v : List ℕ). Fronted (symbol_records it v) bytes b) words_are put);
         })

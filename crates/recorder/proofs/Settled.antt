@@ -9,7 +9,7 @@ use Rattle.reasons.proofs.Apart.{given-one}
 use Rattle.receiver_meaning.specs.Piece.{Piece}
 use Rattle.recorder.specs.declared.Taped.{Taped}
 use Rattle.recorder.specs.Taping.{Ran}
-use Rattle.recorder.specs.Doors.{tapedHearing, tapedFinishing}
+use Rattle.recorder.specs.Doors.{taped_hearing, taped_finishing}
 use Rattle.recorder.specs.Promise.{OpenTaped, Is, Tapes, FinishTaped}
 
 pub opens-settled : (k : Accord) (w s : ℕ) (bytes : List ℕ) (n m : ℕ) (b c : List ℕ) → OpenTaped k w s bytes n b → OpenTaped k w s bytes m c → (n ≡ m) × (b ≡ c)
@@ -26,8 +26,8 @@ is-settled ran out bytes r s o p b c h k =
 
 pub tapes-settled : (rx : Receiver) (q : Piece) (out bytes : List ℕ) (r s : Taped) (o p b c : List ℕ) →
     Tapes rx q out bytes r o b → Tapes rx q out bytes s p c → (r ≡ s) × (o ≡ p) × (b ≡ c)
-tapes-settled rx q out bytes r s o p b c h k = is-settled (tapedHearing rx q (length out) (length bytes)) out bytes r s o p b c h.always k.always
+tapes-settled rx q out bytes r s o p b c h k = is-settled (taped_hearing rx q (length out) (length bytes)) out bytes r s o p b c h.always k.always
 
 pub finishes-settled : (rx : Receiver) (out bytes : List ℕ) (r s : Taped) (o p b c : List ℕ) →
     FinishTaped rx out bytes r o b → FinishTaped rx out bytes s p c → (r ≡ s) × (o ≡ p) × (b ≡ c)
-finishes-settled rx out bytes r s o p b c h k = is-settled (tapedFinishing rx (length out) (length bytes)) out bytes r s o p b c h.always k.always
+finishes-settled rx out bytes r s o p b c h k = is-settled (taped_finishing rx (length out) (length bytes)) out bytes r s o p b c h.always k.always

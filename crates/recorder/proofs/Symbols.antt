@@ -12,90 +12,90 @@ use lib.Dec.{eqb, ltb}
 use lib.ListN.{length, take}
 use lib.Seq.{length-take-le}
 use Rattle.trellis.specs.Measure.{Two}
-use Rattle.trellis.specs.Words.{word, wordsFrom, turnAfter}
+use Rattle.trellis.specs.Words.{word, words_from, turn_after}
 use Rattle.trellis.proofs.Speak.{speak-length}
 use Rattle.nearest.specs.declared.Received.{Received}
-use Rattle.select.specs.Select.{prevIn}
+use Rattle.select.specs.Select.{prev_in}
 use Rattle.machine.specs.declared.Receiver.{Receiver}
-use Rattle.machine.specs.Machine.{Outcome, refused, taking, nextSteps, wayFrom, agreedOf, keptOf, releasedOf, grown}
+use Rattle.machine.specs.Machine.{Outcome, refused, taking, next_steps, way_from, agreed_of, kept_of, released_of, grown}
 use Rattle.machine.proofs.Agree.{agreed-few}
 use Rattle.machine.proofs.Way.{way-length}
 use Rattle.reasons.specs.declared.Why.{Why}
 use Rattle.reasons.specs.declared.Why.TheVariants.{Done, BadSample, Full, NoRoom}
-use Rattle.reasons.specs.Reason.{isDone}
-use Rattle.receiver_meaning.specs.Told.{faultOf}
+use Rattle.reasons.specs.Reason.{is_done}
+use Rattle.receiver_meaning.specs.Told.{fault_of}
 use Rattle.pieces.specs.Running.{symbol_at}
-use Rattle.record_write.specs.Front.{symbolRecords, symbolSpace, space_of}
+use Rattle.record_write.specs.Front.{symbol_records, symbol_space, space_of}
 use Rattle.record_write.proofs.Fronts.{symbol-space}
-use Rattle.recorder.specs.Taping.{tapedAt}
+use Rattle.recorder.specs.Taping.{taped_at}
 
 module _ (rx : Receiver) (y : Two Received) where
   abbrev words : List ℕ
-  words = wordsFrom rx.core.accord.u rx.core.turn (releasedOf rx y)
+  words = words_from rx.core.accord.u rx.core.turn (released_of rx y)
 
-  pub released-many : length words ≡ agreedOf rx y
-  unfolding releasedOf
+  pub released-many : length words ≡ agreed_of rx y
+  unfolding released_of
   released-many =
-      let way = wayFrom rx.core rx.registers rx.picks (prevIn (nextSteps rx y) 0) in
-      speak-length turnAfter (word rx.core.accord.u) rx.core.turn (take (agreedOf rx y) way)
-      ∙ length-take-le (agreedOf rx y) way (omega (arith, agreed-few rx y, way-length rx.core rx.registers rx.picks (prevIn (nextSteps rx y) 0)))
+      let way = way_from rx.core rx.registers rx.picks (prev_in (next_steps rx y) 0) in
+      speak-length turn_after (word rx.core.accord.u) rx.core.turn (take (agreed_of rx y) way)
+      ∙ length-take-le (agreed_of rx y) way (omega (arith, agreed-few rx y, way-length rx.core rx.registers rx.picks (prev_in (next_steps rx y) 0)))
 
   -- an outcome where the bytes are given
   abbrev within : ℕ → Outcome → Outcome
-  within bytes o = cond (isDone o.why && ltb bytes (space_of (symbolRecords y o.words))) (refused rx NoRoom) o
+  within bytes o = cond (is_done o.why && ltb bytes (space_of (symbol_records y o.words))) (refused rx NoRoom) o
 
   -- what is said once it is neither 5 nor 6
   abbrev roomy : Bool → Outcome
   roomy b = cond b (refused rx NoRoom) (record { receiver = grown rx y; words = words; why = Done })
 
   -- both ways of asking, by cases on 5, 6
-  by_cases : (P : Outcome → Outcome → Type 0) (room other : ℕ) → ((w : Why) → isDone w ≡ false → P (refused rx w) (refused rx w)) →
-      P (roomy (ltb room (agreedOf rx y))) (roomy (ltb other (agreedOf rx y))) → P (symbol_at rx y room) (symbol_at rx y other)
+  by_cases : (P : Outcome → Outcome → Type 0) (room other : ℕ) → ((w : Why) → is_done w ≡ false → P (refused rx w) (refused rx w)) →
+      P (roomy (ltb room (agreed_of rx y))) (roomy (ltb other (agreed_of rx y))) → P (symbol_at rx y room) (symbol_at rx y other)
   unfolding symbol_at taking
-  by_cases P room other not rest = go (ltb (faultOf y) 4) (ltb rx.core.window (keptOf rx y))
+  by_cases P room other not rest = go (ltb (fault_of y) 4) (ltb rx.core.window (kept_of rx y))
     where
       full : Bool → Bool → ℕ → Outcome
-      full a c m = cond a (refused rx (BadSample (faultOf y))) (cond c (refused rx Full) (roomy (ltb m (agreedOf rx y))))
+      full a c m = cond a (refused rx (BadSample (fault_of y))) (cond c (refused rx Full) (roomy (ltb m (agreed_of rx y))))
 
       go : (a c : Bool) → P (full a c room) (full a c other)
-      go true c = not (BadSample (faultOf y)) refl
+      go true c = not (BadSample (fault_of y)) refl
       go false true = not Full refl
       go false false = rest
 
   -- what both rooms hold
   abbrev fitting : ℕ → ℕ → ℕ
-  fitting room bytes = min room ((bytes - symbolSpace y) / 5)
+  fitting room bytes = min room ((bytes - symbol_space y) / 5)
 
-  pub enough : (room bytes : ℕ) → symbolSpace y ≤ bytes → tapedAt rx y room bytes ≡ symbol_at rx y (fitting room bytes)
-  unfolding tapedAt
+  pub enough : (room bytes : ℕ) → symbol_space y ≤ bytes → taped_at rx y room bytes ≡ symbol_at rx y (fitting room bytes)
+  unfolding taped_at
   enough room bytes h = by_cases (λ p q. within bytes p ≡ q) room (fitting room bytes) (λ w d. rw d) (go (ltb room n) refl)
     where
       n : ℕ
-      n = agreedOf rx y
+      n = agreed_of rx y
 
       go : (b : Bool) → ltb room n ≡ b → within bytes (roomy b) ≡ roomy (ltb (fitting room bytes) n)
       go true e = rw (lt-ltb (fitting room bytes) n (omega (arith, ltb-true room n e)))
-      go false e = last (ltb bytes (space_of (symbolRecords y words))) refl
+      go false e = last (ltb bytes (space_of (symbol_records y words))) refl
         where
-          last : (b : Bool) → ltb bytes (space_of (symbolRecords y words)) ≡ b → cond b (refused rx NoRoom) (roomy false) ≡ roomy (ltb (fitting room bytes) n)
+          last : (b : Bool) → ltb bytes (space_of (symbol_records y words)) ≡ b → cond b (refused rx NoRoom) (roomy false) ≡ roomy (ltb (fitting room bytes) n)
           last true k =
-              rw (lt-ltb (fitting room bytes) n (omega (arith, symbol-space y words, released-many, ltb-true bytes (space_of (symbolRecords y words)) k)))
+              rw (lt-ltb (fitting room bytes) n (omega (arith, symbol-space y words, released-many, ltb-true bytes (space_of (symbol_records y words)) k)))
           last false k =
-              let l = ltb-false bytes (space_of (symbolRecords y words)) k in
+              let l = ltb-false bytes (space_of (symbol_records y words)) k in
               rw (le-ltb (fitting room bytes) n (omega (arith, symbol-space y words, released-many, l, ltb-false room n e)))
 
-  pub short : (room bytes : ℕ) → bytes < symbolSpace y → tapedAt rx y room bytes ≡ refused rx (cond (isDone (symbol_at rx y 0).why) NoRoom (symbol_at rx y 0).why)
-  unfolding tapedAt
+  pub short : (room bytes : ℕ) → bytes < symbol_space y → taped_at rx y room bytes ≡ refused rx (cond (is_done (symbol_at rx y 0).why) NoRoom (symbol_at rx y 0).why)
+  unfolding taped_at
   short room bytes h =
-      by_cases (λ p q. within bytes p ≡ refused rx (cond (isDone q.why) NoRoom q.why)) room 0 (λ w d. rw d) (go (ltb room n) (ltb 0 n))
+      by_cases (λ p q. within bytes p ≡ refused rx (cond (is_done q.why) NoRoom q.why)) room 0 (λ w d. rw d) (go (ltb room n) (ltb 0 n))
     where
       n : ℕ
-      n = agreedOf rx y
+      n = agreed_of rx y
 
-      none : ltb bytes (space_of (symbolRecords y words)) ≡ true
-      none = lt-ltb bytes (space_of (symbolRecords y words)) (omega (arith, symbol-space y words))
+      none : ltb bytes (space_of (symbol_records y words)) ≡ true
+      none = lt-ltb bytes (space_of (symbol_records y words)) (omega (arith, symbol-space y words))
 
-      go : (a b : Bool) → within bytes (roomy a) ≡ refused rx (cond (isDone (roomy b).why) NoRoom (roomy b).why)
+      go : (a b : Bool) → within bytes (roomy a) ≡ refused rx (cond (is_done (roomy b).why) NoRoom (roomy b).why)
       go true true = refl
       go true false = refl
       go false true = rw none

@@ -10,27 +10,27 @@ use Rattle.machine.specs.declared.Receiver.{Receiver}
 use Rattle.machine.specs.Machine.{Outcome, refused}
 use Rattle.machine.specs.Parts.{whole}
 use Rattle.reasons.specs.declared.Why.{Why}
-use Rattle.reasons.specs.Reason.{given_of, isDone}
+use Rattle.reasons.specs.Reason.{given_of, is_done}
 use Rattle.pieces.specs.Running.{Written}
-use Rattle.record_write.specs.Front.{space_of, symbolSpace, Fronted}
+use Rattle.record_write.specs.Front.{space_of, symbol_space, Fronted}
 use Rattle.recorder.specs.declared.piece.Step.{Step}
 use Rattle.recorder.specs.declared.piece.Kept.{Kept}
-use Rattle.recorder.specs.Taping.{tapedAt, recordsOf, Ran}
+use Rattle.recorder.specs.Taping.{taped_at, records_of, Ran}
 
 abbrev pub Refuses : Receiver → Two Received → Why → Type 0
-Refuses rx y w = (isDone w ≡ false) × ((room bytes : ℕ) → bytes < symbolSpace y → tapedAt rx y room bytes ≡ refused rx w)
+Refuses rx y w = (is_done w ≡ false) × ((room bytes : ℕ) → bytes < symbol_space y → taped_at rx y room bytes ≡ refused rx w)
 
 -- the symbol y came to the outcome q
 pub record StepOf (y : Two Received) (q : Outcome) (out bytes : List ℕ) (r : Step) (sums registers picks o b : List ℕ) : Type 0 where
   pub receiver : whole r.core sums registers picks ≡ q.receiver
   pub why : r.why ≡ q.why
   pub written : r.written ≡ length q.words
-  pub recorded : r.recorded ≡ space_of (recordsOf y q)
+  pub recorded : r.recorded ≡ space_of (records_of y q)
   pub output : Written q.words out o
-  pub bytes-are : Fronted (recordsOf y q) bytes b
+  pub bytes-are : Fronted (records_of y q) bytes b
 
 abbrev pub StepIs : Receiver → Two Received → List ℕ → List ℕ → Step → List ℕ → List ℕ → List ℕ → List ℕ → List ℕ → Type 0
-StepIs rx y out bytes = StepOf y (tapedAt rx y (length out) (length bytes)) out bytes
+StepIs rx y out bytes = StepOf y (taped_at rx y (length out) (length bytes)) out bytes
 
 pub record RunsTaped (ran : Ran) (out bytes : List ℕ) (r : Kept) (sums registers picks o b : List ℕ) : Type 0 where
   pub receiver : whole r.core sums registers picks ≡ ran.receiver

@@ -4,7 +4,7 @@
 pub mod piece;
 
 ghost use Rattle.std.specs.Prelude.{◌≡◌};
-ghost use Rattle.receiver_meaning.specs.Piece.{pieceWith, markedPiece, piece_of};
+ghost use Rattle.receiver_meaning.specs.Piece.{piece_with, marked_piece, piece_of};
 ghost use Rattle.receiver.specs.Promise.{parts_of};
 ghost use Rattle.recorder.specs.Promise.{OpenTaped, TapesLent, Tapes, FinishTaped};
 
@@ -66,7 +66,7 @@ pub fn hear_piece_lent(
     out: &mut [u32],
     bytes: &mut [u8],
 ) -> Kept
-    ensures { TapesLent (parts_of live core sums.old registers.old picks.old) (pieceWith marked marks.now samples.now)
+    ensures { TapesLent (parts_of live core sums.old registers.old picks.old) (piece_with marked marks.now samples.now)
         out.old bytes.old
         result sums.new registers.new picks.new out.new bytes.new }
 {
@@ -93,7 +93,7 @@ fn hear_piece(
     out: &mut [u32],
     bytes: &mut [u8],
 ) -> Taped
-    ensures { Tapes rx (pieceWith marked marks.now samples.now) out.old bytes.old result out.new bytes.new }
+    ensures { Tapes rx (piece_with marked marks.now samples.now) out.old bytes.old result out.new bytes.new }
 {
     let live = rx.live;
     let core = rx.core;
@@ -145,7 +145,7 @@ pub fn hear_marked(
     out: &mut [u32],
     bytes: &mut [u8],
 ) -> Taped
-    ensures { Tapes rx (markedPiece marks.now samples.now) out.old bytes.old result out.new bytes.new }
+    ensures { Tapes rx (marked_piece marks.now samples.now) out.old bytes.old result out.new bytes.new }
 {
     hear_piece(rx, true, marks, samples, out, bytes)
 }

@@ -8,8 +8,8 @@
 ghost use Rattle.std.specs.Prelude.{◌≡◌, true, [], ◌/◌, ◌%◌, min, length};
 ghost use Rattle.machine.specs.Machine.{sound};
 ghost use Rattle.machine.specs.Parts.{whole};
-ghost use Rattle.receiver_meaning.specs.Piece.{symbolsWith, marksOf};
-ghost use Rattle.record_write.specs.Front.{symbolIn};
+ghost use Rattle.receiver_meaning.specs.Piece.{symbols_with, marks_of};
+ghost use Rattle.record_write.specs.Front.{symbol_in};
 ghost use Rattle.recorder.specs.Taping.{taping};
 ghost use Rattle.recorder.specs.Lent.{Refuses, StepIs, RunsTaped};
 
@@ -45,7 +45,7 @@ fn refusal(
     picks: &[u64],
 ) -> Why
     requires { (sound (whole core sums.now registers.now picks.now) ≡ true) × (length picks.now ≡ 72) × (length four.now ≡ 4) }
-    ensures { Refuses (whole core sums.now registers.now picks.now) (symbolIn mark four.now) result }
+    ensures { Refuses (whole core sums.now registers.now picks.now) (symbol_in mark four.now) result }
 {
     let mut s = *sums;
     let mut p = *registers;
@@ -104,7 +104,7 @@ fn record_symbol(
     bytes: &mut [u8],
 ) -> Step
     requires { (sound (whole core sums.old registers.old picks.old) ≡ true) × (length picks.old ≡ 72) × (length four.now ≡ 4) }
-    ensures { StepIs (whole core sums.old registers.old picks.old) (symbolIn mark four.now) out.old bytes.old
+    ensures { StepIs (whole core sums.old registers.old picks.old) (symbol_in mark four.now) out.old bytes.old
         result sums.new registers.new picks.new out.new bytes.new }
 {
     let size = record_write::symbol_space(mark, four);
@@ -152,7 +152,7 @@ pub fn record_symbols(
     bytes: &mut [u8],
 ) -> Kept
     requires { (sound (whole start sums.old registers.old picks.old) ≡ true) × (length samples.now % 4 ≡ 0) × (length picks.old ≡ 72) }
-    ensures { RunsTaped (taping (symbolsWith (marksOf marked marks.now) samples.now) (whole start sums.old registers.old picks.old) 0 [] []
+    ensures { RunsTaped (taping (symbols_with (marks_of marked marks.now) samples.now) (whole start sums.old registers.old picks.old) 0 [] []
         (length out.old) (length bytes.old)) out.old bytes.old
         result sums.new registers.new picks.new out.new bytes.new }
 {

@@ -16,13 +16,13 @@ use Rattle.points.specs.declared.Accord.{Accord}
 use Rattle.records.specs.declared.Role.{Role}
 use Rattle.records.specs.declared.Role.TheVariants.{Open, Symbol, Word, Finish, Unknown}
 use Rattle.records.specs.Kinds.{kind_of}
-use Rattle.records.specs.Values.{Entry, openEntry, symbolEntry, markedEntry}
+use Rattle.records.specs.Values.{Entry, open_entry, symbol_entry, marked_entry}
 use Rattle.records.proofs.Back.{word_back}
 use Rattle.distance.specs.declared.Spot.{Spot}
-use Rattle.record_write.specs.Front.{symbolRecords, finishRecords, wordEntries, markFor, spot_of}
-use Rattle.recorder_meaning.specs.WordsIn.{wordsAfter, words_of}
+use Rattle.record_write.specs.Front.{symbol_records, finish_records, word_entries, mark_for, spot_of}
+use Rattle.recorder_meaning.specs.WordsIn.{words_after, words_of}
 
-after-append : (r : Role) (body ws vs : List ℕ) → wordsAfter r body (ws ++ vs) ≡ wordsAfter r body ws ++ vs
+after-append : (r : Role) (body ws vs : List ℕ) → words_after r body (ws ++ vs) ≡ words_after r body ws ++ vs
 after-append Word body ws vs = refl
 after-append Open body ws vs = refl
 after-append Symbol body ws vs = refl
@@ -32,16 +32,16 @@ after-append Unknown body ws vs = refl
 pub words_append : (rs qs : List Entry) → words_of (rs ++ qs) ≡ words_of rs ++ words_of qs
 unfolding words_of
 words_append [] qs = refl
-words_append (r ∷ rs) qs = ap (wordsAfter (kind_of r.kind).role r.body) (words_append rs qs) ∙ after-append (kind_of r.kind).role r.body (words_of rs) (words_of qs)
+words_append (r ∷ rs) qs = ap (words_after (kind_of r.kind).role r.body) (words_append rs qs) ∙ after-append (kind_of r.kind).role r.body (words_of rs) (words_of qs)
 
-pub entry-words : (ws : List ℕ) → Every (λ w. w < 4294967296) ws → words_of (wordEntries ws) ≡ ws
+pub entry-words : (ws : List ℕ) → Every (λ w. w < 4294967296) ws → words_of (word_entries ws) ≡ ws
 unfolding words_of kind_of
 entry-words [] h = refl
 entry-words (w ∷ ws) h = ap₂ (λ (x : ℕ) (xs : List ℕ). x ∷ xs) (word_back w h.0) (entry-words ws h.1)
 
-pub symbol-words : (y : Two Received) (ws : List ℕ) → Every (λ w. w < 4294967296) ws → words_of (symbolRecords y ws) ≡ ws
+pub symbol-words : (y : Two Received) (ws : List ℕ) → Every (λ w. w < 4294967296) ws → words_of (symbol_records y ws) ≡ ws
 unfolding words_of kind_of
-symbol-words y ws h = go (eqb (markFor y) 0)
+symbol-words y ws h = go (eqb (mark_for y) 0)
   where
     p : Spot
     p = spot_of y.first
@@ -49,18 +49,18 @@ symbol-words y ws h = go (eqb (markFor y) 0)
     q : Spot
     q = spot_of y.second
 
-    go : (b : Bool) → words_of (cond b (symbolEntry p.x p.y q.x q.y) (markedEntry (markFor y) p.x p.y q.x q.y) ∷ wordEntries ws) ≡ ws
+    go : (b : Bool) → words_of (cond b (symbol_entry p.x p.y q.x q.y) (marked_entry (mark_for y) p.x p.y q.x q.y) ∷ word_entries ws) ≡ ws
     go true = entry-words ws h
     go false = entry-words ws h
 
-pub finish-words : (ws : List ℕ) → Every (λ w. w < 4294967296) ws → words_of (finishRecords ws) ≡ ws
+pub finish-words : (ws : List ℕ) → Every (λ w. w < 4294967296) ws → words_of (finish_records ws) ≡ ws
 unfolding words_of kind_of
 finish-words ws h = entry-words ws h
 
-pub open-words : (k : Accord) (w s : ℕ) → words_of (openEntry k w s ∷ []) ≡ []
+pub open-words : (k : Accord) (w s : ℕ) → words_of (open_entry k w s ∷ []) ≡ []
 unfolding words_of kind_of
 open-words k w s = go k.map
   where
-    go : (n : Map) → words_of (openEntry (record { map = n; u = k.u }) w s ∷ []) ≡ []
+    go : (n : Map) → words_of (open_entry (record { map = n; u = k.u }) w s ∷ []) ≡ []
     go Round = refl
     go Square = refl

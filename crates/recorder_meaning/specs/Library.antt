@@ -8,10 +8,10 @@ use Rattle.points.specs.declared.Accord.{Accord}
 use Rattle.openings.specs.Given.{start_at}
 use Rattle.receiver_meaning.specs.Piece.{Piece}
 use Rattle.recorder.specs.Promise.{OpenTaped}
-use Rattle.c_states.specs.State.{receiverIn}
-use Rattle.c_recorder.specs.Calls.{hearCall, finishCall}
+use Rattle.c_states.specs.State.{receiver_in}
+use Rattle.c_recorder.specs.Calls.{hear_call, finish_call}
 use Rattle.c_recorder.specs.Promise.{Records}
-use Rattle.demfizagu.specs.Calls.{receiverOpening}
+use Rattle.demfizagu.specs.Calls.{receiver_opening}
 use Rattle.demfizagu.specs.Promise as library
 
 -- told[1] words written, told[3] bytes recorded
@@ -23,26 +23,26 @@ recorded told = get_or told 3 0
 
 pub data LibraryRecords (k : Accord) (w s : ℕ) : List ℕ → List ℕ → List ℕ → Type 0 where
   -- the plain opening is the one with its own window and the start number 16
-  opens : (before state : List ℕ) (m : ℕ) → library.Opens receiverIn (receiverOpening before k w (start_at s)) m state → m ≡ 0 →
+  opens : (before state : List ℕ) (m : ℕ) → library.Opens receiver_in (receiver_opening before k w (start_at s)) m state → m ≡ 0 →
       (bytes b : List ℕ) (n : ℕ) → OpenTaped k w s bytes n b → n ≡ 0 → LibraryRecords k w s [] (take 4 b) state
   -- a piece with marks or without them
   hears : {ws bs state : List ℕ} → LibraryRecords k w s ws bs state →
-      (piece : Piece) (out bytes told : List ℕ) → 4 ≤ length told → (n : ℕ) (state' o b told' : List ℕ) → Records (hearCall state piece out bytes told) n state' o b told' →
+      (piece : Piece) (out bytes told : List ℕ) → 4 ≤ length told → (n : ℕ) (state' o b told' : List ℕ) → Records (hear_call state piece out bytes told) n state' o b told' →
       LibraryRecords k w s (ws ++ take (written told') o) (bs ++ take (recorded told') b) state'
   refuses : {ws bs state : List ℕ} → LibraryRecords k w s ws bs state →
-      (out bytes told : List ℕ) → 4 ≤ length told → (n : ℕ) (state' o b told' : List ℕ) → Records (finishCall state out bytes told) n state' o b told' → (n ≡ 0 → ⊥) →
+      (out bytes told : List ℕ) → 4 ≤ length told → (n : ℕ) (state' o b told' : List ℕ) → Records (finish_call state out bytes told) n state' o b told' → (n ≡ 0 → ⊥) →
       LibraryRecords k w s (ws ++ take (written told') o) (bs ++ take (recorded told') b) state'
   -- a `told` that is too short is an 8, and nothing happens
   short : {ws bs state : List ℕ} → LibraryRecords k w s ws bs state →
-      (piece : Piece) (out bytes told : List ℕ) → length told < 4 → (n : ℕ) (state' o b told' : List ℕ) → Records (hearCall state piece out bytes told) n state' o b told' →
+      (piece : Piece) (out bytes told : List ℕ) → length told < 4 → (n : ℕ) (state' o b told' : List ℕ) → Records (hear_call state piece out bytes told) n state' o b told' →
       LibraryRecords k w s ws bs state'
   short-finish : {ws bs state : List ℕ} → LibraryRecords k w s ws bs state →
-      (out bytes told : List ℕ) → length told < 4 → (n : ℕ) (state' o b told' : List ℕ) → Records (finishCall state out bytes told) n state' o b told' →
+      (out bytes told : List ℕ) → length told < 4 → (n : ℕ) (state' o b told' : List ℕ) → Records (finish_call state out bytes told) n state' o b told' →
       LibraryRecords k w s ws bs state'
   -- a copy is any words that hold the same receiver
-  copied : {ws bs state : List ℕ} → LibraryRecords k w s ws bs state → (other : List ℕ) → receiverIn other ≡ receiverIn state → LibraryRecords k w s ws bs other
+  copied : {ws bs state : List ℕ} → LibraryRecords k w s ws bs state → (other : List ℕ) → receiver_in other ≡ receiver_in state → LibraryRecords k w s ws bs other
 
 pub data LibraryEnded (k : Accord) (w s : ℕ) : List ℕ → List ℕ → Type 0 where
   ends : {ws bs state : List ℕ} → LibraryRecords k w s ws bs state →
-      (out bytes told : List ℕ) → 4 ≤ length told → (n : ℕ) (state' o b told' : List ℕ) → Records (finishCall state out bytes told) n state' o b told' → n ≡ 0 →
+      (out bytes told : List ℕ) → 4 ≤ length told → (n : ℕ) (state' o b told' : List ℕ) → Records (finish_call state out bytes told) n state' o b told' → n ≡ 0 →
       LibraryEnded k w s (ws ++ take (written told') o) (bs ++ take (recorded told') b)

@@ -8,16 +8,16 @@ use Rattle.records.specs.Kinds.{kind_of}
 use Rattle.records.specs.Values.{Entry, word_of}
 use Rattle.records.specs.Reading.{reading_of}
 
-abbrev pub wordsAfter : Role → List ℕ → List ℕ → List ℕ
-wordsAfter Word body ws = word_of body ∷ ws
-wordsAfter Open body ws = ws
-wordsAfter Symbol body ws = ws
-wordsAfter Finish body ws = ws
-wordsAfter Unknown body ws = ws
+abbrev pub words_after : Role → List ℕ → List ℕ → List ℕ
+words_after Word body ws = word_of body ∷ ws
+words_after Open body ws = ws
+words_after Symbol body ws = ws
+words_after Finish body ws = ws
+words_after Unknown body ws = ws
 
 unfoldable pub words_of : List Entry → List ℕ
 words_of [] = []
-words_of (r ∷ rs) = wordsAfter (kind_of r.kind).role r.body (words_of rs)
+words_of (r ∷ rs) = words_after (kind_of r.kind).role r.body (words_of rs)
 
 abbrev pub words_in : List ℕ → List ℕ
 words_in bs = words_of (reading_of bs).records

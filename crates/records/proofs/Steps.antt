@@ -23,10 +23,10 @@ use Rattle.records.specs.declared.Phase.TheVariants.{Start, Opened, Running, Ove
 use Rattle.records.specs.declared.Stage.{Stage}
 use Rattle.records.specs.declared.Stage.TheVariants.{Part, Whole, Bad}
 use Rattle.records.specs.declared.Frame.{Frame}
-use Rattle.records.specs.Kinds.{kind_of, mayStand, afterRole, begins, row}
-use Rattle.records.specs.Values.{Entry, entry, fitsFrom, bodyFits}
-use Rattle.records.specs.Reading.{clean, malformed, Reading, stopsAt, followedBy, nothingMore, stands, readingFrom, reading_of}
-use Rattle.records.specs.Frames.{capped, stageAt, fresh, begun, mayGrow, spoilt, grew, grown, pushedAt, pushed, Read, ended, before, following, endingOf, cappedEnding}
+use Rattle.records.specs.Kinds.{kind_of, may_stand, after_role, begins, row}
+use Rattle.records.specs.Values.{Entry, entry, fits_from, body_fits}
+use Rattle.records.specs.Reading.{clean, malformed, Reading, stops_at, followed_by, nothing_more, stands, reading_from, reading_of}
+use Rattle.records.specs.Frames.{capped, stage_at, fresh, begun, may_grow, spoilt, grew, grown, pushed_at, pushed, Read, ended, before, following, ending_of, capped_ending}
 use Rattle.records.proofs.Counts.{capped-more}
 use Rattle.records.proofs.Fits.{both_true, fits-front, fits_next}
 
@@ -52,7 +52,7 @@ false-true : false ≡ true → ⊥
 false-true e = let z : ◌≡◌ {A = ℕ} 0 1 = cc in omega arith
 
 -- after a record that may stand the capture has begun
-pub begins-after : (p : Phase) (r : Role) → mayStand p r ≡ true → begins (afterRole p r) ≡ true
+pub begins-after : (p : Phase) (r : Role) → may_stand p r ≡ true → begins (after_role p r) ≡ true
 begins-after p Open h = refl
 begins-after p Symbol h = refl
 begins-after p Finish h = refl
@@ -66,14 +66,14 @@ begins-after Over Word h = refl
 
 pub record Agrees (r : Read) (q : Reading) : Type 0 where
   pub entries : r.entries ≡ q.records
-  pub ending : endingOf r.frame ≡ cappedEnding q.ending
+  pub ending : ending_of r.frame ≡ capped_ending q.ending
 
 pub record Ready (f : Frame) (p : Phase) (at : ℕ) : Type 0 where
   pub nine : length f.body ≡ 9
   pub phase : f.phase ≡ p
   pub fed : f.fed ≡ capped at
   pub step : (b : ℕ) → pushed f b ≡ begun f b
-  pub ends : endingOf f ≡ cappedEnding (cond (begins p) clean (malformed at))
+  pub ends : ending_of f ≡ capped_ending (cond (begins p) clean (malformed at))
 
 pub record Inside (f : Frame) (k at : ℕ) (xs : List ℕ) : Type 0 where
   pub stage : f.stage ≡ Part
@@ -84,7 +84,7 @@ pub record Inside (f : Frame) (k at : ℕ) (xs : List ℕ) : Type 0 where
   pub nine : length f.body ≡ 9
   pub from : f.at ≡ capped at
   pub fed : f.fed ≡ capped (at + 1 + length xs)
-  pub right : bodyFits k xs ≡ true
+  pub right : body_fits k xs ≡ true
   pub more : length xs < (kind_of k).size
 
 fresh-ready : Ready fresh Start 0
@@ -101,19 +101,19 @@ module _ (f : Frame) (k at : ℕ) (xs : List ℕ) (i : Inside f k at xs) (b : �
   few = omega (arith, i.have, i.more, size_fits k)
 
   -- whether the byte may come is whether the body fits with it
-  asked : mayGrow f b ≡ bodyFits k (xs ++ b ∷ [])
-  unfolding mayGrow
+  asked : may_grow f b ≡ body_fits k (xs ++ b ∷ [])
+  unfolding may_grow
   asked =
       let t : take (length xs) f.body ≡ xs = ap (λ (n : ℕ). take n f.body) (sym i.have) ∙ i.body in
       rw (lt-ltb f.have 9 few, i.kind, i.have) (sym (fits_next k xs b f.body t i.right))
 
-  grows : bodyFits k (xs ++ b ∷ []) ≡ true → pushed f b ≡ grew f b
+  grows : body_fits k (xs ++ b ∷ []) ≡ true → pushed f b ≡ grew f b
   unfolding pushed grown
-  grows e = ap (λ (s : Stage). pushedAt s f b) i.stage ∙ ap (λ (t : Bool). cond t (grew f b) (spoilt f)) (asked ∙ e)
+  grows e = ap (λ (s : Stage). pushed_at s f b) i.stage ∙ ap (λ (t : Bool). cond t (grew f b) (spoilt f)) (asked ∙ e)
 
-  spoils : bodyFits k (xs ++ b ∷ []) ≡ false → pushed f b ≡ spoilt f
+  spoils : body_fits k (xs ++ b ∷ []) ≡ false → pushed f b ≡ spoilt f
   unfolding pushed grown
-  spoils e = ap (λ (s : Stage). pushedAt s f b) i.stage ∙ ap (λ (t : Bool). cond t (grew f b) (spoilt f)) (asked ∙ e)
+  spoils e = ap (λ (s : Stage). pushed_at s f b) i.stage ∙ ap (λ (t : Bool). cond t (grew f b) (spoilt f)) (asked ∙ e)
 
   long : f.have + 1 ≡ length (xs ++ b ∷ [])
   long = omega (arith, i.have, length-append xs (b ∷ []))
@@ -126,7 +126,7 @@ module _ (f : Frame) (k at : ℕ) (xs : List ℕ) (i : Inside f k at xs) (b : �
       let e : at + 1 + length xs + 1 ≡ at + 1 + length (xs ++ b ∷ []) = omega (arith, length-append xs (b ∷ [])) in
       ap (λ (n : ℕ). capped (n + 1)) i.fed ∙ capped-more (at + 1 + length xs) 1 ∙ ap capped e
 
-  stays-inside : bodyFits k (xs ++ b ∷ []) ≡ true → length xs + 1 < (kind_of k).size → Inside (grew f b) k at (xs ++ b ∷ [])
+  stays-inside : body_fits k (xs ++ b ∷ []) ≡ true → length xs + 1 < (kind_of k).size → Inside (grew f b) k at (xs ++ b ∷ [])
   stays-inside e h =
       record {
         stage = rw (i.kind, lt-ltb (f.have + 1) (kind_of k).size (omega (arith, i.have)));
@@ -175,7 +175,7 @@ one_more : (xs : List ℕ) (b : ℕ) (ys : List ℕ) → (xs ++ b ∷ []) ++ ys 
 one_more xs b ys = append_assoc xs (b ∷ []) ys
 
 filled : (j : ℕ) (bs : List ℕ) (f : Frame) (k at : ℕ) (xs : List ℕ) → Inside f k at xs → length xs + suc j ≡ (kind_of k).size → suc j ≤ length bs
-    → bodyFits k (xs ++ take (suc j) bs) ≡ true → Filled f k at xs (suc j) bs
+    → body_fits k (xs ++ take (suc j) bs) ≡ true → Filled f k at xs (suc j) bs
 filled j [] f k at xs i e h w = absurd (none_left j h)
 filled zero (b ∷ bs) f k at xs i e h w =
     record {
@@ -186,8 +186,8 @@ filled zero (b ∷ bs) f k at xs i e h w =
     }
 filled (suc j) (b ∷ bs) f k at xs i e h w =
     let l = one_more xs b (take (suc j) bs) in
-    let v : bodyFits k ((xs ++ b ∷ []) ++ take (suc j) bs) ≡ true = ap (bodyFits k) l ∙ w in
-    let u : bodyFits k (xs ++ b ∷ []) ≡ true = fits-front k (xs ++ b ∷ []) (take (suc j) bs) v in
+    let v : body_fits k ((xs ++ b ∷ []) ++ take (suc j) bs) ≡ true = ap (body_fits k) l ∙ w in
+    let u : body_fits k (xs ++ b ∷ []) ≡ true = fits-front k (xs ++ b ∷ []) (take (suc j) bs) v in
     let n = stays-inside f k at xs i b u (omega arith) in
     let r = filled j bs (grew f b) k at (xs ++ b ∷ []) n (omega (arith, length-append xs (b ∷ []))) (omega arith) v in
     record {
@@ -211,7 +211,7 @@ swallows f (b ∷ bs) h = followed f f b bs Bad (stays f b h) h ∙ swallows f b
 -- ---- a body that does not stand there
 
 -- a whole body stands there if its last byte fits
-whole-stands : (k : ℕ) (xs : List ℕ) (b : ℕ) (bs : List ℕ) → bodyFits k (xs ++ b ∷ []) ≡ true → length xs + 1 ≡ (kind_of k).size → stands k (xs ++ b ∷ bs) ≡ true
+whole-stands : (k : ℕ) (xs : List ℕ) (b : ℕ) (bs : List ℕ) → body_fits k (xs ++ b ∷ []) ≡ true → length xs + 1 ≡ (kind_of k).size → stands k (xs ++ b ∷ bs) ≡ true
 whole-stands k xs b bs u h =
     let l = one_more xs b bs in
     let n : (kind_of k).size ≡ length (xs ++ b ∷ []) = omega (arith, length-append xs (b ∷ [])) in
@@ -219,30 +219,30 @@ whole-stands k xs b bs u h =
     let m : (kind_of k).size ≤ length (xs ++ b ∷ bs) = omega (arith, length-append xs (b ∷ bs)) in
     rw (le-leb (kind_of k).size (length (xs ++ b ∷ bs)) m, t, u)
 
-halts : (bs : List ℕ) (f : Frame) (k at : ℕ) (xs : List ℕ) → Inside f k at xs → stands k (xs ++ bs) ≡ false → Agrees (following f bs) (stopsAt (malformed at))
+halts : (bs : List ℕ) (f : Frame) (k at : ℕ) (xs : List ℕ) → Inside f k at xs → stands k (xs ++ bs) ≡ false → Agrees (following f bs) (stops_at (malformed at))
 unfolding following
 halts [] f k at xs i h = record { entries = refl; ending = rw (i.stage, i.from) }
-halts (b ∷ bs) f k at xs i h = go (bodyFits k (xs ++ b ∷ [])) refl (ltb (length xs + 1) (kind_of k).size) refl
+halts (b ∷ bs) f k at xs i h = go (body_fits k (xs ++ b ∷ [])) refl (ltb (length xs + 1) (kind_of k).size) refl
     (λ u m. halts bs (grew f b) k at (xs ++ b ∷ []) (stays-inside f k at xs i b u m) (ap (stands k) (one_more xs b bs) ∙ h))
   where
-    go : (t : Bool) → bodyFits k (xs ++ b ∷ []) ≡ t → (l : Bool) → ltb (length xs + 1) (kind_of k).size ≡ l
-        → (bodyFits k (xs ++ b ∷ []) ≡ true → length xs + 1 < (kind_of k).size → Agrees (following (grew f b) bs) (stopsAt (malformed at))) → Agrees (following f (b ∷ bs)) (stopsAt (malformed at))
+    go : (t : Bool) → body_fits k (xs ++ b ∷ []) ≡ t → (l : Bool) → ltb (length xs + 1) (kind_of k).size ≡ l
+        → (body_fits k (xs ++ b ∷ []) ≡ true → length xs + 1 < (kind_of k).size → Agrees (following (grew f b) bs) (stops_at (malformed at))) → Agrees (following f (b ∷ bs)) (stops_at (malformed at))
     go false u l v ih =
         let s : following f (b ∷ bs) ≡ record { entries = []; frame = spoilt f } = followed f (spoilt f) b bs Bad (spoils f k at xs i b u) refl ∙ swallows (spoilt f) bs refl in
-        subst (λ (x : Read). Agrees x (stopsAt (malformed at))) (sym s) (record { entries = refl; ending = ap malformed i.from })
+        subst (λ (x : Read). Agrees x (stops_at (malformed at))) (sym s) (record { entries = refl; ending = ap malformed i.from })
     go true u true v ih =
         let m = ltb-true (length xs + 1) (kind_of k).size v in
         let n = stays-inside f k at xs i b u m in
-        subst (λ (x : Read). Agrees x (stopsAt (malformed at))) (sym (followed f (grew f b) b bs Part (grows f k at xs i b u) n.stage)) (ih u m)
+        subst (λ (x : Read). Agrees x (stops_at (malformed at))) (sym (followed f (grew f b) b bs Part (grows f k at xs i b u) n.stage)) (ih u m)
     go true u false v ih =
         absurd (false-true (sym h ∙ whole-stands k xs b bs u (omega (arith, i.more, ltb-false (length xs + 1) (kind_of k).size v))))
 
 -- ---- the whole
 
 Reads : ℕ → List ℕ → Type 0
-Reads n bs = (f : Frame) (p : Phase) (at : ℕ) → Ready f p at → Agrees (following f bs) (readingFrom n p at bs)
+Reads n bs = (f : Frame) (p : Phase) (at : ℕ) → Ready f p at → Agrees (following f bs) (reading_from n p at bs)
 
-nothing_left : (f : Frame) (p : Phase) (at : ℕ) → Ready f p at → Agrees (following f []) (nothingMore p at)
+nothing_left : (f : Frame) (p : Phase) (at : ℕ) → Ready f p at → Agrees (following f []) (nothing_more p at)
 unfolding following
 nothing_left f p at r = record { entries = refl; ending = r.ends }
 
@@ -254,23 +254,23 @@ module _ (n k : ℕ) (bs : List ℕ) (ih : (m : ℕ) → Reads n (drop m bs)) (f
   role = (kind_of k).role
 
   abbrev rest : Reading
-  rest = readingFrom n (afterRole p role) (at + 1 + size) (drop size bs)
+  rest = reading_from n (after_role p role) (at + 1 + size) (drop size bs)
 
   -- the frame after a kind byte that may stand
   abbrev took : Frame
-  took = record { stage = stageAt 0 size; phase = afterRole f.phase role; kind = k; have = 0; body = f.body; at = f.fed; fed = capped (f.fed + 1) }
+  took = record { stage = stage_at 0 size; phase = after_role f.phase role; kind = k; have = 0; body = f.body; at = f.fed; fed = capped (f.fed + 1) }
 
-  begun-took : mayStand p role ≡ true → pushed f k ≡ took
+  begun-took : may_stand p role ≡ true → pushed f k ≡ took
   unfolding begun
   begun-took h = r.step k ∙ rw (r.phase, h)
 
   took-fed : capped (f.fed + 1) ≡ capped (at + 1)
   took-fed = ap (λ (n : ℕ). capped (n + 1)) r.fed ∙ capped-more at 1
 
-  took-phase : mayStand p role ≡ true → begins (afterRole f.phase role) ≡ true
+  took-phase : may_stand p role ≡ true → begins (after_role f.phase role) ≡ true
   took-phase h = rw r.phase (begins-after p role h)
 
-  refused : mayStand p role ≡ false → Agrees (following f (k ∷ bs)) (stopsAt (malformed at))
+  refused : may_stand p role ≡ false → Agrees (following f (k ∷ bs)) (stops_at (malformed at))
   unfolding begun
   refused h =
       let g : Frame = record { stage = Bad; phase = f.phase; kind = k; have = 0; body = f.body; at = f.fed; fed = capped (f.fed + 1) } in
@@ -279,21 +279,21 @@ module _ (n k : ℕ) (bs : List ℕ) (ih : (m : ℕ) → Reads n (drop m bs)) (f
       record { entries = rw s; ending = rw (s, r.fed) }
 
   -- the record is whole, with this frame after it
-  onward : (g : Frame) → Ready g (afterRole f.phase role) (at + 1 + size) → following f (k ∷ bs) ≡ before (entry k (take size bs) ∷ []) (following g (drop size bs))
-      → Agrees (following f (k ∷ bs)) (followedBy (entry k (take size bs)) rest)
+  onward : (g : Frame) → Ready g (after_role f.phase role) (at + 1 + size) → following f (k ∷ bs) ≡ before (entry k (take size bs) ∷ []) (following g (drop size bs))
+      → Agrees (following f (k ∷ bs)) (followed_by (entry k (take size bs)) rest)
   unfolding Reads
   onward g h e =
-      let a = ih size g (afterRole p role) (at + 1 + size) (subst (λ (q : Phase). Ready g (afterRole q role) (at + 1 + size)) r.phase h) in
+      let a = ih size g (after_role p role) (at + 1 + size) (subst (λ (q : Phase). Ready g (after_role q role) (at + 1 + size)) r.phase h) in
       record { entries = rw e (ap (λ (l : List Entry). entry k (take size bs) ∷ l) a.entries); ending = rw e a.ending }
 
-  taking : mayStand p role ≡ true → (m : ℕ) → size ≡ m → (t : Bool) → stands k bs ≡ t
-      → Agrees (following f (k ∷ bs)) (cond t (followedBy (entry k (take size bs)) rest) (stopsAt (malformed at)))
-  unfolding following fitsFrom
+  taking : may_stand p role ≡ true → (m : ℕ) → size ≡ m → (t : Bool) → stands k bs ≡ t
+      → Agrees (following f (k ∷ bs)) (cond t (followed_by (entry k (take size bs)) rest) (stops_at (malformed at)))
+  unfolding following fits_from
   taking h zero e false w = absurd (false-true (sym w ∙ rw (le-leb size (length bs) (omega arith), e)))
   taking h zero e true w =
       let s : took.stage ≡ Whole = rw (le-ltb 0 size (omega arith)) in
       let z : at + 1 ≡ at + 1 + size = omega arith in
-      onward took (whole_ready took (afterRole f.phase role) _ s r.nine refl (took-phase h) (took-fed ∙ ap capped z)) (followed f took k bs Whole (begun-took h) s ∙ rw e)
+      onward took (whole_ready took (after_role f.phase role) _ s r.nine refl (took-phase h) (took-fed ∙ ap capped z)) (followed f took k bs Whole (begun-took h) s ∙ rw e)
   taking h (suc j) e t w =
       let s : took.stage ≡ Part = rw (lt-ltb 0 size (omega arith)) in
       let z : at + 1 ≡ at + 1 + length {A = ℕ} [] = omega arith in
@@ -315,27 +315,27 @@ module _ (n k : ℕ) (bs : List ℕ) (ih : (m : ℕ) → Reads n (drop m bs)) (f
       inside-more : size ≡ suc j → 0 < (kind_of k).size
       inside-more e = omega arith
 
-      go : (t : Bool) → stands k bs ≡ t → took.stage ≡ Part → Inside took k at [] → Agrees (following f (k ∷ bs)) (cond t (followedBy (entry k (take size bs)) rest) (stopsAt (malformed at)))
+      go : (t : Bool) → stands k bs ≡ t → took.stage ≡ Part → Inside took k at [] → Agrees (following f (k ∷ bs)) (cond t (followed_by (entry k (take size bs)) rest) (stops_at (malformed at)))
       go true w s i =
-          let v = both_true (leb size (length bs)) (bodyFits k (take size bs)) w in
-          let u : bodyFits k (take (suc j) bs) ≡ true = ap (λ (m : ℕ). bodyFits k (take m bs)) (sym e) ∙ v.1 in
+          let v = both_true (leb size (length bs)) (body_fits k (take size bs)) w in
+          let u : body_fits k (take (suc j) bs) ≡ true = ap (λ (m : ℕ). body_fits k (take m bs)) (sym e) ∙ v.1 in
           let x = filled j bs took k at [] i (omega arith) (omega (arith, leb-true size (length bs) v.0)) u in
           onward x.next x.ready (followed f took k bs Part (begun-took h) s ∙ x.same ∙ ap (λ (m : ℕ). before (entry k (take m bs) ∷ []) (following x.next (drop m bs))) (sym e))
       go false w s i =
           let x = halts bs took k at [] i w in
-          subst (λ (z : Read). Agrees z (stopsAt (malformed at))) (sym (followed f took k bs Part (begun-took h) s)) x
+          subst (λ (z : Read). Agrees z (stops_at (malformed at))) (sym (followed f took k bs Part (begun-took h) s)) x
 
-  reads-one : Agrees (following f (k ∷ bs)) (readingFrom (suc n) p at (k ∷ bs))
-  unfolding readingFrom
-  reads-one = go (mayStand p role) refl
+  reads-one : Agrees (following f (k ∷ bs)) (reading_from (suc n) p at (k ∷ bs))
+  unfolding reading_from
+  reads-one = go (may_stand p role) refl
     where
-      go : (t : Bool) → mayStand p role ≡ t
-          → Agrees (following f (k ∷ bs)) (cond t (cond (stands k bs) (followedBy (entry k (take size bs)) rest) (stopsAt (malformed at))) (stopsAt (malformed at)))
+      go : (t : Bool) → may_stand p role ≡ t
+          → Agrees (following f (k ∷ bs)) (cond t (cond (stands k bs) (followed_by (entry k (take size bs)) rest) (stops_at (malformed at))) (stops_at (malformed at)))
       go true h = taking h size refl (stands k bs) refl
       go false h = refused h
 
 reads : (n : ℕ) (bs : List ℕ) → length bs ≤ n → Reads n bs
-unfolding Reads readingFrom
+unfolding Reads reading_from
 reads zero [] h = nothing_left
 reads (suc n) [] h = nothing_left
 reads zero (b ∷ bs) h = absurd (none_left (length bs) h)

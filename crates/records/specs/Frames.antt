@@ -4,22 +4,22 @@
 --   begun f k        a kind byte; grown f b: a byte of a body, if it may grow by it; pushed f b: one byte more
 --   entry_of f        the record that a whole frame holds
 --   Read, following f bs   the records that become whole while the bytes bs are pushed, and the frame after them
---   endingOf f       what the end of input says of a frame
---   cappedEnding e   an ending, its offset at the end of 64 bits
+--   ending_of f       what the end of input says of a frame
+--   capped_ending e   an ending, its offset at the end of 64 bits
 use Rattle.std.specs.Prelude.{ℕ, ◌+◌, Bool, cond, ◌&&◌, List, [], ◌∷◌, ◌++◌, ltb, get_or, take, set, replicate}
 use Rattle.records.specs.declared.Phase.TheVariants.{Start}
 use Rattle.records.specs.declared.Stage.{Stage}
 use Rattle.records.specs.declared.Stage.TheVariants.{Fresh, Part, Whole, Bad}
 use Rattle.records.specs.declared.Frame.{Frame}
-use Rattle.records.specs.Kinds.{kind_of, mayStand, afterRole}
-use Rattle.records.specs.Values.{Entry, entry, byteFits}
+use Rattle.records.specs.Kinds.{kind_of, may_stand, after_role}
+use Rattle.records.specs.Values.{Entry, entry, byte_fits}
 use Rattle.records.specs.Reading.{Ending, clean, malformed}
 
 unfoldable pub capped : ℕ → ℕ
 capped n = cond (ltb n 18446744073709551615) n 18446744073709551615
 
-abbrev pub stageAt : ℕ → ℕ → Stage
-stageAt have size = cond (ltb have size) Part Whole
+abbrev pub stage_at : ℕ → ℕ → Stage
+stage_at have size = cond (ltb have size) Part Whole
 
 abbrev pub fresh : Frame
 fresh = record { stage = Fresh; phase = Start; kind = 0; have = 0; body = replicate 9 0; at = 0; fed = 0 }
@@ -27,12 +27,12 @@ fresh = record { stage = Fresh; phase = Start; kind = 0; have = 0; body = replic
 unfoldable pub begun : Frame → ℕ → Frame
 begun f k =
     let r = kind_of k in
-    cond (mayStand f.phase r.role)
-    (record { stage = stageAt 0 r.size; phase = afterRole f.phase r.role; kind = k; have = 0; body = f.body; at = f.fed; fed = capped (f.fed + 1) })
+    cond (may_stand f.phase r.role)
+    (record { stage = stage_at 0 r.size; phase = after_role f.phase r.role; kind = k; have = 0; body = f.body; at = f.fed; fed = capped (f.fed + 1) })
     (record { stage = Bad; phase = f.phase; kind = k; have = 0; body = f.body; at = f.fed; fed = capped (f.fed + 1) })
 
-unfoldable pub mayGrow : Frame → ℕ → Bool
-mayGrow f b = ltb f.have 9 && byteFits f.kind (get_or f.body 0 0) f.have b
+unfoldable pub may_grow : Frame → ℕ → Bool
+may_grow f b = ltb f.have 9 && byte_fits f.kind (get_or f.body 0 0) f.have b
 
 abbrev pub spoilt : Frame → Frame
 spoilt f = record { stage = Bad; phase = f.phase; kind = f.kind; have = f.have; body = f.body; at = f.at; fed = f.fed }
@@ -40,7 +40,7 @@ spoilt f = record { stage = Bad; phase = f.phase; kind = f.kind; have = f.have; 
 abbrev pub grew : Frame → ℕ → Frame
 grew f b =
     record {
-      stage = stageAt (f.have + 1) (kind_of f.kind).size;
+      stage = stage_at (f.have + 1) (kind_of f.kind).size;
       phase = f.phase;
       kind = f.kind;
       have = f.have + 1;
@@ -50,16 +50,16 @@ grew f b =
     }
 
 unfoldable pub grown : Frame → ℕ → Frame
-grown f b = cond (mayGrow f b) (grew f b) (spoilt f)
+grown f b = cond (may_grow f b) (grew f b) (spoilt f)
 
-abbrev pub pushedAt : Stage → Frame → ℕ → Frame
-pushedAt Fresh f b = begun f b
-pushedAt Part f b = grown f b
-pushedAt Whole f b = begun f b
-pushedAt Bad f b = f
+abbrev pub pushed_at : Stage → Frame → ℕ → Frame
+pushed_at Fresh f b = begun f b
+pushed_at Part f b = grown f b
+pushed_at Whole f b = begun f b
+pushed_at Bad f b = f
 
 unfoldable pub pushed : Frame → ℕ → Frame
-pushed f b = pushedAt f.stage f b
+pushed f b = pushed_at f.stage f b
 
 abbrev pub entry_of : Frame → Entry
 entry_of f = entry f.kind (take (kind_of f.kind).size f.body)
@@ -81,15 +81,15 @@ unfoldable pub following : Frame → List ℕ → Read
 following f [] = record { entries = []; frame = f }
 following f (b ∷ bs) = before (ended (pushed f b).stage (pushed f b)) (following (pushed f b) bs)
 
-abbrev pub endingAt : Stage → ℕ → Ending
-endingAt Fresh at = malformed at
-endingAt Part at = malformed at
-endingAt Whole at = clean
-endingAt Bad at = malformed at
+abbrev pub ending_at : Stage → ℕ → Ending
+ending_at Fresh at = malformed at
+ending_at Part at = malformed at
+ending_at Whole at = clean
+ending_at Bad at = malformed at
 
-abbrev pub endingOf : Frame → Ending
-endingOf f = endingAt f.stage f.at
+abbrev pub ending_of : Frame → Ending
+ending_of f = ending_at f.stage f.at
 
-abbrev pub cappedEnding : Ending → Ending
-cappedEnding clean = clean
-cappedEnding (malformed at) = malformed (capped at)
+abbrev pub capped_ending : Ending → Ending
+capped_ending clean = clean
+capped_ending (malformed at) = malformed (capped at)

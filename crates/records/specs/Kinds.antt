@@ -1,7 +1,7 @@
 -- The kinds of records in one table, and where each may stand: 02, Wishes 2, 4 and 11. A kind that is added later is a row of `kind_of`.
 --   kind_of k        "one byte of kind, then a body whose length the kind fixes"
---   mayStand p r    whether a record of this role may stand in this phase
---   afterRole p r   the phase after it
+--   may_stand p r    whether a record of this role may stand in this phase
+--   after_role p r   the phase after it
 use Rattle.std.specs.Prelude.{ℕ, Bool, true, false, cond, eqb}
 use Rattle.records.specs.declared.Kind.{Kind}
 use Rattle.records.specs.declared.Role.{Role}
@@ -25,31 +25,31 @@ kind_of k =
     (row Unknown 0))))))
 
 -- "Malformed is: an unknown kind, .. no open first .., a second open, a word right after the open, or anything but words after a finish"
-abbrev pub mayStand : Phase → Role → Bool
-mayStand p Unknown = false
-mayStand Start Open = true
-mayStand Start Symbol = false
-mayStand Start Word = false
-mayStand Start Finish = false
-mayStand Opened Open = false
-mayStand Opened Symbol = true
-mayStand Opened Word = false
-mayStand Opened Finish = true
-mayStand Running Open = false
-mayStand Running Symbol = true
-mayStand Running Word = true
-mayStand Running Finish = true
-mayStand Over Open = false
-mayStand Over Symbol = false
-mayStand Over Word = true
-mayStand Over Finish = false
+abbrev pub may_stand : Phase → Role → Bool
+may_stand p Unknown = false
+may_stand Start Open = true
+may_stand Start Symbol = false
+may_stand Start Word = false
+may_stand Start Finish = false
+may_stand Opened Open = false
+may_stand Opened Symbol = true
+may_stand Opened Word = false
+may_stand Opened Finish = true
+may_stand Running Open = false
+may_stand Running Symbol = true
+may_stand Running Word = true
+may_stand Running Finish = true
+may_stand Over Open = false
+may_stand Over Symbol = false
+may_stand Over Word = true
+may_stand Over Finish = false
 
-abbrev pub afterRole : Phase → Role → Phase
-afterRole p Open = Opened
-afterRole p Symbol = Running
-afterRole p Word = p
-afterRole p Finish = Over
-afterRole p Unknown = p
+abbrev pub after_role : Phase → Role → Phase
+after_role p Open = Opened
+after_role p Symbol = Running
+after_role p Word = p
+after_role p Finish = Over
+after_role p Unknown = p
 
 -- the capture has begun: its open stands there
 abbrev pub begins : Phase → Bool

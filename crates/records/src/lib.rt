@@ -4,9 +4,9 @@
 // byte whether a record has just become whole or the capture is malformed; at the end of input it is well formed exactly if the frame is
 // whole. specs/Reading says the same record by record, and proofs/Steps shows that the steps give it.
 ghost use Rattle.std.specs.Prelude.{◌≡◌, ◌+◌, ◌≤◌, nat_abs};
-ghost use Rattle.records.specs.Kinds.{kind_of, mayStand, afterRole};
-ghost use Rattle.records.specs.Values.{byteFits, mapIn, leadOf, coordinateOf, number_of};
-ghost use Rattle.records.specs.Frames.{capped, stageAt, begun, mayGrow, grown, fresh, pushed};
+ghost use Rattle.records.specs.Kinds.{kind_of, may_stand, after_role};
+ghost use Rattle.records.specs.Values.{byte_fits, map_in, lead_of, coordinate_of, number_of};
+ghost use Rattle.records.specs.Frames.{capped, stage_at, begun, may_grow, grown, fresh, pushed};
 
 use points::Map;
 
@@ -105,7 +105,7 @@ pub fn kind_of(k: u8) -> Kind
 }
 
 pub fn may_stand(phase: Phase, role: Role) -> bool
-    ensures { result ≡ mayStand phase role }
+    ensures { result ≡ may_stand phase role }
 {
     match phase {
         Phase::Start => match role {
@@ -140,7 +140,7 @@ pub fn may_stand(phase: Phase, role: Role) -> bool
 }
 
 pub fn after(phase: Phase, role: Role) -> Phase
-    ensures { result ≡ afterRole phase role }
+    ensures { result ≡ after_role phase role }
 {
     match role {
         Role::Open => Phase::Opened,
@@ -159,7 +159,7 @@ pub fn counted(n: u64) -> u64
 }
 
 pub fn stage_at(have: usize, size: usize) -> Stage
-    ensures { result ≡ stageAt have size }
+    ensures { result ≡ stage_at have size }
 {
     if have < size {
         Stage::Part
@@ -216,7 +216,7 @@ fn begin(f: Frame, k: u8) -> Frame
 // Whether b may be the byte i of a body that begins with `mark`. A symbol of which points are missing has a mark first, and zeros in their
 // places; nothing else is asked.
 pub fn byte_fits(kind: u8, mark: u8, i: usize, b: u8) -> bool
-    ensures { result ≡ byteFits kind mark i b }
+    ensures { result ≡ byte_fits kind mark i b }
 {
     if kind != 5 {
         return true;
@@ -235,7 +235,7 @@ pub fn byte_fits(kind: u8, mark: u8, i: usize, b: u8) -> bool
 
 // Whether the byte b may come next in a body. (A frame that has nine bytes and waits for more is none that `push` gave.)
 fn may_grow(f: Frame, b: u8) -> bool
-    ensures { result ≡ mayGrow f b }
+    ensures { result ≡ may_grow f b }
 {
     let i = f.have;
     let body = f.body;
@@ -292,21 +292,21 @@ pub fn push(f: Frame, b: u8) -> Frame
 
 // The map of an open of kind k.
 pub fn map_in(k: u8) -> Map
-    ensures { result ≡ mapIn k }
+    ensures { result ≡ map_in k }
 {
     if k == 6 { Map::Square } else { Map::Round }
 }
 
 // How many bytes stand before a symbol's coordinates: its mark, in a record of kind 5.
 pub fn lead(k: u8) -> usize
-    ensures { (result ≡ leadOf k) × (result ≤ 1) }
+    ensures { (result ≡ lead_of k) × (result ≤ 1) }
 {
     if k == 5 { 1 } else { 0 }
 }
 
 // A coordinate: a signed number of 16 bits, low byte first.
 pub fn coordinate(lo: u8, hi: u8) -> i32
-    ensures { (result ≡ coordinateOf lo hi) × (nat_abs result ≤ 32768) }
+    ensures { (result ≡ coordinate_of lo hi) × (nat_abs result ≤ 32768) }
 {
     let v = lo as u32 + 256 * hi as u32;
     if v < 32768 {

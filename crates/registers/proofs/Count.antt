@@ -16,9 +16,9 @@ use lib.Dec.{eqb, leb}
 use lib.ListN.{length}
 use lib.Pow.{pow_pos, pow_mono, shr_lt, shr_mono, shr_le, shl-shr}
 use borrow.Author.Tests.{eq-eqb, ne_eqb, eqb-true, eqb-false, leb-true, leb-false}
-use Rattle.registers.specs.Registers.{bit_at, wordsBefore, sameAt, oldest, clearAt, apartOf, partedOf, above_of, reachOf}
+use Rattle.registers.specs.Registers.{bit_at, words_before, same_at, oldest, clear_at, apart_of, parted_of, above_of, reach_of}
 use Rattle.registers.proofs.Words.{low_bits}
-use Rattle.registers.proofs.Oldest.{clearBit, same-age, same_bit, oldest-is}
+use Rattle.registers.proofs.Oldest.{clear_bit, same-age, same_bit, oldest-is}
 
 pub record Reaches (p : ℕ → Bool) (n w : ℕ) : Type 0 where
   pub within : w ≤ n
@@ -39,10 +39,10 @@ module _ (d m : ℕ) (h : m ≤ 64) where
   zero_bit : (q : ℕ) → bit_at 0 q ≡ 0
   zero_bit q = omega (arith, shr_le 0 q)
 
-  pub word-reaches : Reaches (clearAt d) m (64 - count_leading_zeros 64 (d % 2 ^ m))
+  pub word-reaches : Reaches (clear_at d) m (64 - count_leading_zeros 64 (d % 2 ^ m))
   word-reaches = go (eq-zero-or-pos e)
     where
-      go : (e ≡ 0) ⊎ (0 < e) → Reaches (clearAt d) m (64 - count_leading_zeros 64 e)
+      go : (e ≡ 0) ⊎ (0 < e) → Reaches (clear_at d) m (64 - count_leading_zeros 64 e)
       go (inl z) =
           let none : 64 - count_leading_zeros 64 e ≡ 0 = omega (arith, ap (count_leading_zeros 64) z ∙ leading_of_zero 64) in
           record {
@@ -59,7 +59,7 @@ module _ (d m : ℕ) (h : m ≤ 64) where
           record {
             within = omega arith;
             clear = λ i k l. eq-eqb (bit_at d i) 0 (bit_is i l ∙ above i (lt_of_lt_of_le t.3 (pow_mono (let y : suc j ≤ i = omega arith in y))));
-            last = λ i k. let s : i ≡ j = omega arith in ap (clearAt d) s ∙ ne_eqb (bit_at d j) 0 (λ (y : bit_at d j ≡ 0). omega (arith, bit_is j low, one j t.2 t.3));
+            last = λ i k. let s : i ≡ j = omega arith in ap (clear_at d) s ∙ ne_eqb (bit_at d j) 0 (λ (y : bit_at d j ≡ 0). omega (arith, bit_is j low, one j t.2 t.3));
           }
         where
           below : (j : ℕ) → 2 ^ j ≤ e → j < m
@@ -109,67 +109,67 @@ reaches-above p r base m low high a b same = go (eqb high 0) refl
 -- ── the words of the states before ──
 module _ (registers steps : List ℕ) where
   abbrev words : ℕ → List ℕ
-  words = wordsBefore registers steps
+  words = words_before registers steps
 
-  part : (b m : ℕ) → m ≤ 64 → Reaches (clearAt (apartOf (words b))) m (partedOf (words b) m)
-  unfolding partedOf
-  part b m h = subst (λ (k : ℕ). Reaches (clearAt (apartOf (words b))) m (64 - count_leading_zeros 64 (apartOf (words b) % 2 ^ k))) (least (leb 64 m) refl) (word-reaches (apartOf (words b)) m h)
+  part : (b m : ℕ) → m ≤ 64 → Reaches (clear_at (apart_of (words b))) m (parted_of (words b) m)
+  unfolding parted_of
+  part b m h = subst (λ (k : ℕ). Reaches (clear_at (apart_of (words b))) m (64 - count_leading_zeros 64 (apart_of (words b) % 2 ^ k))) (least (leb 64 m) refl) (word-reaches (apart_of (words b)) m h)
     where
       least : (x : Bool) → leb 64 m ≡ x → m ≡ cond x 64 m
       least true e = omega (arith, leb-true 64 m e)
       least false e = refl
 
-  at : (b i : ℕ) → i < 64 → clearBit registers steps (64 * b + i) ≡ clearAt (apartOf (words b)) i
+  at : (b i : ℕ) → i < 64 → clear_bit registers steps (64 * b + i) ≡ clear_at (apart_of (words b)) i
   at b i h =
       let e₀ : (64 * b + i) / 64 ≡ b = omega arith in
       let e₁ : (64 * b + i) % 64 ≡ i = omega arith in
       rw (e₀, e₁)
 
-  first : (n : ℕ) → n ≤ 64 → Reaches (clearBit registers steps) n (partedOf (words 0) n)
+  first : (n : ℕ) → n ≤ 64 → Reaches (clear_bit registers steps) n (parted_of (words 0) n)
   first n h =
       let a = part 0 n h in
-      let same : (i : ℕ) → i < n → clearBit registers steps i ≡ clearAt (apartOf (words 0)) i = λ i k. ap (clearBit registers steps) (let e : i ≡ 64 * 0 + i = omega arith in e) ∙ at 0 i (omega arith) in
+      let same : (i : ℕ) → i < n → clear_bit registers steps i ≡ clear_at (apart_of (words 0)) i = λ i k. ap (clear_bit registers steps) (let e : i ≡ 64 * 0 + i = omega arith in e) ∙ at 0 i (omega arith) in
       record { within = a.within; clear = λ i k l. same i l ∙ a.clear i k l; last = λ i k. same i (omega (arith, a.within)) ∙ a.last i k }
 
-  next : (b m low : ℕ) → m ≤ 64 → Reaches (clearBit registers steps) (64 * b) low → Reaches (clearBit registers steps) (64 * b + m) (above_of (partedOf (words b) m) (64 * b) low)
-  next b m low h a = reaches-above (clearBit registers steps) (clearAt (apartOf (words b))) (64 * b) m low (partedOf (words b) m) a (part b m h) (λ i k. at b i (omega arith))
+  next : (b m low : ℕ) → m ≤ 64 → Reaches (clear_bit registers steps) (64 * b) low → Reaches (clear_bit registers steps) (64 * b + m) (above_of (parted_of (words b) m) (64 * b) low)
+  next b m low h a = reaches-above (clear_bit registers steps) (clear_at (apart_of (words b))) (64 * b) m low (parted_of (words b) m) a (part b m h) (λ i k. at b i (omega arith))
 
-  pub reaches : (n : ℕ) → n ≤ 192 → Reaches (clearBit registers steps) n (reachOf registers steps n)
-  unfolding reachOf
+  pub reaches : (n : ℕ) → n ≤ 192 → Reaches (clear_bit registers steps) n (reach_of registers steps n)
+  unfolding reach_of
   reaches n h = go (leb n 64) (leb n 128) refl refl
     where
-      two : (m : ℕ) → m ≤ 64 → Reaches (clearBit registers steps) (64 + m) (above_of (partedOf (words 1) m) 64 (partedOf (words 0) 64))
-      two m k = next 1 m (partedOf (words 0) 64) k (first 64 (omega arith))
+      two : (m : ℕ) → m ≤ 64 → Reaches (clear_bit registers steps) (64 + m) (above_of (parted_of (words 1) m) 64 (parted_of (words 0) 64))
+      two m k = next 1 m (parted_of (words 0) 64) k (first 64 (omega arith))
 
       go : (x y : Bool) → leb n 64 ≡ x → leb n 128 ≡ y →
-          Reaches (clearBit registers steps) n
-          (cond x (partedOf (words 0) n)
-          (cond y (above_of (partedOf (words 1) (n - 64)) 64 (partedOf (words 0) 64))
-          (above_of (partedOf (words 2) (n - 128)) 128 (above_of (partedOf (words 1) 64) 64 (partedOf (words 0) 64)))))
+          Reaches (clear_bit registers steps) n
+          (cond x (parted_of (words 0) n)
+          (cond y (above_of (parted_of (words 1) (n - 64)) 64 (parted_of (words 0) 64))
+          (above_of (parted_of (words 2) (n - 128)) 128 (above_of (parted_of (words 1) 64) 64 (parted_of (words 0) 64)))))
       go true y a b = first n (leb-true n 64 a)
       go false true a b =
-          subst (λ (k : ℕ). Reaches (clearBit registers steps) k (above_of (partedOf (words 1) (n - 64)) 64 (partedOf (words 0) 64))) (let e : 64 + (n - 64) ≡ n = omega (arith, leb-false n 64 a) in e)
+          subst (λ (k : ℕ). Reaches (clear_bit registers steps) k (above_of (parted_of (words 1) (n - 64)) 64 (parted_of (words 0) 64))) (let e : 64 + (n - 64) ≡ n = omega (arith, leb-false n 64 a) in e)
           (two (n - 64) (omega (arith, leb-true n 128 b)))
       go false false a b =
-          subst (λ (k : ℕ). Reaches (clearBit registers steps) k (above_of (partedOf (words 2) (n - 128)) 128 (above_of (partedOf (words 1) 64) 64 (partedOf (words 0) 64))))
+          subst (λ (k : ℕ). Reaches (clear_bit registers steps) k (above_of (parted_of (words 2) (n - 128)) 128 (above_of (parted_of (words 1) 64) 64 (parted_of (words 0) 64))))
           (let e : 128 + (n - 128) ≡ n = omega (arith, leb-false n 128 b) in e)
-          (next 2 (n - 128) (above_of (partedOf (words 1) 64) 64 (partedOf (words 0) 64)) (omega arith) (two 64 (omega arith)))
+          (next 2 (n - 128) (above_of (parted_of (words 1) 64) 64 (parted_of (words 0) 64)) (omega arith) (two 64 (omega arith)))
 
   -- ── ages ──
-  pub agreed-is : (n : ℕ) → n ≤ 64 → length steps ≡ 16 → (reachOf registers steps (3 * n) + 2) / 3 ≤ n → n - (reachOf registers steps (3 * n) + 2) / 3 ≡ oldest (sameAt registers steps) n
+  pub agreed-is : (n : ℕ) → n ≤ 64 → length steps ≡ 16 → (reach_of registers steps (3 * n) + 2) / 3 ≤ n → n - (reach_of registers steps (3 * n) + 2) / 3 ≡ oldest (same_at registers steps) n
   agreed-is n h long k =
-      let w = reachOf registers steps (3 * n) in
-      let r : Reaches (clearBit registers steps) (3 * n) w = reaches (3 * n) (omega arith) in
-      oldest-is (sameAt registers steps) n ((w + 2) / 3) k
+      let w = reach_of registers steps (3 * n) in
+      let r : Reaches (clear_bit registers steps) (3 * n) w = reaches (3 * n) (omega arith) in
+      oldest-is (same_at registers steps) n ((w + 2) / 3) k
       (λ q a b. same-age registers steps long q (r.clear (3 * q) (omega arith) (omega arith)) (r.clear (3 * q + 1) (omega arith) (omega arith)) (r.clear (3 * q + 2) (omega arith) (omega arith)))
       (λ q a. other q (w - 1) (omega arith) (r.last (w - 1) (omega arith)))
     where
-      other : (q i : ℕ) → i / 3 ≡ q → clearBit registers steps i ≡ false → sameAt registers steps q ≡ false
-      other q i e f = go (sameAt registers steps q) refl
+      other : (q i : ℕ) → i / 3 ≡ q → clear_bit registers steps i ≡ false → same_at registers steps q ≡ false
+      other q i e f = go (same_at registers steps q) refl
         where
-          go : (x : Bool) → sameAt registers steps q ≡ x → sameAt registers steps q ≡ false
-          go true z = absurd (let y : ◌≡◌ {A = Bool} true false = sym (same_bit registers steps long i (ap (sameAt registers steps) e ∙ z)) ∙ f in let o : ◌≡◌ {A = ℕ} 0 1 = cc in omega arith)
+          go : (x : Bool) → same_at registers steps q ≡ x → same_at registers steps q ≡ false
+          go true z = absurd (let y : ◌≡◌ {A = Bool} true false = sym (same_bit registers steps long i (ap (same_at registers steps) e ∙ z)) ∙ f in let o : ◌≡◌ {A = ℕ} 0 1 = cc in omega arith)
           go false z = z
 
-  pub reach_few : (n : ℕ) → n ≤ 64 → (reachOf registers steps (3 * n) + 2) / 3 ≤ n
+  pub reach_few : (n : ℕ) → n ≤ 64 → (reach_of registers steps (3 * n) + 2) / 3 ≤ n
   reach_few n h = omega (arith, (reaches (3 * n) (omega arith)).within)

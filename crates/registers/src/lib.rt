@@ -6,12 +6,12 @@
 // state takes over the words of the state that its best way comes from, each with three bits more. Where few symbols are pending only the
 // words that hold them are moved: one for up to 20, as on a quiet line.
 ghost use Rattle.std.specs.Prelude.{◌≡◌, ◌<◌, ◌≤◌, ◌/◌, ◌%◌, ◌^◌, get_or};
-ghost use Rattle.registers.specs.Registers.{cameFrom, bitIn, subsetIn, wordsBefore, sameAt, oldest, apartOf, lowest, partedOf, above_of, reachOf, longer, movedOf};
-ghost use Rattle.registers.specs.Put.{putWord};
+ghost use Rattle.registers.specs.Registers.{came_from, bit_in, subset_in, words_before, same_at, oldest, apart_of, lowest, parted_of, above_of, reach_of, longer, moved_of};
+ghost use Rattle.registers.specs.Put.{put_word};
 
 // The state before, of a step.
 fn came_from(step: u8) -> usize
-    ensures { (result ≡ cameFrom step) × (result < 16) }
+    ensures { (result ≡ came_from step) × (result < 16) }
 {
     (step / 8 % 16) as usize
 }
@@ -19,7 +19,7 @@ fn came_from(step: u8) -> usize
 // Word b of the states before all sixteen.
 pub fn words_before(registers: &[u64; 48], steps: &[u8; 16], b: usize) -> [u64; 16]
     requires { b < 3 }
-    ensures { result ≡ wordsBefore registers.now steps.now b }
+    ensures { result ≡ words_before registers.now steps.now b }
 {
     let mut ways = [0u64; 16];
     let mut s: usize = 0;
@@ -32,7 +32,7 @@ pub fn words_before(registers: &[u64; 48], steps: &[u8; 16], b: usize) -> [u64; 
 
 // The bits in which sixteen words differ.
 fn apart(ways: &[u64; 16]) -> u64
-    ensures { result ≡ apartOf ways.now }
+    ensures { result ≡ apart_of ways.now }
 {
     // as a slice the array shows its length
     let all: &[u64] = ways;
@@ -58,7 +58,7 @@ fn lowest_of(bits: u64, n: usize) -> u64
 
 // How many of the lowest n bits reach up to the highest in which the words differ; 0 where they do not differ.
 fn parted(ways: &[u64; 16], n: usize) -> usize
-    ensures { (result ≡ partedOf ways.now n) × (result ≤ 64) }
+    ensures { (result ≡ parted_of ways.now n) × (result ≤ 64) }
 {
     let bits = lowest_of(apart(ways), n);
     64 - u64::leading_zeros(bits) as usize
@@ -74,8 +74,8 @@ fn above(high: usize, base: usize, low: usize) -> usize
 
 // How many of the lowest n bits of the states before reach up to the highest in which they differ; `ways` is their first word.
 fn reach(registers: &[u64; 48], steps: &[u8; 16], ways: &[u64; 16], n: usize) -> usize
-    requires { ways.now ≡ wordsBefore registers.now steps.now 0 }
-    ensures { result ≡ reachOf registers.now steps.now n }
+    requires { ways.now ≡ words_before registers.now steps.now 0 }
+    ensures { result ≡ reach_of registers.now steps.now n }
 {
     if n <= 64 {
         return parted(ways, n);
@@ -92,8 +92,8 @@ fn reach(registers: &[u64; 48], steps: &[u8; 16], ways: &[u64; 16], n: usize) ->
 // How many of the oldest pending symbols the states before all sixteen agree on; `ways` is their first word. The symbol in hand is not
 // asked: nobody agrees on it.
 pub fn agreed(registers: &[u64; 48], steps: &[u8; 16], ways: &[u64; 16], pending: usize) -> usize
-    requires { (pending ≤ 64) × (ways.now ≡ wordsBefore registers.now steps.now 0) }
-    ensures { result ≡ oldest (sameAt registers.now steps.now) pending }
+    requires { (pending ≤ 64) × (ways.now ≡ words_before registers.now steps.now 0) }
+    ensures { result ≡ oldest (same_at registers.now steps.now) pending }
 {
     // as a slice the array shows its length
     let all: &[u8] = steps;
@@ -104,7 +104,7 @@ pub fn agreed(registers: &[u64; 48], steps: &[u8; 16], ways: &[u64; 16], pending
 // A bit of a state.
 fn bit_in(registers: &[u64; 48], s: usize, i: usize) -> usize
     requires { (s < 16) × (i < 192) }
-    ensures { (result ≡ bitIn registers.now s i) × (result < 2) }
+    ensures { (result ≡ bit_in registers.now s i) × (result < 2) }
 {
     ((registers[16 * (i / 64) + s] >> (i % 64)) % 2) as usize
 }
@@ -112,7 +112,7 @@ fn bit_in(registers: &[u64; 48], s: usize, i: usize) -> usize
 // The subset that the state s has at an age: of the symbol that so many came after.
 pub fn subset_at(registers: &[u64; 48], s: usize, age: usize) -> usize
     requires { (s < 16) × (age < 64) }
-    ensures { (result ≡ subsetIn registers.now s age) × (result < 8) }
+    ensures { (result ≡ subset_in registers.now s age) × (result < 8) }
 {
     let i = 3 * age;
     4 * bit_in(registers, s, i + 2) + 2 * bit_in(registers, s, i + 1) + bit_in(registers, s, i)
@@ -129,7 +129,7 @@ fn longer_by(word: u64, bits: u64) -> u64
 // Word b of all states, where the words before and those below them are given.
 fn move_up(registers: &mut [u64; 48], b: usize, ways: &[u64; 16], below: &[u64; 16])
     requires { b < 3 }
-    ensures { registers.new ≡ putWord b (λ s. longer (get_or ways.now s 0) (get_or below.now s 0 / 2 ^ 61 % 8)) registers.old }
+    ensures { registers.new ≡ put_word b (λ s. longer (get_or ways.now s 0) (get_or below.now s 0 / 2 ^ 61 % 8)) registers.old }
 {
     // as a slice the array shows its length
     let all: &[u64] = registers;
@@ -149,7 +149,7 @@ fn wide(x: u8) -> u64
 
 // The first word of all states, where the words before are given: the subset comes in.
 fn move_first(registers: &mut [u64; 48], ways: &[u64; 16], steps: &[u8; 16])
-    ensures { registers.new ≡ putWord 0 (λ s. longer (get_or ways.now s 0) (get_or steps.now s 0 % 8)) registers.old }
+    ensures { registers.new ≡ put_word 0 (λ s. longer (get_or ways.now s 0) (get_or steps.now s 0 % 8)) registers.old }
 {
     // as a slice the array shows its length
     let all: &[u64] = registers;
@@ -163,8 +163,8 @@ fn move_first(registers: &mut [u64; 48], ways: &[u64; 16], steps: &[u8; 16])
 // All sixteen states by one symbol, where n are pending with it; `ways` is the first word of the states before. The highest word goes
 // first, for it needs the one below as it was.
 pub fn shift(registers: &mut [u64; 48], steps: &[u8; 16], ways: &[u64; 16], n: usize)
-    requires { ways.now ≡ wordsBefore registers.old steps.now 0 }
-    ensures { registers.new ≡ movedOf n registers.old steps.now }
+    requires { ways.now ≡ words_before registers.old steps.now 0 }
+    ensures { registers.new ≡ moved_of n registers.old steps.now }
 {
     if n <= 21 {
         move_first(registers, ways, steps);

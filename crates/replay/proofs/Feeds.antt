@@ -24,9 +24,9 @@ use Rattle.replay_judge.specs.declared.Verdict.{Verdict}
 use Rattle.replay_judge.specs.declared.Verdict.TheVariants.{Missing, Malformed}
 use Rattle.replay_judge.specs.declared.Judge.{Judge}
 use Rattle.replay_judge.specs.declared.Due.TheVariants.{None, Word as Next}
-use Rattle.replay_judge.specs.Judging.{State, state_of, left, firstDue, took}
+use Rattle.replay_judge.specs.Judging.{State, state_of, left, first_due, took}
 use Rattle.replay.specs.Meaning.{agreed}
-use Rattle.replay.specs.Course.{Course, courseOf, is_whole, isBad, settled, stepped, feedings, unlessLeft, ended, found}
+use Rattle.replay.specs.Course.{Course, course_of, is_whole, is_bad, settled, stepped, feedings, unless_left, ended, found}
 use Rattle.replay.proofs.Own.{took-own}
 
 module _ (s : State) where
@@ -81,19 +81,19 @@ feedings-follow f s (b ∷ bs) =
 -- ---- a run of bytes
 
 pub again : (c₀ : Course) (bs : List ℕ) (i n : ℕ) (f : Frame) (j : Judge) (sums registers picks due : List ℕ) (f₁ : Frame) (j₁ : Judge)
-    (sums₁ registers₁ picks₁ due₁ : List ℕ) → feedings c₀ bs ≡ feedings (courseOf f j sums registers picks due) (drop i bs) → Advances f (drop i bs) f₁ n
+    (sums₁ registers₁ picks₁ due₁ : List ℕ) → feedings c₀ bs ≡ feedings (course_of f j sums registers picks due) (drop i bs) → Advances f (drop i bs) f₁ n
     → state_of j₁ sums₁ registers₁ picks₁ due₁ ≡ settled (is_whole f₁.stage) (state_of j sums registers picks due) (entry_of f₁)
-    → feedings c₀ bs ≡ feedings (courseOf f₁ j₁ sums₁ registers₁ picks₁ due₁) (drop (i + n) bs)
+    → feedings c₀ bs ≡ feedings (course_of f₁ j₁ sums₁ registers₁ picks₁ due₁) (drop (i + n) bs)
 again c₀ bs i n f j sums registers picks due f₁ j₁ sums₁ registers₁ picks₁ due₁ inv a k =
     let s = state_of j sums registers picks due in
-    let c = courseOf f j sums registers picks due in
+    let c = course_of f j sums registers picks due in
     let ds = drop i bs in
-    let z : feedings c (take n ds) ≡ courseOf f₁ j₁ sums₁ registers₁ picks₁ due₁ =
+    let z : feedings c (take n ds) ≡ course_of f₁ j₁ sums₁ registers₁ picks₁ due₁ =
     feedings-follow f s (take n ds)
     ∙ ap (λ (x : Read). record { frame = x.frame; state = tooks s x.entries }) a.pushes
     ∙ ap (λ (t : State). record { frame = f₁; state = t }) (sym (settled-tooks f₁.stage s f₁) ∙ sym k) in
     inv ∙ ap (λ (l : List ℕ). feedings c l) (sym (take-append-drop n ds)) ∙ feedings-append c (take n ds) (drop n ds)
-    ∙ ap (λ (x : Course). feedings x (drop n ds)) z ∙ ap (λ (l : List ℕ). feedings (courseOf f₁ j₁ sums₁ registers₁ picks₁ due₁) l) (drop-drop n i bs)
+    ∙ ap (λ (x : Course). feedings x (drop n ds)) z ∙ ap (λ (l : List ℕ). feedings (course_of f₁ j₁ sums₁ registers₁ picks₁ due₁) l) (drop-drop n i bs)
 
 -- a run moves on, and not past the end
 pub runs : (f : Frame) (bs : List ℕ) (i n : ℕ) (g : Frame) → i < length bs → Advances f (drop i bs) g n → (0 < n) × (i + n ≤ length bs)
@@ -115,33 +115,33 @@ module _ (f : Frame) (j : Judge) (due : List ℕ) where
     ended-cut h = rw (e, h)
 
     module _ (h : is_whole f.stage ≡ true) where
-      at-end : ended f j due ≡ unlessLeft j.verdict j.records (left j.shown j.given due)
+      at-end : ended f j due ≡ unless_left j.verdict j.records (left j.shown j.given due)
       unfolding ended
       at-end = rw (e, h)
 
       next-none : (n : ℕ) → Next n ≡ None → ⊥
       next-none n e = let z : ◌≡◌ {A = ℕ} 0 1 = cc in omega arith
 
-      agrees : (l : List ℕ) → firstDue l ≡ None → j.verdict ≡ unlessLeft j.verdict j.records l
-      unfolding firstDue
+      agrees : (l : List ℕ) → first_due l ≡ None → j.verdict ≡ unless_left j.verdict j.records l
+      unfolding first_due
       agrees [] k = refl
       agrees (x ∷ l) k = absurd (next-none x k)
 
-      misses : (l : List ℕ) (w : ℕ) → firstDue l ≡ Next w → Missing j.records w ≡ unlessLeft j.verdict j.records l
-      unfolding firstDue
+      misses : (l : List ℕ) (w : ℕ) → first_due l ≡ Next w → Missing j.records w ≡ unless_left j.verdict j.records l
+      unfolding first_due
       misses [] w k = absurd (next-none w (sym k))
       misses (x ∷ l) w k = let y : x ≡ w = cc in rw y
 
-      pub ended-agree : firstDue (left j.shown j.given due) ≡ None → j.verdict ≡ ended f j due
+      pub ended-agree : first_due (left j.shown j.given due) ≡ None → j.verdict ≡ ended f j due
       ended-agree k = agrees (left j.shown j.given due) k ∙ sym at-end
 
-      pub ended-due : (w : ℕ) → firstDue (left j.shown j.given due) ≡ Next w → Missing j.records w ≡ ended f j due
+      pub ended-due : (w : ℕ) → first_due (left j.shown j.given due) ≡ Next w → Missing j.records w ≡ ended f j due
       ended-due w k = misses (left j.shown j.given due) w k ∙ sym at-end
 
 pub found-fault : (f : Frame) (v : Verdict) → agreed v ≡ false → true ≡ found f v
 unfolding found
 found-fault f v e = rw e
 
-pub found-bad : (f : Frame) (v : Verdict) (b : Bool) → agreed v ≡ true → b ≡ isBad f.stage → b ≡ found f v
+pub found-bad : (f : Frame) (v : Verdict) (b : Bool) → agreed v ≡ true → b ≡ is_bad f.stage → b ≡ found f v
 unfolding found
 found-bad f v b e h = rw e h

@@ -12,23 +12,23 @@ use lib.Seq.{get_or-take}
 use Rattle.records.specs.declared.Kind.{Kind}
 use Rattle.records.specs.declared.Role.TheVariants.{Open, Symbol, Word, Finish, Unknown}
 use Rattle.records.specs.Kinds.{kind_of, row}
-use Rattle.records.specs.Values.{entry, leadOf}
+use Rattle.records.specs.Values.{entry, lead_of}
 use Rattle.replay_judge.specs.declared.Verdict.{Verdict}
 use Rattle.replay_judge.specs.declared.Verdict.TheVariants.{Agree, Differs, Extra, Missing, Refused, Malformed}
-use Rattle.replay_judge.specs.Judging.{State, byRole, upon, took, heard}
+use Rattle.replay_judge.specs.Judging.{State, by_role, upon, took, heard}
 
 module _ (s : State) (n : ℕ) (b : List ℕ) where
   record Own (k : ℕ) (r : Kind) : Type 0 where
-    own : byRole r.role s n k (take r.size b) ≡ byRole r.role s n k b
+    own : by_role r.role s n k (take r.size b) ≡ by_role r.role s n k b
 
   open_own : (k : ℕ) → Own k (row Open 3)
   open_own k = record { own = rw (get_or-take 3 b 0 0 (omega arith), get_or-take 3 b 1 0 (omega arith), get_or-take 3 b 2 0 (omega arith)) }
 
   -- the coordinates stand behind the mark, and the mark in front
-  symbol-own : (k size : ℕ) → leadOf k + 8 ≤ size → Own k (row Symbol size)
+  symbol-own : (k size : ℕ) → lead_of k + 8 ≤ size → Own k (row Symbol size)
   unfolding heard
   symbol-own k size h =
-      let i = leadOf k in
+      let i = lead_of k in
       let at : (j : ℕ) → j < 8 → get_or (take size b) (i + j) 0 ≡ get_or b (i + j) 0 = λ j l. get_or-take size b (i + j) 0 (omega arith) in
       let z : get_or (take size b) i 0 ≡ get_or b i 0 = get_or-take size b i 0 (omega arith) in
       let m : get_or (take size b) 0 0 ≡ get_or b 0 0 = get_or-take size b 0 0 (omega arith) in
@@ -57,7 +57,7 @@ module _ (s : State) (n : ℕ) (b : List ℕ) where
   unknown-own k = record { own = refl }
 
   -- kind 2 has no mark
-  bare : (k : ℕ) → eqb k 2 ≡ true → leadOf k + 8 ≤ 8
+  bare : (k : ℕ) → eqb k 2 ≡ true → lead_of k + 8 ≤ 8
   bare k e = let z : k ≡ 2 = eqb-true k 2 e in rw z (omega arith)
 
   lead-most : (c : Bool) → cond c 1 0 + 8 ≤ 9

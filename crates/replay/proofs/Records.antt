@@ -23,8 +23,8 @@ use Rattle.machine.specs.declared.Receiver.{Receiver}
 use Rattle.machine.specs.Machine.{sound, Outcome}
 use Rattle.reasons.specs.declared.Why.{Why}
 use Rattle.reasons.specs.declared.Why.TheVariants.{Done, Closed, Uneven}
-use Rattle.reasons.specs.Reason.{Reason, given_of, isDone}
-use Rattle.receiver_meaning.specs.Piece.{Piece, markedPiece, markedSymbol}
+use Rattle.reasons.specs.Reason.{Reason, given_of, is_done}
+use Rattle.receiver_meaning.specs.Piece.{Piece, marked_piece, marked_symbol}
 use Rattle.openings.specs.declared.Opened.{Opened}
 use Rattle.openings.specs.Given.{start_at}
 use Rattle.openings.specs.Opening.{opening, Opens}
@@ -39,13 +39,13 @@ use Rattle.records.specs.declared.Kind.{Kind}
 use Rattle.records.specs.declared.Role.{Role}
 use Rattle.records.specs.declared.Role.TheVariants.{Symbol, Finish}
 use Rattle.records.specs.Kinds.{kind_of}
-use Rattle.records.specs.Values.{Entry, leadOf, markIn, coordinateOf, coordinatesOf}
+use Rattle.records.specs.Values.{Entry, lead_of, mark_in, coordinate_of, coordinates_of}
 use Rattle.replay_judge.specs.declared.Verdict.{Verdict}
 use Rattle.replay_judge.specs.declared.Verdict.TheVariants.{Agree, Differs, Missing}
 use Rattle.replay_judge.specs.declared.Judge.{Judge}
 use Rattle.replay_judge.specs.declared.Due.TheVariants.{None, Word as Next}
-use Rattle.replay_judge.specs.Judging.{State, state_of, left_of, firstDue, ruled, showed, answeredBy, tookWord}
-use Rattle.replay_judge.specs.Judging.{opened, answered, hears, finishes, heard, finished, worded, byRole, upon, took}
+use Rattle.replay_judge.specs.Judging.{State, state_of, left_of, first_due, ruled, showed, answered_by, took_word}
+use Rattle.replay_judge.specs.Judging.{opened, answered, hears, finishes, heard, finished, worded, by_role, upon, took}
 use Rattle.replay_judge.proofs.Dues.{missing-is, nothing-due}
 use Rattle.replay.specs.Lent.{Laid, undue}
 
@@ -64,15 +64,15 @@ record Still (rx : Receiver) (r : Ran) : Type 0 where
   receiver : r.receiver ≡ rx
   words : r.words ≡ []
 
-abbrev heardOne : Receiver → ℕ → ℤ → ℤ → ℤ → ℤ → ℕ → Ran
-heardOne rx m a b c d room = hearing rx (markedPiece (m ∷ []) (a ∷ b ∷ c ∷ d ∷ [])) room
+abbrev heard_one : Receiver → ℕ → ℤ → ℤ → ℤ → ℤ → ℕ → Ran
+heard_one rx m a b c d room = hearing rx (marked_piece (m ∷ []) (a ∷ b ∷ c ∷ d ∷ [])) room
 
-hearing-still : (rx : Receiver) (m : ℕ) (a b c d : ℤ) (room : ℕ) → isDone (heardOne rx m a b c d room).why ≡ false → Still rx (heardOne rx m a b c d room)
+hearing-still : (rx : Receiver) (m : ℕ) (a b c d : ℤ) (room : ℕ) → is_done (heard_one rx m a b c d room).why ≡ false → Still rx (heard_one rx m a b c d room)
 unfolding hearing running
-hearing-still rx m a b c d room = go (sound rx) (markedPiece (m ∷ []) (a ∷ b ∷ c ∷ d ∷ [])).fits (isDone o.why) refl
+hearing-still rx m a b c d room = go (sound rx) (marked_piece (m ∷ []) (a ∷ b ∷ c ∷ d ∷ [])).fits (is_done o.why) refl
   where
     o : Outcome
-    o = symbol_at rx (markedSymbol m a b c d) (room - 0)
+    o = symbol_at rx (marked_symbol m a b c d) (room - 0)
 
     one : Bool → Ran
     one t =
@@ -82,7 +82,7 @@ hearing-still rx m a b c d room = go (sound rx) (markedPiece (m ∷ []) (a ∷ b
     all : Bool → Bool → Bool → Ran
     all s f t = cond s (cond f (one t) (stopped rx Uneven)) (stopped rx Closed)
 
-    go : (s f t : Bool) → isDone o.why ≡ t → isDone (all s f t).why ≡ false → Still rx (all s f t)
+    go : (s f t : Bool) → is_done o.why ≡ t → is_done (all s f t).why ≡ false → Still rx (all s f t)
     go false f t e h = record { receiver = refl; words = refl }
     go true false t e h = record { receiver = refl; words = refl }
     go true true false e h = record { receiver = refl; words = refl }
@@ -96,17 +96,17 @@ record Lists (sums registers picks sums₁ registers₁ picks₁ : List ℕ) : T
   picks-is : picks₁ ≡ picks
 
 module _ {why : Why} {rx : Receiver} {sums registers picks sums₁ registers₁ picks₁ : List ℕ} (l : Laid why rx sums registers picks sums₁ registers₁ picks₁) where
-  new-lists : isDone why ≡ true → Lists rx.sums rx.registers rx.picks sums₁ registers₁ picks₁
+  new-lists : is_done why ≡ true → Lists rx.sums rx.registers rx.picks sums₁ registers₁ picks₁
   new-lists e = record { sums-is = l.sums-is ∙ rw e; registers-is = l.registers-is ∙ rw e; picks-is = l.picks-is ∙ rw e }
 
-  old-lists : isDone why ≡ false → Lists sums registers picks sums₁ registers₁ picks₁
+  old-lists : is_done why ≡ false → Lists sums registers picks sums₁ registers₁ picks₁
   old-lists e = record { sums-is = l.sums-is ∙ rw e; registers-is = l.registers-is ∙ rw e; picks-is = l.picks-is ∙ rw e }
 
 module _ (why : Why) (rx : Receiver) (sums registers picks : List ℕ) where
-  pub laid_done : isDone why ≡ true → Laid why rx sums registers picks rx.sums rx.registers rx.picks
+  pub laid_done : is_done why ≡ true → Laid why rx sums registers picks rx.sums rx.registers rx.picks
   laid_done e = record { sums-is = rw e; registers-is = rw e; picks-is = rw e }
 
-  pub laid-refused : isDone why ≡ false → Laid why rx sums registers picks sums registers picks
+  pub laid-refused : is_done why ≡ false → Laid why rx sums registers picks sums registers picks
   laid-refused e = record { sums-is = rw e; registers-is = rw e; picks-is = rw e }
 
 module _ (j : Judge) (sums registers picks due : List ℕ) where
@@ -116,18 +116,18 @@ module _ (j : Judge) (sums registers picks due : List ℕ) where
   -- ---- an open
 
   pub open_is : (k : Accord) (w b : ℕ) (o : Opened) → Opens k w (start_at b) o → (sums₁ registers₁ picks₁ : List ℕ)
-      → Laid o.why o.receiver sums registers picks sums₁ registers₁ picks₁ → (r : Judge) → r ≡ answeredBy j o.why o.receiver.live o.receiver.core 0
+      → Laid o.why o.receiver sums registers picks sums₁ registers₁ picks₁ → (r : Judge) → r ≡ answered_by j o.why o.receiver.live o.receiver.core 0
       → state_of r sums₁ registers₁ picks₁ due ≡ opened s k w b
-  unfolding opened answeredBy
-  open_is k w b o g sums₁ registers₁ picks₁ l r z = go (isDone o.why) refl
+  unfolding opened answered_by
+  open_is k w b o g sums₁ registers₁ picks₁ l r z = go (is_done o.why) refl
     where
-      go : (t : Bool) → isDone o.why ≡ t → state_of r sums₁ registers₁ picks₁ due ≡ opened s k w b
+      go : (t : Bool) → is_done o.why ≡ t → state_of r sums₁ registers₁ picks₁ due ≡ opened s k w b
       go true h =
-          let e : isDone (opening k w (start_at b)).why ≡ true = sym (done-is g.always-given) ∙ h in
+          let e : is_done (opening k w (start_at b)).why ≡ true = sym (done-is g.always-given) ∙ h in
           let x = new-lists l h in
           rw (z, h, e, x.sums-is, x.registers-is, x.picks-is, sym g.always-receiver)
       go false h =
-          let e : isDone (opening k w (start_at b)).why ≡ false = sym (done-is g.always-given) ∙ h in
+          let e : is_done (opening k w (start_at b)).why ≡ false = sym (done-is g.always-given) ∙ h in
           let x = old-lists l h in
           rw (z, h, e, number_is g.always-given, x.sums-is, x.registers-is, x.picks-is)
 
@@ -143,32 +143,32 @@ module _ (j : Judge) (sums registers picks due : List ℕ) where
     due-is : due₁ ≡ due
 
   module _ (q : Ran) (why : Why) (live : Bool) (core : Core) (m : ℕ) (r : Judge) (sums₁ registers₁ picks₁ due₁ : List ℕ) where
-    answer-is : given_of why ≡ given_of q.why → r ≡ answeredBy j why live core m → (isDone q.why ≡ true → Took q live core m sums₁ registers₁ picks₁ due₁)
-        → (isDone q.why ≡ false → Kept sums₁ registers₁ picks₁ due₁) → state_of r sums₁ registers₁ picks₁ due₁ ≡ answered s q
-    unfolding answered answeredBy
-    answer-is e z took kept = go (isDone q.why) refl
+    answer-is : given_of why ≡ given_of q.why → r ≡ answered_by j why live core m → (is_done q.why ≡ true → Took q live core m sums₁ registers₁ picks₁ due₁)
+        → (is_done q.why ≡ false → Kept sums₁ registers₁ picks₁ due₁) → state_of r sums₁ registers₁ picks₁ due₁ ≡ answered s q
+    unfolding answered answered_by
+    answer-is e z took kept = go (is_done q.why) refl
       where
-        go : (t : Bool) → isDone q.why ≡ t → state_of r sums₁ registers₁ picks₁ due₁ ≡ answered s q
+        go : (t : Bool) → is_done q.why ≡ t → state_of r sums₁ registers₁ picks₁ due₁ ≡ answered s q
         go true h =
-            let d : isDone why ≡ true = done-is e ∙ h in
+            let d : is_done why ≡ true = done-is e ∙ h in
             let t = took h in
             rw (z, d, h, t.receiver, t.given, t.due-is)
         go false h =
-            let d : isDone why ≡ false = done-is e ∙ h in
+            let d : is_done why ≡ false = done-is e ∙ h in
             let t = kept h in
             rw (z, d, h, number_is e, t.lists.sums-is, t.lists.registers-is, t.lists.picks-is, t.due-is)
 
-  module _ (kind : ℕ) (body : List ℕ) (m : ℕ) (n : m ≡ markIn kind body) (xs : List ℤ) (x : xs ≡ coordinatesOf kind body) (l : length picks ≡ 72)
+  module _ (kind : ℕ) (body : List ℕ) (m : ℕ) (n : m ≡ mark_in kind body) (xs : List ℤ) (x : xs ≡ coordinates_of kind body) (l : length picks ≡ 72)
       (h : Heard) (sums₁ registers₁ picks₁ due₁ : List ℕ)
-      (k : HearsLent j.live j.core sums registers picks (markedPiece (m ∷ []) xs) due h sums₁ registers₁ picks₁ due₁) where
+      (k : HearsLent j.live j.core sums registers picks (marked_piece (m ∷ []) xs) due h sums₁ registers₁ picks₁ due₁) where
     abbrev piece : Piece
-    piece = markedPiece (markIn kind body ∷ []) (coordinatesOf kind body)
+    piece = marked_piece (mark_in kind body ∷ []) (coordinates_of kind body)
 
     abbrev i : ℕ
-    i = leadOf kind
+    i = lead_of kind
 
     abbrev at : ℕ → ℕ → ℤ
-    at a b = coordinateOf (get_or body a 0) (get_or body b 0)
+    at a b = coordinate_of (get_or body a 0) (get_or body b 0)
 
     ran : Ran
     ran = hearing s.receiver piece (length due)
@@ -176,22 +176,22 @@ module _ (j : Judge) (sums registers picks due : List ℕ) where
     is : Is ran due (answer_of j.live h sums₁ registers₁ picks₁) due₁
     unfolding ran
     is =
-        let e : markedPiece (m ∷ []) xs ≡ piece = ap₂ (λ (z : ℕ) (ys : List ℤ). markedPiece (z ∷ []) ys) n x in
+        let e : marked_piece (m ∷ []) xs ≡ piece = ap₂ (λ (z : ℕ) (ys : List ℤ). marked_piece (z ∷ []) ys) n x in
         subst (λ (p : Piece). Is (hearing s.receiver p (length due)) due (answer_of j.live h sums₁ registers₁ picks₁) due₁) e
-        (subst (λ (b : Bool). Is (hearing (parts_of b j.core sums registers picks) (markedPiece (m ∷ []) xs) (length due)) due (answer_of b h sums₁ registers₁ picks₁) due₁)
+        (subst (λ (b : Bool). Is (hearing (parts_of b j.core sums registers picks) (marked_piece (m ∷ []) xs) (length due)) due (answer_of b h sums₁ registers₁ picks₁) due₁)
         (lent-live j.live picks l) k)
 
-    kept : isDone ran.why ≡ false → Kept sums₁ registers₁ picks₁ due₁
+    kept : is_done ran.why ≡ false → Kept sums₁ registers₁ picks₁ due₁
     unfolding ran
     kept g =
-        let t : Still s.receiver ran = hearing-still s.receiver (markIn kind body) (at i (i + 1)) (at (i + 2) (i + 3)) (at (i + 4) (i + 5)) (at (i + 6) (i + 7)) (length due) g in
+        let t : Still s.receiver ran = hearing-still s.receiver (mark_in kind body) (at i (i + 1)) (at (i + 2) (i + 3)) (at (i + 4) (i + 5)) (at (i + 6) (i + 7)) (length due) g in
         let a : parts_of j.live h.core sums₁ registers₁ picks₁ ≡ s.receiver = is.receiver ∙ t.receiver in
         record {
           lists = record { sums-is = ap (λ (v : Receiver). v.sums) a; registers-is = ap (λ (v : Receiver). v.registers) a; picks-is = ap (λ (v : Receiver). v.picks) a };
           due-is = is.output ∙ rw t.words;
         }
 
-    pub symbol-is : (r : Judge) → r ≡ answeredBy j h.why j.live h.core h.written → state_of r sums₁ registers₁ picks₁ due₁ ≡ hears s kind body
+    pub symbol-is : (r : Judge) → r ≡ answered_by j h.why j.live h.core h.written → state_of r sums₁ registers₁ picks₁ due₁ ≡ hears s kind body
     unfolding ran
     symbol-is r z =
         answer-is ran h.why j.live h.core h.written r sums₁ registers₁ picks₁ due₁ is.given z
@@ -202,30 +202,30 @@ module _ (j : Judge) (sums registers picks due : List ℕ) where
     abbrev end : Ran
     end = finishing s.receiver (length due)
 
-    closed : isDone end.why ≡ true → Took end a.receiver.live a.receiver.core a.written sums₁ registers₁ picks₁ due₁
+    closed : is_done end.why ≡ true → Took end a.receiver.live a.receiver.core a.written sums₁ registers₁ picks₁ due₁
     closed g =
         let is = k.always in
-        let d : isDone a.why ≡ true = done-is is.given ∙ g in
+        let d : is_done a.why ≡ true = done-is is.given ∙ g in
         let x = new-lists l d in
         record { receiver = rw (x.sums-is, x.registers-is, x.picks-is) is.receiver; given = is.written; due-is = is.output }
 
-    left_open : isDone end.why ≡ false → Kept sums₁ registers₁ picks₁ due₁
+    left_open : is_done end.why ≡ false → Kept sums₁ registers₁ picks₁ due₁
     left_open g =
-        let d : isDone a.why ≡ false = done-is k.always.given ∙ g in
+        let d : is_done a.why ≡ false = done-is k.always.given ∙ g in
         record { lists = old-lists l d; due-is = (finishes-left s.receiver due a due₁ k (λ y. not_done (sym (rw y) ∙ d))).1 }
 
-    pub finish-is : (r : Judge) → r ≡ answeredBy j a.why a.receiver.live a.receiver.core a.written → state_of r sums₁ registers₁ picks₁ due₁ ≡ finishes s
+    pub finish-is : (r : Judge) → r ≡ answered_by j a.why a.receiver.live a.receiver.core a.written → state_of r sums₁ registers₁ picks₁ due₁ ≡ finishes s
     finish-is r z =
         answer-is end a.why a.receiver.live a.receiver.core a.written r sums₁ registers₁ picks₁ due₁ k.always.given z closed left_open
 
   -- ---- a word that is due
 
   module _ (ends : Bool) (kind : ℕ) (body : List ℕ) where
-    pub undue-missing : (h : ℕ) → firstDue (left_of s) ≡ Next h → (r : Judge) → r ≡ ruled j (Missing j.records h) → state_of r sums registers picks due ≡ undue ends s kind body
+    pub undue-missing : (h : ℕ) → first_due (left_of s) ≡ Next h → (r : Judge) → r ≡ ruled j (Missing j.records h) → state_of r sums registers picks due ≡ undue ends s kind body
     unfolding undue
     undue-missing h e r z = rw z (missing-is s _ (left_of s) h e)
 
-    module _ (f : firstDue (left_of s) ≡ None) (n : State) where
+    module _ (f : first_due (left_of s) ≡ None) (n : State) where
       pub undue-ends : ends ≡ true → n ≡ finishes s → n ≡ undue ends s kind body
       unfolding undue
       undue-ends e z = rw e (z ∙ nothing-due s (finishes s) (left_of s) f)
@@ -260,17 +260,17 @@ role-is e f = sym (ap (λ (k : Kind). k.role) e) ∙ f
 
 -- by its role: a symbol and a finish stand where no word is due
 module _ (s n : State) (w k : ℕ) (body : List ℕ) {r : Role} where
-  pub symbol-role : r ≡ Symbol → n ≡ undue false s k body → n ≡ byRole r s w k body
+  pub symbol-role : r ≡ Symbol → n ≡ undue false s k body → n ≡ by_role r s w k body
   unfolding undue heard
   symbol-role e z = rw e z
 
-  pub finish-role : r ≡ Finish → n ≡ undue true s k body → n ≡ byRole r s w k body
+  pub finish-role : r ≡ Finish → n ≡ undue true s k body → n ≡ by_role r s w k body
   unfolding undue finished
   finish-role e z = rw e z
 
-pub word-state : (j : Judge) (sums registers picks due : List ℕ) (n g w : ℕ) (l : List ℕ) (r : Judge) → g ≡ w → r ≡ tookWord j n g l
+pub word-state : (j : Judge) (sums registers picks due : List ℕ) (n g w : ℕ) (l : List ℕ) (r : Judge) → g ≡ w → r ≡ took_word j n g l
     → state_of r sums registers picks due ≡ worded (state_of j sums registers picks due) n w l
-unfolding tookWord
+unfolding took_word
 word-state j sums registers picks due n g w [] r e z = rw (z, e)
 word-state j sums registers picks due n g w (h ∷ hs) r e z = rw (z, e) (go (eqb w h))
   where
@@ -283,7 +283,7 @@ word-state j sums registers picks due n g w (h ∷ hs) r e z = rw (z, e) (go (eq
     go false = refl
 
 module _ (s : State) (r : Entry) where
-  pub took-agree : (n : ℕ) → s.verdict ≡ Agree n → byRole (kind_of r.kind).role s n r.kind r.body ≡ took s r
+  pub took-agree : (n : ℕ) → s.verdict ≡ Agree n → by_role (kind_of r.kind).role s n r.kind r.body ≡ took s r
   unfolding took
   took-agree n e = ap (λ (v : Verdict). upon v s r) (sym e)
 

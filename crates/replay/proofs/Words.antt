@@ -14,9 +14,9 @@ use Rattle.trellis.specs.Lists.{Every}
 use Rattle.points.proofs.Agreed.{accord-width}
 use Rattle.receiver_meaning.specs.Told.{Told, Fine}
 use Rattle.records.specs.Kinds.{kind_of}
-use Rattle.records.specs.Values.{Entry, wordEntry}
+use Rattle.records.specs.Values.{Entry, word_entry}
 use Rattle.records.proofs.Back.{word_back}
-use Rattle.record_write.specs.Front.{wordEntries}
+use Rattle.record_write.specs.Front.{word_entries}
 use Rattle.replay_judge.specs.declared.Verdict.TheVariants.{Agree}
 use Rattle.replay.specs.Meaning.{Line, Seen, taking, takings}
 
@@ -28,15 +28,15 @@ unfolding takings
 takings-append s [] qs = refl
 takings-append s (r ∷ rs) qs = takings-append (taking s r) rs qs
 
-word-seen : (l : Line) (w : ℕ) (ws : List ℕ) (m n : ℕ) → w < 4294967296 → taking (seen l (w ∷ ws) m n) (wordEntry w) ≡ seen l ws (m + 1) (n + 1)
+word-seen : (l : Line) (w : ℕ) (ws : List ℕ) (m n : ℕ) → w < 4294967296 → taking (seen l (w ∷ ws) m n) (word_entry w) ≡ seen l ws (m + 1) (n + 1)
 unfolding taking kind_of
 word-seen l w ws m n h = rw (word_back w h, eq-eqb w w refl)
 
-pub words-seen : (l : Line) (ws : List ℕ) (m n : ℕ) → Every (λ w. w < 4294967296) ws → takings (seen l ws m n) (wordEntries ws) ≡ seen l [] (m + length ws) (n + length ws)
+pub words-seen : (l : Line) (ws : List ℕ) (m n : ℕ) → Every (λ w. w < 4294967296) ws → takings (seen l ws m n) (word_entries ws) ≡ seen l [] (m + length ws) (n + length ws)
 unfolding takings
 words-seen l [] m n h = ap₂ (seen l []) (sym (add-zero m)) (sym (add-zero n))
 words-seen l (w ∷ ws) m n h =
-    ap (λ (s : Seen). takings s (wordEntries ws)) (word-seen l w ws m n h.0)
+    ap (λ (s : Seen). takings s (word_entries ws)) (word-seen l w ws m n h.0)
     ∙ words-seen l ws (m + 1) (n + 1) h.1
     ∙ ap₂ (seen l []) (omega arith) (omega arith)
 

@@ -11,7 +11,7 @@ ghost use Rattle.std.specs.Prelude.{◌≡◌, Bool};
 ghost use Rattle.records.specs.Frames.{entry_of};
 ghost use Rattle.replay_judge.specs.Judging.{state_of};
 ghost use Rattle.replay.specs.Meaning.{agreed};
-ghost use Rattle.replay.specs.Course.{is_whole, isBad, settled, courseOf, feedings, ended, found as Course·found, replayOf, freshReplay};
+ghost use Rattle.replay.specs.Course.{is_whole, is_bad, settled, course_of, feedings, ended, found as Course·found, replay_of, fresh_replay};
 
 use records::{Frame, Stage};
 use replay_judge::{Due, Judge, Verdict};
@@ -44,7 +44,7 @@ pub fn is_whole(stage: Stage) -> bool
 }
 
 fn is_bad(stage: Stage) -> bool
-    ensures { result ≡ isBad stage }
+    ensures { result ≡ is_bad stage }
 {
     match stage {
         Stage::Fresh => false,
@@ -97,8 +97,8 @@ pub fn feed_lent(
     picks: &mut [u64; 72],
     due: &mut [u32],
 ) -> Fed
-    ensures { courseOf result.frame result.judge sums.new registers.new picks.new due.new
-        ≡ feedings (courseOf frame judge sums.old registers.old picks.old due.old) bytes.now }
+    ensures { course_of result.frame result.judge sums.new registers.new picks.new due.new
+        ≡ feedings (course_of frame judge sums.old registers.old picks.old due.old) bytes.now }
 {
     let mut f = frame;
     let mut j = judge;
@@ -146,7 +146,7 @@ pub fn verdict(frame: Frame, judge: Judge, due: &[u32]) -> Verdict
 
 // A replay before any byte: no record, and a closed receiver.
 pub fn start() -> Replay
-    ensures { result ≡ freshReplay }
+    ensures { result ≡ fresh_replay }
 {
     let rx = openings::closed_receiver();
     let core = rx.core;
@@ -171,7 +171,7 @@ pub fn start() -> Replay
 }
 
 pub fn feed(r: Replay, bytes: &[u8]) -> Replay
-    ensures { replayOf result ≡ feedings (replayOf r) bytes.now }
+    ensures { replay_of result ≡ feedings (replay_of r) bytes.now }
 {
     let frame = r.frame;
     let judge = r.judge;

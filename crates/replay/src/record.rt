@@ -3,8 +3,8 @@
 // The receiver's lists and the words that are due are lent: nothing of them is copied for a symbol or a word.
 ghost use Rattle.std.specs.Prelude.{◌≡◌};
 ghost use Rattle.records.specs.Kinds.{kind_of};
-ghost use Rattle.records.specs.Values.{coordinatesOf, markIn, entry};
-ghost use Rattle.replay_judge.specs.Judging.{state_of, hears, finishes, byRole, took};
+ghost use Rattle.records.specs.Values.{coordinates_of, mark_in, entry};
+ghost use Rattle.replay_judge.specs.Judging.{state_of, hears, finishes, by_role, took};
 ghost use Rattle.replay.specs.Lent.{Laid, OpensLent, undue};
 
 use machine::Receiver;
@@ -60,7 +60,7 @@ fn take_open(
 
 // A symbol's coordinates.
 fn piece_of(k: u8, body: [u8; 9]) -> [i32; 4]
-    ensures { result ≡ coordinatesOf k body }
+    ensures { result ≡ coordinates_of k body }
 {
     let i = records::lead(k);
     [
@@ -73,7 +73,7 @@ fn piece_of(k: u8, body: [u8; 9]) -> [i32; 4]
 
 // A symbol's mark: 0, nothing missing, where its record has none.
 fn mark_of(k: u8, body: [u8; 9]) -> u8
-    ensures { result ≡ markIn k body }
+    ensures { result ≡ mark_in k body }
 {
     if k == 5 {
         return body[0];
@@ -167,7 +167,7 @@ fn take_kind(
     due: &mut [u32],
 ) -> Judge
     ensures { state_of result sums.new registers.new picks.new due.new
-        ≡ byRole (kind_of k).role (state_of j sums.old registers.old picks.old due.old) words k body }
+        ≡ by_role (kind_of k).role (state_of j sums.old registers.old picks.old due.old) words k body }
 {
     let kind = records::kind_of(k);
     let role = kind.role;

@@ -14,71 +14,71 @@ use lib.ListN.{length, take, get_or, length-take, drop_of_length-le}
 use lib.Seq.{drop-cons, get_or-take}
 use Rattle.machine.specs.declared.Core.{Core}
 use Rattle.reasons.specs.declared.Why.{Why}
-use Rattle.reasons.specs.Reason.{given_of, isDone}
+use Rattle.reasons.specs.Reason.{given_of, is_done}
 use Rattle.records.specs.Frames.{capped}
 use Rattle.replay_judge.specs.declared.Judge.{Judge}
 use Rattle.replay_judge.specs.declared.Due.TheVariants.{None, Word as Next}
 use Rattle.replay_judge.specs.declared.Verdict.TheVariants.{Differs, Extra, Missing, Refused}
-use Rattle.replay_judge.specs.Judging.{State, left, firstDue, ruled, showed, answeredBy, tookWord, faulted, unlessDue}
+use Rattle.replay_judge.specs.Judging.{State, left, first_due, ruled, showed, answered_by, took_word, faulted, unless_due}
 
 next-none : (h : ℕ) → Next h ≡ None → ⊥
 next-none h e = let z : ◌≡◌ {A = ℕ} 0 1 = cc in omega arith
 
 module _ (shown given : ℕ) (due : List ℕ) where
-  gone : length (take given due) ≤ shown → None ≡ firstDue (left shown given due)
-  unfolding left firstDue
+  gone : length (take given due) ≤ shown → None ≡ first_due (left shown given due)
+  unfolding left first_due
   gone h = rw (drop_of_length-le (take given due) {i = shown} h)
 
-  pub none-given : given ≤ shown → None ≡ firstDue (left shown given due)
+  pub none-given : given ≤ shown → None ≡ first_due (left shown given due)
   none-given h = gone (omega (arith, length-take given due))
 
-  pub none-there : length due ≤ shown → None ≡ firstDue (left shown given due)
+  pub none-there : length due ≤ shown → None ≡ first_due (left shown given due)
   none-there h = gone (omega (arith, length-take given due))
 
-  pub due_below : (h : ℕ) → firstDue (left shown given due) ≡ Next h → shown < given
+  pub due_below : (h : ℕ) → first_due (left shown given due) ≡ Next h → shown < given
   due_below h e = go (ltb shown given) refl
     where
       go : (b : Bool) → ltb shown given ≡ b → shown < given
       go true k = ltb-true shown given k
       go false k = absurd (next-none h (sym e ∙ sym (none-given (ltb-false shown given k))))
 
-  pub some_left : shown < given → shown < length due → Next (get_or due shown 0) ≡ firstDue (left shown given due)
-  unfolding left firstDue
+  pub some_left : shown < given → shown < length due → Next (get_or due shown 0) ≡ first_due (left shown given due)
+  unfolding left first_due
   some_left h l = rw (drop-cons (take given due) shown 0 (omega (arith, length-take given due)), get_or-take given due shown 0 h)
 
 module _ (j : Judge) (n g : ℕ) (r : Judge) where
-  pub word_none : (l : List ℕ) → firstDue l ≡ None → r ≡ ruled j (Extra j.records g) → r ≡ tookWord j n g l
-  unfolding firstDue tookWord
+  pub word_none : (l : List ℕ) → first_due l ≡ None → r ≡ ruled j (Extra j.records g) → r ≡ took_word j n g l
+  unfolding first_due took_word
   word_none [] e z = z
   word_none (h ∷ hs) e z = absurd (next-none h e)
 
-  pub word-other : (l : List ℕ) (h : ℕ) → firstDue l ≡ Next h → (g ≡ h → ⊥) → r ≡ ruled j (Differs j.records g h) → r ≡ tookWord j n g l
-  unfolding firstDue tookWord
+  pub word-other : (l : List ℕ) (h : ℕ) → first_due l ≡ Next h → (g ≡ h → ⊥) → r ≡ ruled j (Differs j.records g h) → r ≡ took_word j n g l
+  unfolding first_due took_word
   word-other [] h e d z = absurd (next-none h (sym e))
   word-other (k ∷ hs) h e d z = let i : k ≡ h = cc in rw (i, ne_eqb g h d) z
 
-  pub word_same : (l : List ℕ) (h : ℕ) → firstDue l ≡ Next h → g ≡ h → r ≡ showed j n → r ≡ tookWord j n g l
-  unfolding firstDue tookWord
+  pub word_same : (l : List ℕ) (h : ℕ) → first_due l ≡ Next h → g ≡ h → r ≡ showed j n → r ≡ took_word j n g l
+  unfolding first_due took_word
   word_same [] h e d z = absurd (next-none h (sym e))
   word_same (k ∷ hs) h e d z = let i : k ≡ h = cc in rw (i, eq-eqb g h d) z
 
 module _ (j : Judge) (why : Why) (live : Bool) (core : Core) (given n : ℕ) where
-  pub answer-refused : (r : Judge) → isDone why ≡ false → n ≡ (given_of why).number → r ≡ ruled j (Refused j.records n) → r ≡ answeredBy j why live core given
-  unfolding answeredBy
+  pub answer-refused : (r : Judge) → is_done why ≡ false → n ≡ (given_of why).number → r ≡ ruled j (Refused j.records n) → r ≡ answered_by j why live core given
+  unfolding answered_by
   answer-refused r e m z = rw e (z ∙ ap (λ (k : ℕ). ruled j (Refused j.records k)) m)
 
-  pub answer-took : isDone why ≡ true → n ≡ capped (j.records + 1)
-      → record { live = live; core = core; given = given; shown = 0; records = n; verdict = j.verdict } ≡ answeredBy j why live core given
-  unfolding answeredBy
+  pub answer-took : is_done why ≡ true → n ≡ capped (j.records + 1)
+      → record { live = live; core = core; given = given; shown = 0; records = n; verdict = j.verdict } ≡ answered_by j why live core given
+  unfolding answered_by
   answer-took e z = rw (e, z)
 
 module _ (s n : State) where
-  pub missing-is : (l : List ℕ) (h : ℕ) → firstDue l ≡ Next h → faulted s (Missing s.records h) ≡ unlessDue s l n
-  unfolding firstDue unlessDue
+  pub missing-is : (l : List ℕ) (h : ℕ) → first_due l ≡ Next h → faulted s (Missing s.records h) ≡ unless_due s l n
+  unfolding first_due unless_due
   missing-is [] h e = absurd (next-none h (sym e))
   missing-is (k ∷ hs) h e = let i : k ≡ h = cc in rw i
 
-  pub nothing-due : (l : List ℕ) → firstDue l ≡ None → n ≡ unlessDue s l n
-  unfolding firstDue unlessDue
+  pub nothing-due : (l : List ℕ) → first_due l ≡ None → n ≡ unless_due s l n
+  unfolding first_due unless_due
   nothing-due [] e = refl
   nothing-due (k ∷ hs) e = absurd (next-none k e)

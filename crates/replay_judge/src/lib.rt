@@ -5,7 +5,7 @@
 // there were, and the verdict, which is that they agree as long as no fault is found. The receiver's lists and the words that are due stand
 // beside it.
 ghost use Rattle.std.specs.Prelude.{◌≡◌};
-ghost use Rattle.replay_judge.specs.Judging.{left, firstDue, ruled, answeredBy, tookWord};
+ghost use Rattle.replay_judge.specs.Judging.{left, first_due, ruled, answered_by, took_word};
 
 use machine::Core;
 use reasons::Why;
@@ -40,7 +40,7 @@ pub enum Due {
 }
 
 pub fn next_due(j: Judge, due: &[u32]) -> Due
-    ensures { result ≡ firstDue (left j.shown j.given due.now) }
+    ensures { result ≡ first_due (left j.shown j.given due.now) }
 {
     let shown = j.shown;
     if shown >= j.given {
@@ -69,7 +69,7 @@ pub fn rule(j: Judge, verdict: Verdict) -> Judge
 
 // What the receiver answered to an open, a symbol or a finish. A record that it took leaves it with these numbers, and `given` words are due.
 pub fn answer(j: Judge, why: Why, live: bool, core: Core, given: usize) -> Judge
-    ensures { result ≡ answeredBy j why live core given }
+    ensures { result ≡ answered_by j why live core given }
 {
     if !reasons::is_done(why) {
         return rule(j, Verdict::Refused(j.records, reasons::number(why)));
@@ -87,7 +87,7 @@ pub fn answer(j: Judge, why: Why, live: bool, core: Core, given: usize) -> Judge
 
 // A recorded word, where `words` words have agreed before it.
 pub fn take_word(j: Judge, words: u64, g: u32, due: &[u32]) -> Judge
-    ensures { result ≡ tookWord j words g (left j.shown j.given due.now) }
+    ensures { result ≡ took_word j words g (left j.shown j.given due.now) }
 {
     let d = next_due(j, due);
     let Due::Word(h) = d else {

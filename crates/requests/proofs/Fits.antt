@@ -6,9 +6,9 @@ use mathlib.Core.List.{List, [], ◌∷◌}
 use borrow.Author.Tests.{leb-true}
 use lib.Dec.{leb}
 use Rattle.text.specs.Bytes.{bytes}
-use Rattle.text.specs.Token.{sameBytes}
-use Rattle.text.specs.Number.{hexOf}
-use Rattle.number_lists.specs.Many.{wholeIn, number_in, manyOf}
+use Rattle.text.specs.Token.{same_bytes}
+use Rattle.text.specs.Number.{hex_of}
+use Rattle.number_lists.specs.Many.{whole_in, number_in, many_of}
 use Rattle.number_lists.specs.declared.Many.{Many}
 use Rattle.number_lists.specs.declared.Many.TheVariants as many
 use Rattle.text.specs.declared.number.Number.{Number}
@@ -22,11 +22,11 @@ use Rattle.line_fields.specs.declared.map_names.Which.{Which}
 use Rattle.line_fields.specs.declared.map_names.Which.TheVariants as which
 use Rattle.line_fields.specs.declared.map_names.Numbered.{Numbered}
 use Rattle.line_fields.specs.declared.map_names.Numbered.TheVariants as numbered
-use Rattle.line_fields.specs.Names.{mapNamed, numberedOf}
+use Rattle.line_fields.specs.Names.{map_named, numbered_of}
 use Rattle.requests.specs.declared.Request.{Request}
 use Rattle.requests.specs.declared.Request.TheVariants as request
-use Rattle.requests.specs.Verb.{anyNumber, capNumber, just, both, one, two, onMap, onNumber, Fit}
-use Rattle.requests.specs.Verb.{senderOf, finishOf, sendOf, sampleOf, start_of, windowBy, windowOf, openBy, openOf, receiverOf, heardOf, piece_of, markedBy, markedOf, sentOf, list_of}
+use Rattle.requests.specs.Verb.{any_number, cap_number, just, both, one, two, on_map, on_number, Fit}
+use Rattle.requests.specs.Verb.{sender_of, finish_of, send_of, sample_of, start_of, window_by, window_of, open_by, open_of, receiver_of, heard_of, piece_of, marked_by, marked_of, sent_of, list_of}
 
 module _ (room : ℕ) where
   pub fit-cond : (b : Bool) {x y : Request} → Fit room x → Fit room y → Fit room (cond b x y)
@@ -50,76 +50,76 @@ module _ (room : ℕ) where
   fit-two g [] f = record { sizes = tt }
   fit-two g (t ∷ ts) f = fit-one (g t) ts (f t)
 
-  fit-map : (f : Map → Request) (w : Which) → ((m : Map) → Fit room (f m)) → Fit room (onMap f w)
+  fit-map : (f : Map → Request) (w : Which) → ((m : Map) → Fit room (f m)) → Fit room (on_map f w)
   fit-map f (which.On m) g = g m
   fit-map f which.Unread g = record { sizes = tt }
 
-  fit-number : (f : Map → ℕ → Request) (o : Numbered) → ((m : Map) (n : ℕ) → Fit room (f m n)) → Fit room (onNumber f o)
+  fit-number : (f : Map → ℕ → Request) (o : Numbered) → ((m : Map) (n : ℕ) → Fit room (f m n)) → Fit room (on_number f o)
   fit-number f (numbered.On m n) g = g m n
   fit-number f numbered.Unread g = record { sizes = tt }
 
-  pub fit-sender : (ts : List (List ℕ)) → Fit room (senderOf ts)
-  fit-sender ts = fit-number _ (numberedOf ts) (λ m u. record { sizes = tt })
+  pub fit-sender : (ts : List (List ℕ)) → Fit room (sender_of ts)
+  fit-sender ts = fit-number _ (numbered_of ts) (λ m u. record { sizes = tt })
 
-  pub fit-finish : (ts : List (List ℕ)) → Fit room (finishOf ts)
-  fit-finish ts = fit-one (λ c. just request.Finish (capNumber c)) ts (λ c. fit-just request.Finish (capNumber c) (λ n e. record { sizes = got-most 10 4096 c e }))
+  pub fit-finish : (ts : List (List ℕ)) → Fit room (finish_of ts)
+  fit-finish ts = fit-one (λ c. just request.Finish (cap_number c)) ts (λ c. fit-just request.Finish (cap_number c) (λ n e. record { sizes = got-most 10 4096 c e }))
 
-  pub fit-sample : (ts : List (List ℕ)) → Fit room (sampleOf ts)
+  pub fit-sample : (ts : List (List ℕ)) → Fit room (sample_of ts)
   fit-sample [] = record { sizes = tt }
-  fit-sample (m ∷ []) = fit-cond (sameBytes m (bytes "missing")) (record { sizes = tt }) (record { sizes = tt })
-  fit-sample (x ∷ y ∷ ts) = fit-two _ (x ∷ y ∷ ts) (λ x y. fit-both request.Sample (hexOf x) (hexOf y) (λ m n e. record { sizes = tt }))
+  fit-sample (m ∷ []) = fit-cond (same_bytes m (bytes "missing")) (record { sizes = tt }) (record { sizes = tt })
+  fit-sample (x ∷ y ∷ ts) = fit-two _ (x ∷ y ∷ ts) (λ x y. fit-both request.Sample (hex_of x) (hex_of y) (λ m n e. record { sizes = tt }))
 
-  pub fit-send : (ts : List (List ℕ)) → Fit room (sendOf ts)
-  fit-send ts = fit-two (λ w c. both request.Send (anyNumber w) (capNumber c)) ts (λ w c. fit-both request.Send (anyNumber w) (capNumber c) (λ m n e. record { sizes = got-most 10 4096 c e }))
+  pub fit-send : (ts : List (List ℕ)) → Fit room (send_of ts)
+  fit-send ts = fit-two (λ w c. both request.Send (any_number w) (cap_number c)) ts (λ w c. fit-both request.Send (any_number w) (cap_number c) (λ m n e. record { sizes = got-most 10 4096 c e }))
 
   fit-start : (u w : ℕ) (ts : List (List ℕ)) → Fit room (start_of u w ts)
   fit-start u w [] = record { sizes = tt }
   fit-start u w (f ∷ ts) =
-      fit-cond (sameBytes f (bytes "free")) (fit-map _ (mapNamed ts) (λ m. record { sizes = tt }))
-      (fit-cond (sameBytes f (bytes "at")) (fit-number _ (numberedOf ts) (λ m s. record { sizes = tt })) (record { sizes = tt }))
+      fit-cond (same_bytes f (bytes "free")) (fit-map _ (map_named ts) (λ m. record { sizes = tt }))
+      (fit-cond (same_bytes f (bytes "at")) (fit-number _ (numbered_of ts) (λ m s. record { sizes = tt })) (record { sizes = tt }))
 
-  fit-window-by : (u : ℕ) (o : Number) (ts : List (List ℕ)) → Fit room (windowBy u o ts)
+  fit-window-by : (u : ℕ) (o : Number) (ts : List (List ℕ)) → Fit room (window_by u o ts)
   fit-window-by u (number.Got w) ts = fit-start u w ts
   fit-window-by u number.Bad ts = record { sizes = tt }
 
-  fit-window : (u : ℕ) (ts : List (List ℕ)) → Fit room (windowOf u ts)
+  fit-window : (u : ℕ) (ts : List (List ℕ)) → Fit room (window_of u ts)
   fit-window u [] = record { sizes = tt }
-  fit-window u (w ∷ ts) = fit-window-by u (anyNumber w) ts
+  fit-window u (w ∷ ts) = fit-window-by u (any_number w) ts
 
-  fit-open-by : (u : ℕ) (w : Which) (ts : List (List ℕ)) → Fit room (openBy u w ts)
+  fit-open-by : (u : ℕ) (w : Which) (ts : List (List ℕ)) → Fit room (open_by u w ts)
   fit-open-by u (which.On m) ts = record { sizes = tt }
   fit-open-by u which.Unread ts = fit-window u ts
 
-  fit-open : (o : Number) (ts : List (List ℕ)) → Fit room (openOf o ts)
+  fit-open : (o : Number) (ts : List (List ℕ)) → Fit room (open_of o ts)
   fit-open number.Bad ts = record { sizes = tt }
-  fit-open (number.Got u) ts = fit-open-by u (mapNamed ts) ts
+  fit-open (number.Got u) ts = fit-open-by u (map_named ts) ts
 
-  pub fit-receiver : (ts : List (List ℕ)) → Fit room (receiverOf ts)
+  pub fit-receiver : (ts : List (List ℕ)) → Fit room (receiver_of ts)
   fit-receiver [] = record { sizes = tt }
-  fit-receiver (u ∷ ts) = fit-open (anyNumber u) ts
+  fit-receiver (u ∷ ts) = fit-open (any_number u) ts
 
-  fit-heard : (o : Number) (m : Many) → ((c : ℕ) → number.Got c ≡ o → c ≤ 4096) → ((n : ℕ) → many.Got n ≡ m → n ≤ room) → Fit room (heardOf o m)
+  fit-heard : (o : Number) (m : Many) → ((c : ℕ) → number.Got c ≡ o → c ≤ 4096) → ((n : ℕ) → many.Got n ≡ m → n ≤ room) → Fit room (heard_of o m)
   fit-heard number.Bad m f g = record { sizes = tt }
   fit-heard (number.Got c) (many.Got n) f g = record { sizes = (f c refl, g n refl) }
   fit-heard (number.Got c) many.Bad f g = record { sizes = tt }
 
   pub fit-piece : (ts : List (List ℕ)) → Fit room (piece_of room ts)
   fit-piece [] = record { sizes = tt }
-  fit-piece (c ∷ ts) = fit-heard (capNumber c) (manyOf wholeIn room ts) (λ n e. got-most 10 4096 c e) (λ n e. many-most wholeIn room ts e)
+  fit-piece (c ∷ ts) = fit-heard (cap_number c) (many_of whole_in room ts) (λ n e. got-most 10 4096 c e) (λ n e. many-most whole_in room ts e)
 
-  fit-marked-by : (o : Number) (k m : Many) → ((c : ℕ) → number.Got c ≡ o → c ≤ 4096) → ((n : ℕ) → many.Got n ≡ k → n ≤ 1024) → ((n : ℕ) → many.Got n ≡ m → n ≤ room) → Fit room (markedBy o k m)
+  fit-marked-by : (o : Number) (k m : Many) → ((c : ℕ) → number.Got c ≡ o → c ≤ 4096) → ((n : ℕ) → many.Got n ≡ k → n ≤ 1024) → ((n : ℕ) → many.Got n ≡ m → n ≤ room) → Fit room (marked_by o k m)
   fit-marked-by (number.Got c) (many.Got k) (many.Got n) f g h = record { sizes = (f c refl, g k refl, h n refl) }
   fit-marked-by (number.Got c) (many.Got k) many.Bad f g h = record { sizes = tt }
   fit-marked-by (number.Got c) many.Bad m f g h = record { sizes = tt }
   fit-marked-by number.Bad k m f g h = record { sizes = tt }
 
-  pub fit-marked : (most : ℕ) (ts : List (List ℕ)) → Fit room (markedOf room most ts)
+  pub fit-marked : (most : ℕ) (ts : List (List ℕ)) → Fit room (marked_of room most ts)
   fit-marked most [] = record { sizes = tt }
   fit-marked most (c ∷ []) = record { sizes = tt }
   fit-marked most (c ∷ r ∷ ts) =
-      fit-marked-by (capNumber c) (count_of (row_of most r)) (manyOf wholeIn room ts) (λ n e. got-most 10 4096 c e) (λ n e. row-most most r e) (λ n e. many-most wholeIn room ts e)
+      fit-marked-by (cap_number c) (count_of (row_of most r)) (many_of whole_in room ts) (λ n e. got-most 10 4096 c e) (λ n e. row-most most r e) (λ n e. many-most whole_in room ts e)
 
-  fit-sent : (o : Number) (m : Many) → ((c : ℕ) → number.Got c ≡ o → c ≤ 4096) → Fit room (sentOf o m)
+  fit-sent : (o : Number) (m : Many) → ((c : ℕ) → number.Got c ≡ o → c ≤ 4096) → Fit room (sent_of o m)
   fit-sent number.Bad m f = record { sizes = tt }
   fit-sent (number.Got c) (many.Got n) f = go (leb n 1024) refl
     where
@@ -130,4 +130,4 @@ module _ (room : ℕ) where
 
   pub fit-list : (many : ℕ) (ts : List (List ℕ)) → Fit room (list_of many ts)
   fit-list many [] = record { sizes = tt }
-  fit-list many (c ∷ ts) = fit-sent (capNumber c) (manyOf number_in many ts) (λ n e. got-most 10 4096 c e)
+  fit-list many (c ∷ ts) = fit-sent (cap_number c) (many_of number_in many ts) (λ n e. got-most 10 4096 c e)

@@ -17,33 +17,33 @@ use Rattle.text.proofs.Cut.{no_more, some_more, first-and-rest}
 use Rattle.number_lists.specs.Many.{number_in}
 use Rattle.line_fields.specs.declared.Place.{Place}
 use Rattle.line_fields.specs.declared.Place.TheVariants as place
-use Rattle.line_fields.specs.Fields.{tokensAt, Field, field_of, Gives}
+use Rattle.line_fields.specs.Fields.{tokens_at, Field, field_of, Gives}
 use Rattle.points.specs.declared.Map.{Map}
 use Rattle.points.specs.declared.Accord.{Accord}
 use Rattle.line_fields.specs.declared.map_names.Which.{Which}
 use Rattle.line_fields.specs.declared.map_names.Which.TheVariants as which
 use Rattle.requests.specs.declared.Request.{Request}
 use Rattle.requests.specs.declared.Request.TheVariants as request
-use Rattle.requests.specs.Verb.{line, onMap}
+use Rattle.requests.specs.Verb.{line, on_map}
 use Rattle.card.specs.Card.{Card}
 use Rattle.card.specs.Check.{accepts}
-use Rattle.requests.specs.Asked.{mapOf, sizesOf, cardIn, verdictOn, checkedOf, numbersOf, asked_of}
+use Rattle.requests.specs.Asked.{map_of, sizes_of, card_in, verdict_on, checked_of, numbers_of, asked_of}
 use Rattle.requests.proofs.Filling.{field_at, field-bad}
 
 module _ {s : List ℕ} {n : ℕ} (cut : Cuts 32 s n) where
-  after_first : tokensAt s (n + 1) ≡ drop 1 (tokens s)
+  after_first : tokens_at s (n + 1) ≡ drop 1 (tokens s)
   after_first = go (ℕ_discrete n (length s))
     where
-      go : Dec (n ≡ length s) → tokensAt s (n + 1) ≡ drop 1 (tokens s)
+      go : Dec (n ≡ length s) → tokens_at s (n + 1) ≡ drop 1 (tokens s)
       go (yes e) = rw (lt-leb (n + 1) (length s) (omega arith), no_more cut e)
       go (no e) = rw (le-leb (n + 1) (length s) (omega (arith, cut.within)), some_more cut e, to_end (n + 1) s)
 
-  pub no-map : which.Unread ≡ mapOf (take n s) → request.Unread ≡ asked_of (tokens s)
+  pub no-map : which.Unread ≡ map_of (take n s) → request.Unread ≡ asked_of (tokens s)
   no-map e = rw (first-and-rest cut, ← e)
 
-  module _ {m : Map} (e : which.On m ≡ mapOf (take n s)) {r : Place} {head : List ℕ} (g : Gives number_in s (n + 1) 2 r head) where
-    by-numbers : (o : Option (Field ℕ)) → field_of number_in 2 (tokensAt s (n + 1)) ≡ o → numbersOf m o ≡ asked_of (tokens s)
-    by-numbers o f = rw (first-and-rest cut, ← e) (ap (numbersOf m) (sym (ap (field_of number_in 2) (sym after_first) ∙ f)))
+  module _ {m : Map} (e : which.On m ≡ map_of (take n s)) {r : Place} {head : List ℕ} (g : Gives number_in s (n + 1) 2 r head) where
+    by-numbers : (o : Option (Field ℕ)) → field_of number_in 2 (tokens_at s (n + 1)) ≡ o → numbers_of m o ≡ asked_of (tokens s)
+    by-numbers o f = rw (first-and-rest cut, ← e) (ap (numbers_of m) (sym (ap (field_of number_in 2) (sym after_first) ∙ f)))
 
     pub no-numbers : r ≡ place.Bad → request.Unread ≡ asked_of (tokens s)
     no-numbers f = by-numbers none (field-bad g f)
@@ -52,13 +52,13 @@ module _ {s : List ℕ} {n : ℕ} (cut : Cuts 32 s n) where
       pub too_many : 64 < get_or head 1 0 → request.Unread ≡ asked_of (tokens s)
       too_many h = rw (lt-leb (get_or head 1 0) 64 h) at (by-numbers _ (field_at g f))
 
-      pub asked : get_or head 1 0 ≤ 64 → checkedOf (line m (get_or head 0 0)) (get_or head 1 0) (tokensAt s q) ≡ asked_of (tokens s)
+      pub asked : get_or head 1 0 ≤ 64 → checked_of (line m (get_or head 0 0)) (get_or head 1 0) (tokens_at s q) ≡ asked_of (tokens s)
       asked h = rw (le-leb (get_or head 1 0) 64 h) at (by-numbers _ (field_at g f))
 
 -- ---- what a line can ask for
 
 module _ (P : Request → Type 0) (verdict : (b : Bool) → P (request.Card b)) (unread : P request.Unread) where
-  of-card : (k : Accord) (o : Option Card) → P (verdictOn k o)
+  of-card : (k : Accord) (o : Option Card) → P (verdict_on k o)
   of-card k (some c) = verdict (accepts k c)
   of-card k none = unread
 
@@ -66,14 +66,14 @@ module _ (P : Request → Type 0) (verdict : (b : Bool) → P (request.Card b)) 
   of-count true r h = h
   of-count false r h = unread
 
-  of-numbers : (m : Map) (o : Option (Field ℕ)) → P (numbersOf m o)
-  of-numbers m (some f) = of-count (leb (get_or f.values 1 0) 64) _ (of-card (line m (get_or f.values 0 0)) (cardIn (sizesOf (get_or f.values 1 0)) f.rest))
+  of-numbers : (m : Map) (o : Option (Field ℕ)) → P (numbers_of m o)
+  of-numbers m (some f) = of-count (leb (get_or f.values 1 0) 64) _ (of-card (line m (get_or f.values 0 0)) (card_in (sizes_of (get_or f.values 1 0)) f.rest))
   of-numbers m none = unread
 
   pub either_way : (ts : List (List ℕ)) → P (asked_of ts)
   either_way [] = unread
-  either_way (t ∷ ts) = by (mapOf t)
+  either_way (t ∷ ts) = by (map_of t)
     where
-      by : (w : Which) → P (onMap (λ m. numbersOf m (field_of number_in 2 ts)) w)
+      by : (w : Which) → P (on_map (λ m. numbers_of m (field_of number_in 2 ts)) w)
       by (which.On m) = of-numbers m (field_of number_in 2 ts)
       by which.Unread = unread

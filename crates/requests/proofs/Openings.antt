@@ -12,29 +12,29 @@ use lib.ListN.{length, take, drop}
 use Rattle.points.specs.declared.Map.{Map}
 use Rattle.points.specs.declared.Map.TheVariants.{Round}
 use Rattle.text.specs.Bytes.{bytes}
-use Rattle.text.specs.Token.{tokens, Cuts, sameBytes}
+use Rattle.text.specs.Token.{tokens, Cuts, same_bytes}
 use Rattle.text.specs.declared.number.Number.{Number}
 use Rattle.text.specs.declared.number.Number.TheVariants as number
 use Rattle.text.proofs.Cut.{after, alone, cut_off, no_more, some_more, first-and-rest}
 use Rattle.line_fields.specs.declared.map_names.Which.{Which}
 use Rattle.line_fields.specs.declared.map_names.Which.TheVariants as which
-use Rattle.line_fields.specs.Names.{mapNamed}
+use Rattle.line_fields.specs.Names.{map_named}
 use Rattle.requests.specs.declared.Request.TheVariants as request
-use Rattle.requests.specs.Verb.{anyNumber, line, onMap, state_of, start_of, windowBy, windowOf, openBy, receiverOf}
+use Rattle.requests.specs.Verb.{any_number, line, on_map, state_of, start_of, window_by, window_of, open_by, receiver_of}
 
 module _ {s : List ℕ} {n : ℕ} (cut : Cuts 32 s n) where
   -- ---- the start
 
-  pub start-free : (u w : ℕ) {o : Which} → true ≡ sameBytes (take n s) (bytes "free") → o ≡ mapNamed (drop 1 (tokens s))
-      → onMap (λ m. request.Free (line m u) w) o ≡ start_of u w (tokens s)
+  pub start-free : (u w : ℕ) {o : Which} → true ≡ same_bytes (take n s) (bytes "free") → o ≡ map_named (drop 1 (tokens s))
+      → on_map (λ m. request.Free (line m u) w) o ≡ start_of u w (tokens s)
   start-free u w e f = rw (first-and-rest cut, ← e, f)
 
-  pub start-more : (u w : ℕ) (b : Bool) → false ≡ sameBytes (take n s) (bytes "free") → (n ≡ length s → ⊥) → b ≡ sameBytes (take n s) (bytes "at")
+  pub start-more : (u w : ℕ) (b : Bool) → false ≡ same_bytes (take n s) (bytes "free") → (n ≡ length s → ⊥) → b ≡ same_bytes (take n s) (bytes "at")
       → cond b (state_of u w (tokens (after n s))) request.Unread ≡ start_of u w (tokens s)
   start-more u w b e h f = rw (cut_off cut h, ← e, f)
 
-  pub start-alone : (u w : ℕ) → false ≡ sameBytes (take n s) (bytes "free") → n ≡ length s → request.Unread ≡ start_of u w (tokens s)
-  start-alone u w e h = rw (first-and-rest cut, ← e, no_more cut h) (none (sameBytes (take n s) (bytes "at")))
+  pub start-alone : (u w : ℕ) → false ≡ same_bytes (take n s) (bytes "free") → n ≡ length s → request.Unread ≡ start_of u w (tokens s)
+  start-alone u w e h = rw (first-and-rest cut, ← e, no_more cut h) (none (same_bytes (take n s) (bytes "at")))
     where
       none : (b : Bool) → request.Unread ≡ cond b request.Unread request.Unread
       none true = refl
@@ -42,33 +42,33 @@ module _ {s : List ℕ} {n : ℕ} (cut : Cuts 32 s n) where
 
   -- ---- the window
 
-  pub window-alone : (u : ℕ) → n ≡ length s → request.Unread ≡ windowOf u (tokens s)
-  window-alone u h = rw (alone cut h) (none (anyNumber s))
+  pub window-alone : (u : ℕ) → n ≡ length s → request.Unread ≡ window_of u (tokens s)
+  window-alone u h = rw (alone cut h) (none (any_number s))
     where
-      none : (o : Number) → request.Unread ≡ windowBy u o []
+      none : (o : Number) → request.Unread ≡ window_by u o []
       none (number.Got w) = refl
       none number.Bad = refl
 
-  pub window_more : (u : ℕ) (o : Number) → (n ≡ length s → ⊥) → o ≡ anyNumber (take n s) → windowBy u o (tokens (after n s)) ≡ windowOf u (tokens s)
+  pub window_more : (u : ℕ) (o : Number) → (n ≡ length s → ⊥) → o ≡ any_number (take n s) → window_by u o (tokens (after n s)) ≡ window_of u (tokens s)
   window_more u o h e = rw (cut_off cut h, e)
 
   -- ---- the width
 
-  pub receiver-bad : number.Bad ≡ anyNumber (take n s) → request.Unread ≡ receiverOf (tokens s)
+  pub receiver-bad : number.Bad ≡ any_number (take n s) → request.Unread ≡ receiver_of (tokens s)
   receiver-bad e = rw (first-and-rest cut, ← e)
 
-  pub more-follow : which.Unread ≡ mapNamed (drop 1 (tokens s)) → n ≡ length s → ⊥
+  pub more-follow : which.Unread ≡ map_named (drop 1 (tokens s)) → n ≡ length s → ⊥
   more-follow e h =
-      let f : which.Unread ≡ which.On Round = e ∙ ap mapNamed (no_more cut h) in
+      let f : which.Unread ≡ which.On Round = e ∙ ap map_named (no_more cut h) in
       let z : ◌≡◌ {A = ℕ} 0 1 = cc in
       omega arith
 
-  module _ {u : ℕ} (e : number.Got u ≡ anyNumber (take n s)) where
-    opened : (w : Which) → w ≡ mapNamed (drop 1 (tokens s)) → openBy u w (drop 1 (tokens s)) ≡ receiverOf (tokens s)
+  module _ {u : ℕ} (e : number.Got u ≡ any_number (take n s)) where
+    opened : (w : Which) → w ≡ map_named (drop 1 (tokens s)) → open_by u w (drop 1 (tokens s)) ≡ receiver_of (tokens s)
     opened w f = rw (first-and-rest cut, ← e, f)
 
-    pub receiver-plain : {m : Map} → which.On m ≡ mapNamed (drop 1 (tokens s)) → request.Plain (line m u) ≡ receiverOf (tokens s)
+    pub receiver-plain : {m : Map} → which.On m ≡ map_named (drop 1 (tokens s)) → request.Plain (line m u) ≡ receiver_of (tokens s)
     receiver-plain {m} f = opened (which.On m) f
 
-    pub receiver-more : which.Unread ≡ mapNamed (drop 1 (tokens s)) → windowOf u (tokens (after n s)) ≡ receiverOf (tokens s)
+    pub receiver-more : which.Unread ≡ map_named (drop 1 (tokens s)) → window_of u (tokens (after n s)) ≡ receiver_of (tokens s)
     receiver-more f = rw (← some_more cut (more-follow f)) (opened which.Unread f)

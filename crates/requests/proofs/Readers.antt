@@ -10,9 +10,9 @@ use lib.IntN.{ℤ}
 use lib.ListN.{length, take, drop}
 use lib.Seq.{take_all}
 use Rattle.text.specs.Bytes.{bytes}
-use Rattle.text.specs.Token.{tokens, lengthBefore, Cuts, sameBytes}
-use Rattle.text.specs.Number.{hexOf}
-use Rattle.number_lists.specs.Many.{wholeIn, number_in, manyOf, Lists}
+use Rattle.text.specs.Token.{tokens, length_before, Cuts, same_bytes}
+use Rattle.text.specs.Number.{hex_of}
+use Rattle.number_lists.specs.Many.{whole_in, number_in, many_of, Lists}
 use Rattle.line_fields.specs.Row.{Row}
 use Rattle.number_lists.specs.declared.Many.{Many}
 use Rattle.text.specs.declared.number.Number.{Number}
@@ -21,34 +21,34 @@ use Rattle.text.proofs.Tokens.{last-token, more-tokens, first-token, not-empty, 
 use Rattle.text.proofs.Cut.{after, alone, cut_off}
 use Rattle.requests.specs.declared.Request.{Request}
 use Rattle.requests.specs.declared.Request.TheVariants as request
-use Rattle.requests.specs.Verb.{anyNumber, capNumber, just, both, one, two, coordinateFills, markedFills, marksAfter, marksOf, listFills}
-use Rattle.requests.specs.Verb.{heardOf, piece_of, markedBy, markedAfter, markedOf, sentOf, list_of, sampleOf}
+use Rattle.requests.specs.Verb.{any_number, cap_number, just, both, one, two, coordinate_fills, marked_fills, marks_after, marks_of, list_fills}
+use Rattle.requests.specs.Verb.{heard_of, piece_of, marked_by, marked_after, marked_of, sent_of, list_of, sample_of}
 
 -- what reads a token, and refuses a text with a space
 pub record Reader (p : List ℕ → Number) : Type 0 where
-  pub refuses : (s : List ℕ) → lengthBefore 32 s < length s → number.Bad ≡ p s
+  pub refuses : (s : List ℕ) → length_before 32 s < length s → number.Bad ≡ p s
 
-pub any-reader : Reader anyNumber
+pub any-reader : Reader any_number
 any-reader = record { refuses = spaced-number 10 (omega arith) 4294967295 }
 
-pub cap-reader : Reader capNumber
+pub cap-reader : Reader cap_number
 cap-reader = record { refuses = spaced-number 10 (omega arith) 4096 }
 
-pub hex-reader : Reader hexOf
+pub hex-reader : Reader hex_of
 hex-reader = record { refuses = spaced-hex }
 
 -- g of a text, where g refuses more than one token, is g of the one token
-only_one : (g : List ℕ → Request) (s : List ℕ) → (lengthBefore 32 s < length s → g s ≡ request.Unread) → g s ≡ one g (tokens s)
-only_one g s h = by (ltb (lengthBefore 32 s) (length s)) refl where
+only_one : (g : List ℕ → Request) (s : List ℕ) → (length_before 32 s < length s → g s ≡ request.Unread) → g s ≡ one g (tokens s)
+only_one g s h = by (ltb (length_before 32 s) (length s)) refl where
   many : (t : List ℕ) (ts : List (List ℕ)) → (length ts ≡ 0 → ⊥) → one g (t ∷ ts) ≡ request.Unread
   many t [] f = absurd (f refl)
   many t (t' ∷ ts) f = refl
 
-  by : (b : Bool) → ltb (lengthBefore 32 s) (length s) ≡ b → g s ≡ one g (tokens s)
+  by : (b : Bool) → ltb (length_before 32 s) (length s) ≡ b → g s ≡ one g (tokens s)
   by true e =
-      let less : lengthBefore 32 s < length s = ltb-true _ _ e in
-      h less ∙ sym (rw (more-tokens s less) (many (take (lengthBefore 32 s) s) (tokens (drop (suc (lengthBefore 32 s)) s)) (not-empty (drop (suc (lengthBefore 32 s)) s))))
-  by false e = rw (last-token s (omega (arith, ltb-false (lengthBefore 32 s) (length s) e, at-most-all 32 s)))
+      let less : length_before 32 s < length s = ltb-true _ _ e in
+      h less ∙ sym (rw (more-tokens s less) (many (take (length_before 32 s) s) (tokens (drop (suc (length_before 32 s)) s)) (not-empty (drop (suc (length_before 32 s)) s))))
+  by false e = rw (last-token s (omega (arith, ltb-false (length_before 32 s) (length s) e, at-most-all 32 s)))
 
 module _ {p : List ℕ → Number} (reads : Reader p) where
   pub one-read : (f : ℕ → Request) (s : List ℕ) {o : Number} → o ≡ p s → just f o ≡ one (λ t. just f (p t)) (tokens s)
@@ -69,38 +69,38 @@ module _ {s : List ℕ} {n : ℕ} (cut : Cuts 32 s n) where
   two-alone g h = rw (alone cut h)
 
   -- the cap, and what stands after it
-  pub piece-read : (room : ℕ) {o : Number} {m : Many} {r : Request} → o ≡ capNumber (take n s) → m ≡ manyOf wholeIn room (drop 1 (tokens s)) → r ≡ heardOf o m → r ≡ piece_of room (tokens s)
+  pub piece-read : (room : ℕ) {o : Number} {m : Many} {r : Request} → o ≡ cap_number (take n s) → m ≡ many_of whole_in room (drop 1 (tokens s)) → r ≡ heard_of o m → r ≡ piece_of room (tokens s)
   piece-read room e f g = g ∙ rw (e, f, (first-token s n cut.is).1)
 
   pub marked-alone : (list : List ℤ) (marks : List ℕ) → n ≡ length s
-      → (request.Unread ≡ markedOf (length list) (length marks) (tokens s)) × ((list ≡ markedFills (tokens s) list) × (marks ≡ marksOf (tokens s) marks))
+      → (request.Unread ≡ marked_of (length list) (length marks) (tokens s)) × ((list ≡ marked_fills (tokens s) list) × (marks ≡ marks_of (tokens s) marks))
   marked-alone list marks h = (rw (alone cut h), (rw (alone cut h), rw (alone cut h)))
 
   -- the marks, and what stands after them
-  pub marked-after : (room : ℕ) (cap : Number) {marks marks' : List ℕ} {k m : Many} {r : Request} → Row (take n s) marks k marks' → m ≡ manyOf wholeIn room (drop 1 (tokens s)) → r ≡ markedBy cap k m
-      → (r ≡ markedAfter room (length marks) cap (tokens s)) × (marks' ≡ marksAfter (tokens s) marks)
+  pub marked-after : (room : ℕ) (cap : Number) {marks marks' : List ℕ} {k m : Many} {r : Request} → Row (take n s) marks k marks' → m ≡ many_of whole_in room (drop 1 (tokens s)) → r ≡ marked_by cap k m
+      → (r ≡ marked_after room (length marks) cap (tokens s)) × (marks' ≡ marks_after (tokens s) marks)
   marked-after room cap row f g = (g ∙ rw (row.count, f, (first-token s n cut.is).1), row.filled ∙ rw (first-token s n cut.is).1)
 
-  pub marked-read : (list : List ℤ) (marks : List ℕ) {cap : Number} {list' : List ℤ} {marks' : List ℕ} {r : Request} → (n ≡ length s → ⊥) → cap ≡ capNumber (take n s)
-      → r ≡ markedAfter (length list) (length marks) cap (tokens (after n s)) → list' ≡ coordinateFills (drop 1 (tokens (after n s))) list → marks' ≡ marksAfter (tokens (after n s)) marks
-      → (r ≡ markedOf (length list) (length marks) (tokens s)) × ((list' ≡ markedFills (tokens s) list) × (marks' ≡ marksOf (tokens s) marks))
+  pub marked-read : (list : List ℤ) (marks : List ℕ) {cap : Number} {list' : List ℤ} {marks' : List ℕ} {r : Request} → (n ≡ length s → ⊥) → cap ≡ cap_number (take n s)
+      → r ≡ marked_after (length list) (length marks) cap (tokens (after n s)) → list' ≡ coordinate_fills (drop 1 (tokens (after n s))) list → marks' ≡ marks_after (tokens (after n s)) marks
+      → (r ≡ marked_of (length list) (length marks) (tokens s)) × ((list' ≡ marked_fills (tokens s) list) × (marks' ≡ marks_of (tokens s) marks))
   marked-read list marks h e f g k = (f ∙ rw (e, cut_off cut h), (g ∙ rw (cut_off cut h), k ∙ rw (cut_off cut h)))
 
-  pub sample-alone : (b : Bool) → n ≡ length s → b ≡ sameBytes s (bytes "missing") → cond b request.Missing request.Unread ≡ sampleOf (tokens s)
+  pub sample-alone : (b : Bool) → n ≡ length s → b ≡ same_bytes s (bytes "missing") → cond b request.Missing request.Unread ≡ sample_of (tokens s)
   sample-alone b h e = rw (alone cut h, e)
 
-  pub sample-more : (n ≡ length s → ⊥) → two (λ x y. both request.Sample (hexOf x) (hexOf y)) (tokens s) ≡ sampleOf (tokens s)
+  pub sample-more : (n ≡ length s → ⊥) → two (λ x y. both request.Sample (hex_of x) (hex_of y)) (tokens s) ≡ sample_of (tokens s)
   sample-more h = rw (cut_off cut h) (more (tokens (after n s)) (not-empty (after n s))) where
-    more : (ts : List (List ℕ)) → (length ts ≡ 0 → ⊥) → two (λ x y. both request.Sample (hexOf x) (hexOf y)) (take n s ∷ ts) ≡ sampleOf (take n s ∷ ts)
+    more : (ts : List (List ℕ)) → (length ts ≡ 0 → ⊥) → two (λ x y. both request.Sample (hex_of x) (hex_of y)) (take n s ∷ ts) ≡ sample_of (take n s ∷ ts)
     more [] g = absurd (g refl)
     more (t ∷ ts) g = refl
 
-  pub list-bad : (list : List ℕ) → number.Bad ≡ capNumber (take n s) → (request.Unread ≡ list_of (length list) (tokens s)) × (list ≡ listFills (tokens s) list)
+  pub list-bad : (list : List ℕ) → number.Bad ≡ cap_number (take n s) → (request.Unread ≡ list_of (length list) (tokens s)) × (list ≡ list_fills (tokens s) list)
   list-bad list e = (rw ((first-token s n cut.is).1, ← e), rw ((first-token s n cut.is).1, ← e))
 
-  pub list-alone : (list : List ℕ) {c : ℕ} → n ≡ length s → number.Got c ≡ capNumber (take n s) → (request.List c 0 ≡ list_of (length list) (tokens s)) × (list ≡ listFills (tokens s) list)
+  pub list-alone : (list : List ℕ) {c : ℕ} → n ≡ length s → number.Got c ≡ cap_number (take n s) → (request.List c 0 ≡ list_of (length list) (tokens s)) × (list ≡ list_fills (tokens s) list)
   list-alone list h e = (rw (alone cut h, ← whole h) (rw (← e)), rw (alone cut h, ← whole h) (rw (← e)))
 
-  pub list-more : {list list' : List ℕ} {c : ℕ} {m : Many} {r : Request} → (n ≡ length s → ⊥) → number.Got c ≡ capNumber (take n s) → Lists number_in (after n s) list m list'
-      → r ≡ sentOf (number.Got c) m → (r ≡ list_of (length list) (tokens s)) × (list' ≡ listFills (tokens s) list)
+  pub list-more : {list list' : List ℕ} {c : ℕ} {m : Many} {r : Request} → (n ≡ length s → ⊥) → number.Got c ≡ cap_number (take n s) → Lists number_in (after n s) list m list'
+      → r ≡ sent_of (number.Got c) m → (r ≡ list_of (length list) (tokens s)) × (list' ≡ list_fills (tokens s) list)
   list-more h e l f = (f ∙ rw (cut_off cut h, ← e, l.answer), rw (cut_off cut h, ← e) l.filled)

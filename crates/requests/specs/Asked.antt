@@ -1,17 +1,17 @@
 -- What the tokens after the verb `card` ask for: "`card MAP U N`, then the 4N coordinates, N + 1 states, 6N symbol numbers, 16(N + 1)
 -- numbers, all decimal". Definitions only; the fields are those of `line_fields`, the check is that of `card`.
---   mapOf t              "MAP `round` or `square`"
---   Sizes, sizesOf n     how long the four lists of a card are, and those of n symbols
---   cardIn z ts          the card that the tokens ts write, all of them: "the wrong count of tokens is `?`"
+--   map_of t              "MAP `round` or `square`"
+--   Sizes, sizes_of n     how long the four lists of a card are, and those of n symbols
+--   card_in z ts          the card that the tokens ts write, all of them: "the wrong count of tokens is `?`"
 --   Fills z ts r c       whether they write one, and the lists that hold it, each as long as it was
---   checkedOf k n ts     the verdict on a card of n symbols
+--   checked_of k n ts     the verdict on a card of n symbols
 --   asked_of ts           a map, a width and a count, "N above 64 is `?`", and the lists
 use Rattle.std.specs.Prelude.{ℕ, ◌+◌, ◌*◌, ◌≡◌, Bool, true, false, cond, List, [], ◌∷◌, leb, length, get_or}
 use Rattle.std.proofs.Math.Option.{Option, none, some}
 use Rattle.text.specs.Bytes.{bytes}
-use Rattle.text.specs.Token.{sameBytes}
-use Rattle.number_lists.specs.Many.{wholeIn, number_in}
-use Rattle.line_fields.specs.Fields.{Field, field_of, wideIn}
+use Rattle.text.specs.Token.{same_bytes}
+use Rattle.number_lists.specs.Many.{whole_in, number_in}
+use Rattle.line_fields.specs.Fields.{Field, field_of, wide_in}
 use Rattle.points.specs.declared.Map.{Map}
 use Rattle.points.specs.declared.Map.TheVariants.{Round, Square}
 use Rattle.points.specs.declared.Accord.{Accord}
@@ -19,13 +19,13 @@ use Rattle.line_fields.specs.declared.map_names.Which.{Which}
 use Rattle.line_fields.specs.declared.map_names.Which.TheVariants as which
 use Rattle.requests.specs.declared.Request.{Request}
 use Rattle.requests.specs.declared.Request.TheVariants as request
-use Rattle.requests.specs.Verb.{line, onMap}
+use Rattle.requests.specs.Verb.{line, on_map}
 use Rattle.card.specs.Card.{Card}
 use Rattle.card.specs.Check.{accepts}
-use Rattle.card.specs.Promise.{cardOf}
+use Rattle.card.specs.Promise.{card_of}
 
-abbrev pub mapOf : List ℕ → Which
-mapOf t = cond (sameBytes t (bytes "round")) (which.On Round) (cond (sameBytes t (bytes "square")) (which.On Square) which.Unread)
+abbrev pub map_of : List ℕ → Which
+map_of t = cond (same_bytes t (bytes "round")) (which.On Round) (cond (same_bytes t (bytes "square")) (which.On Square) which.Unread)
 
 pub record Sizes : Type 0 where
   pub coordinates : ℕ
@@ -36,8 +36,8 @@ pub record Sizes : Type 0 where
 abbrev pub sizes : ℕ → ℕ → ℕ → ℕ → Sizes
 sizes a b c d = record { coordinates = a; states = b; symbols = c; numbers = d }
 
-abbrev pub sizesOf : ℕ → Sizes
-sizesOf n = sizes (4 * n) (n + 1) (6 * n) (16 * (n + 1))
+abbrev pub sizes_of : ℕ → Sizes
+sizes_of n = sizes (4 * n) (n + 1) (6 * n) (16 * (n + 1))
 
 -- a field, and what is made of it and of the tokens after it
 abbrev pub and_then : {A B : Type 0} → Option (Field A) → (List A → List (List ℕ) → Option B) → Option B
@@ -49,35 +49,35 @@ abbrev pub ended : Card → List (List ℕ) → Option Card
 ended c [] = some c
 ended c (t ∷ ts) = none
 
-abbrev pub cardIn : Sizes → List (List ℕ) → Option Card
-cardIn z ts =
-    and_then (field_of wholeIn z.coordinates ts) (λ xs ts.
+abbrev pub card_in : Sizes → List (List ℕ) → Option Card
+card_in z ts =
+    and_then (field_of whole_in z.coordinates ts) (λ xs ts.
     and_then (field_of number_in z.states ts) (λ ss ts.
     and_then (field_of number_in z.symbols ts) (λ cs ts.
-    and_then (field_of wideIn z.numbers ts) (λ ns ts.
-    ended (cardOf xs ss cs ns) ts))))
+    and_then (field_of wide_in z.numbers ts) (λ ns ts.
+    ended (card_of xs ss cs ns) ts))))
 
 abbrev pub held : Bool → Card → Option Card
 held true c = some c
 held false c = none
 
 pub record Fills (z : Sizes) (ts : List (List ℕ)) (r : Bool) (c : Card) : Type 0 where
-  pub card : held r c ≡ cardIn z ts
+  pub card : held r c ≡ card_in z ts
   pub long : sizes (length c.coordinates) (length c.states) (length c.symbols) (length c.numbers) ≡ z
 
-abbrev pub verdictOn : Accord → Option Card → Request
-verdictOn k (some c) = request.Card (accepts k c)
-verdictOn k none = request.Unread
+abbrev pub verdict_on : Accord → Option Card → Request
+verdict_on k (some c) = request.Card (accepts k c)
+verdict_on k none = request.Unread
 
-abbrev pub checkedOf : Accord → ℕ → List (List ℕ) → Request
-checkedOf k n ts = verdictOn k (cardIn (sizesOf n) ts)
+abbrev pub checked_of : Accord → ℕ → List (List ℕ) → Request
+checked_of k n ts = verdict_on k (card_in (sizes_of n) ts)
 
-abbrev pub numbersOf : Map → Option (Field ℕ) → Request
-numbersOf m (some f) =
+abbrev pub numbers_of : Map → Option (Field ℕ) → Request
+numbers_of m (some f) =
     let n = get_or f.values 1 0 in
-    cond (leb n 64) (checkedOf (line m (get_or f.values 0 0)) n f.rest) request.Unread
-numbersOf m none = request.Unread
+    cond (leb n 64) (checked_of (line m (get_or f.values 0 0)) n f.rest) request.Unread
+numbers_of m none = request.Unread
 
 abbrev pub asked_of : List (List ℕ) → Request
 asked_of [] = request.Unread
-asked_of (m ∷ ts) = onMap (λ m. numbersOf m (field_of number_in 2 ts)) (mapOf m)
+asked_of (m ∷ ts) = on_map (λ m. numbers_of m (field_of number_in 2 ts)) (map_of m)

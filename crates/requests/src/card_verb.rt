@@ -5,9 +5,9 @@
 // The lists are read by `line_fields`; specs/Asked.antt says which lines there are. The file is not named after the verb alone, since `card` is a crate.
 ghost use Rattle.std.specs.Prelude.{◌≡◌, ◌≤◌, length};
 ghost use Rattle.text.specs.Token.{tokens};
-ghost use Rattle.line_fields.specs.Fields.{tokensAt};
-ghost use Rattle.card.specs.Promise.{cardOf};
-ghost use Rattle.requests.specs.Asked.{mapOf, sizes, cardIn, Fills, verdictOn, checkedOf, asked_of};
+ghost use Rattle.line_fields.specs.Fields.{tokens_at};
+ghost use Rattle.card.specs.Promise.{card_of};
+ghost use Rattle.requests.specs.Asked.{map_of, sizes, card_in, Fills, verdict_on, checked_of, asked_of};
 
 use crate::Request;
 use line_fields::Place;
@@ -16,7 +16,7 @@ use points::{Accord, Map};
 use text::token;
 
 fn map_of(token: &[u8]) -> Which
-    ensures { result ≡ mapOf token.now }
+    ensures { result ≡ map_of token.now }
 {
     if token::same(token, b"round") {
         return Which::On(Map::Round);
@@ -37,7 +37,7 @@ fn fill(
     numbers: &mut [u64],
 ) -> bool
     ensures { Fills (sizes (length coordinates.old) (length states.old) (length symbols.old) (length numbers.old))
-        (tokensAt s.now at) result (cardOf coordinates.new states.new symbols.new numbers.new) }
+        (tokens_at s.now at) result (card_of coordinates.new states.new symbols.new numbers.new) }
 {
     let Place::At(a) = line_fields::signed(s, at, coordinates) else {
         return false;
@@ -64,8 +64,8 @@ fn verdict(
     symbols: &mut [u32],
     numbers: &mut [u64],
 ) -> Request
-    ensures { result ≡ verdictOn k (cardIn (sizes (length coordinates.old) (length states.old) (length symbols.old) (length numbers.old))
-        (tokensAt s.now at)) }
+    ensures { result ≡ verdict_on k (card_in (sizes (length coordinates.old) (length states.old) (length symbols.old) (length numbers.old))
+        (tokens_at s.now at)) }
 {
     if !fill(s, at, coordinates, states, symbols, numbers) {
         return Request::Unread;
@@ -78,7 +78,7 @@ fn verdict(
 // The check of a card of n symbols, whose lists stand from the place `at` on.
 fn checked(s: &[u8], at: usize, k: Accord, n: usize) -> Request
     requires { n ≤ 64 }
-    ensures { result ≡ checkedOf k n (tokensAt s.now at) }
+    ensures { result ≡ checked_of k n (tokens_at s.now at) }
 {
     let mut coordinates = [0i32; 256];
     let mut states = [0u32; 65];

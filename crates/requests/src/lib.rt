@@ -15,8 +15,8 @@ pub mod sender;
 
 ghost use Rattle.std.specs.Prelude.{◌≡◌, length, drop};
 ghost use Rattle.text.specs.Token.{tokens, Cuts};
-ghost use Rattle.number_lists.specs.Many.{wholeIn, manyOf};
-ghost use Rattle.requests.specs.Verb.{anyNumber, capNumber, coordinateFills};
+ghost use Rattle.number_lists.specs.Many.{whole_in, many_of};
+ghost use Rattle.requests.specs.Verb.{any_number, cap_number, coordinate_fills};
 
 use number_lists::Many;
 use points::Accord;
@@ -89,13 +89,13 @@ const MOST_WORDS: usize = 1024;
 const MOST: u32 = 4096;
 
 pub fn number_of(token: &[u8]) -> Number
-    ensures { result ≡ anyNumber token.now }
+    ensures { result ≡ any_number token.now }
 {
     number::decimal(token, 4294967295)
 }
 
 fn cap_of(token: &[u8]) -> Number
-    ensures { result ≡ capNumber token.now }
+    ensures { result ≡ cap_number token.now }
 {
     number::decimal(token, MOST)
 }
@@ -103,8 +103,8 @@ fn cap_of(token: &[u8]) -> Number
 // The coordinates that stand after the first token, which ends at n: none where the text ends there.
 fn coordinates_after(rest: &[u8], n: usize, list: &mut [i32]) -> Many
     requires { Cuts 32 rest.now n }
-    ensures value { result ≡ manyOf wholeIn (length list.old) (drop 1 (tokens rest.now)) }
-    ensures list_after { list.new ≡ coordinateFills (drop 1 (tokens rest.now)) list.old }
+    ensures value { result ≡ many_of whole_in (length list.old) (drop 1 (tokens rest.now)) }
+    ensures list_after { list.new ≡ coordinate_fills (drop 1 (tokens rest.now)) list.old }
 {
     if n == rest.len() {
         return Many::Got(0);

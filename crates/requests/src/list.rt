@@ -1,7 +1,7 @@
 // `list CAP W W ..`: the number of an output, and then nothing or words, which go to the start of the list that is lent.
 ghost use Rattle.std.specs.Prelude.{◌≡◌, length};
 ghost use Rattle.text.specs.Token.{tokens};
-ghost use Rattle.requests.specs.Verb.{list_of, listFills};
+ghost use Rattle.requests.specs.Verb.{list_of, list_fills};
 
 use crate::Request;
 use number_lists::Many;
@@ -10,7 +10,7 @@ use text::token;
 
 pub fn read(rest: &[u8], words: &mut [u32]) -> Request
     ensures value { result ≡ list_of (length words.old) (tokens rest.now) }
-    ensures words_after { words.new ≡ listFills (tokens rest.now) words.old }
+    ensures words_after { words.new ≡ list_fills (tokens rest.now) words.old }
 {
     let n = token::before(rest, b' ');
     let Number::Got(cap) = crate::cap_of(&rest[..n]) else {

@@ -1,7 +1,7 @@
 // `piece CAP C C C C ..`: the number of an output, and then nothing or coordinates, which go to the start of the list that is lent.
 ghost use Rattle.std.specs.Prelude.{◌≡◌, length};
 ghost use Rattle.text.specs.Token.{tokens};
-ghost use Rattle.requests.specs.Verb.{heardOf, piece_of, pieceFills};
+ghost use Rattle.requests.specs.Verb.{heard_of, piece_of, piece_fills};
 
 use crate::Request;
 use number_lists::Many;
@@ -9,7 +9,7 @@ use text::number::Number;
 use text::token;
 
 fn heard(cap: Number, coordinates: Many) -> Request
-    ensures { result ≡ heardOf cap coordinates }
+    ensures { result ≡ heard_of cap coordinates }
 {
     let Number::Got(cap) = cap else {
         return Request::Unread;
@@ -22,7 +22,7 @@ fn heard(cap: Number, coordinates: Many) -> Request
 
 pub fn read(rest: &[u8], coordinates: &mut [i32]) -> Request
     ensures value { result ≡ piece_of (length coordinates.old) (tokens rest.now) }
-    ensures coordinates_after { coordinates.new ≡ pieceFills (tokens rest.now) coordinates.old }
+    ensures coordinates_after { coordinates.new ≡ piece_fills (tokens rest.now) coordinates.old }
 {
     let n = token::before(rest, b' ');
     let cap = crate::cap_of(&rest[..n]);

@@ -2,7 +2,7 @@
 // a window and a start after it, and ` square` at the end for the square map. specs/Verb.antt says what the verb asks for.
 ghost use Rattle.std.specs.Prelude.{◌≡◌};
 ghost use Rattle.text.specs.Token.{tokens};
-ghost use Rattle.requests.specs.Verb.{state_of, start_of, windowOf, receiverOf};
+ghost use Rattle.requests.specs.Verb.{state_of, start_of, window_of, receiver_of};
 
 use crate::Request;
 use line_fields::map_names::{Numbered, Which};
@@ -48,7 +48,7 @@ fn start(u: u32, window: u32, rest: &[u8]) -> Request
 }
 
 fn window(u: u32, rest: &[u8]) -> Request
-    ensures { result ≡ windowOf u (tokens rest.now) }
+    ensures { result ≡ window_of u (tokens rest.now) }
 {
     let n = token::before(rest, b' ');
     if n == rest.len() {
@@ -62,7 +62,7 @@ fn window(u: u32, rest: &[u8]) -> Request
 
 // Nothing or a map after the width is the plain opening; else more than one token follows, or one that is none.
 pub fn read(rest: &[u8]) -> Request
-    ensures { result ≡ receiverOf (tokens rest.now) }
+    ensures { result ≡ receiver_of (tokens rest.now) }
 {
     let n = token::before(rest, b' ');
     let Number::Got(u) = crate::number_of(&rest[..n]) else {

@@ -1,14 +1,14 @@
 // `sample HEX HEX`: the bits of two floats; `sample missing`: none. The digits are read by `text`.
 ghost use Rattle.std.specs.Prelude.{◌≡◌};
 ghost use Rattle.text.specs.Token.{tokens};
-ghost use Rattle.requests.specs.Verb.{sampleOf};
+ghost use Rattle.requests.specs.Verb.{sample_of};
 
 use crate::Request;
 use text::number::Number;
 use text::{number, token};
 
 pub fn read(rest: &[u8]) -> Request
-    ensures { result ≡ sampleOf (tokens rest.now) }
+    ensures { result ≡ sample_of (tokens rest.now) }
 {
     let n = token::before(rest, b' ');
     if n == rest.len() {

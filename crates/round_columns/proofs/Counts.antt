@@ -19,17 +19,17 @@ use mir.Val.{SFits, Fits, to_z, of_z}
 use mir.Facts.{to_z-of_z}
 use Rattle.points.specs.Points.{mod4}
 use Rattle.points.proofs.Signed.{fits, reads}
-use Rattle.round_places.specs.Places.{standOf}
-use Rattle.round_columns.specs.Cells.{count_of, apartOf, Counted}
+use Rattle.round_places.specs.Places.{stand_of}
+use Rattle.round_columns.specs.Cells.{count_of, apart_of, Counted}
 
-sub-size : (a b : ℕ) → nat_abs (sub_ℕ a b) ≡ apartOf a b
+sub-size : (a b : ℕ) → nat_abs (sub_ℕ a b) ≡ apart_of a b
 sub-size a b = go (ltb a b) refl
   where
-    go : (t : Bool) → ltb a b ≡ t → nat_abs (cond t (negsuc (b - suc a)) (pos (a - b))) ≡ apartOf a b
+    go : (t : Bool) → ltb a b ≡ t → nat_abs (cond t (negsuc (b - suc a)) (pos (a - b))) ≡ apart_of a b
     go true e = let h = ltb-true a b e in omega arith
     go false e = let h = ltb-false a b e in omega arith
 
-minus-size : (x y : ℤ) → nat_abs x ≤ 12160 → nat_abs y ≤ 12160 → nat_abs (x -ℤ y) ≡ apartOf (count_of x) (count_of y)
+minus-size : (x y : ℤ) → nat_abs x ≤ 12160 → nat_abs y ≤ 12160 → nat_abs (x -ℤ y) ≡ apart_of (count_of x) (count_of y)
 minus-size (pos a) (pos zero) g h = omega arith
 minus-size (pos a) (pos (suc b)) g h = omega (arith, sub-size a (suc b))
 minus-size (pos a) (negsuc b) g h = omega arith
@@ -41,14 +41,14 @@ neg-count : (m : ℕ) → m ≤ 12160 → (count_of (neg_ℤ (pos m)) ≡ 12160 
 neg-count zero h = (refl, refl)
 neg-count (suc m) h = (omega arith, refl)
 
-scaled : (c : ℤ) → nat_abs c ≤ 39 → (count_of (pos 128 *ℤ c) ≡ 128 * standOf c) × (nat_abs (pos 128 *ℤ c) ≤ 12160)
+scaled : (c : ℤ) → nat_abs c ≤ 39 → (count_of (pos 128 *ℤ c) ≡ 128 * stand_of c) × (nat_abs (pos 128 *ℤ c) ≤ 12160)
 scaled (pos n) h = (omega arith, omega arith)
 scaled (negsuc n) h = let e = neg-count (128 * suc n) (omega arith) in (omega (arith, e.0), omega (arith, e.1))
 
-pub away : (z c : ℤ) → nat_abs z ≤ 8192 → nat_abs c ≤ 39 → nat_abs (z -ℤ pos 128 *ℤ c) ≡ apartOf (count_of z) (128 * standOf c)
+pub away : (z c : ℤ) → nat_abs z ≤ 8192 → nat_abs c ≤ 39 → nat_abs (z -ℤ pos 128 *ℤ c) ≡ apart_of (count_of z) (128 * stand_of c)
 away z c g h =
     let e = scaled c h in
-    minus-size z (pos 128 *ℤ c) (omega arith) e.1 ∙ ap (apartOf (count_of z)) e.0
+    minus-size z (pos 128 *ℤ c) (omega arith) e.1 ∙ ap (apart_of (count_of z)) e.0
 
 pub count-in : (z : ℤ) → nat_abs z ≤ 8192 → Counted (count_of z)
 count-in (pos n) h = record { low = omega arith; high = omega arith }
@@ -60,7 +60,7 @@ count-mirror (pos (suc n)) h = omega arith
 count-mirror (negsuc n) h = omega arith
 
 -- a coordinate of an A point stands at a multiple of 4
-pub stand-fours : (c : ℤ) → mod4 c ≡ 1 → nat_abs c ≤ 39 → standOf c % 4 ≡ 0
+pub stand-fours : (c : ℤ) → mod4 c ≡ 1 → nat_abs c ≤ 39 → stand_of c % 4 ≡ 0
 stand-fours (pos n) e h = omega arith
 stand-fours (negsuc n) e h = omega arith
 

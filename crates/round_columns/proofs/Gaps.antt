@@ -7,7 +7,7 @@ use Prim.Native.Nat.{ℕ, ◌+◌, ◌-◌, ◌*◌, ◌≤◌, ◌<◌}
 use native.Mathlib.Nat.{mul-le-mul, add-mul, mul-add, mul_assoc, mul_comm, mul_left_comm}
 use native.Mathlib.Decide.{dec_lt}
 use native.Mathlib.Omega.{arith}
-use Rattle.round_columns.specs.Cells.{apartOf, gap_of, Placed}
+use Rattle.round_columns.specs.Cells.{apart_of, gap_of, Placed}
 
 -- (b + k)² is at least 1024 above b²
 squares-apart : (b k : ℕ) → 2 ≤ k → 512 ≤ b + k + b → b * b + 1024 ≤ (b + k) * (b + k)
@@ -34,21 +34,21 @@ module _ (v n r : ℕ) (p : Placed v n r) (j : ℕ) where
       subst (λ (m : ℕ). b * b + 1024 ≤ m * m) e (squares-apart b (a - b) k s)
 
 -- the square of a difference, by both products
-apart-square : (a b : ℕ) → apartOf a b * apartOf a b + 2 * (a * b) ≡ a * a + b * b
+apart-square : (a b : ℕ) → apart_of a b * apart_of a b + 2 * (a * b) ≡ a * a + b * b
 apart-square a b = go (dec_lt a b)
   where
     -- d more than n
     more : (n d : ℕ) → d * d + 2 * (n * (n + d)) ≡ n * n + (n + d) * (n + d)
     more n d = omega (arith, mul-add n n d, add-mul n d (n + d), mul-add d n d, mul_comm d n)
 
-    go : Dec (a < b) → apartOf a b * apartOf a b + 2 * (a * b) ≡ a * a + b * b
+    go : Dec (a < b) → apart_of a b * apart_of a b + 2 * (a * b) ≡ a * a + b * b
     go (yes h) =
         let e : b ≡ a + (b - a) = omega arith in
-        let f : apartOf a b ≡ b - a = omega arith in
+        let f : apart_of a b ≡ b - a = omega arith in
         rw f (subst (λ (n : ℕ). (b - a) * (b - a) + 2 * (a * n) ≡ a * a + n * n) (sym e) (more a (b - a)))
     go (no h) =
         let e : a ≡ b + (a - b) = omega arith in
-        let f : apartOf a b ≡ a - b = omega arith in
+        let f : apart_of a b ≡ a - b = omega arith in
         let g = subst (λ (n : ℕ). (a - b) * (a - b) + 2 * (b * n) ≡ b * b + n * n) (sym e) (more b (a - b)) in
         rw f (omega (arith, g, mul_comm a b))
 

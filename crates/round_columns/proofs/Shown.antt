@@ -15,10 +15,10 @@ use lib.Dec.{ltb}
 use lib.ListN.{get_or}
 use lib.Pow.{pow_mono}
 use Rattle.round_places.specs.Places.{listed, Wide, index_of, number_at, first_of}
-use Rattle.round_places.proofs.Rule.{columnIn, row_in, in_table, shown-stands, rows-rise, columns-rise, moved-within, inner-small}
+use Rattle.round_places.proofs.Rule.{column_in, row_in, in_table, shown-stands, rows-rise, columns-rise, moved-within, inner-small}
 use Rattle.round_columns.specs.declared.View.{View}
-use Rattle.round_columns.specs.Cells.{Counted, apartOf, gap_of, key_of, LeastKey, side_of, plainView, plain, turned, off_of, Placed, Outside, Near}
-use Rattle.round_columns.specs.Cells.{place_of, steps_of, nearNumber}
+use Rattle.round_columns.specs.Cells.{Counted, apart_of, gap_of, key_of, LeastKey, side_of, plain_view, plain, turned, off_of, Placed, Outside, Near}
+use Rattle.round_columns.specs.Cells.{place_of, steps_of, near_number}
 use Rattle.round_columns.proofs.Gaps.{near_le, near-far}
 use Rattle.round_columns.proofs.Views.{side-in, beside, index-plain, index-turned, plain-right, plain_moved, listed_below}
 
@@ -30,10 +30,10 @@ module _ (v f : ℕ) where
   left-aim : v + f ≡ 12288 → f < 4865 → (v + 256) / 512 + (f + 255) / 512 ≡ 24
   left-aim e h = omega arith
 
-  right-gap : (c : ℕ) → v ≡ 12288 + f → apartOf v (512 * (24 + c)) ≡ gap_of f c
+  right-gap : (c : ℕ) → v ≡ 12288 + f → apart_of v (512 * (24 + c)) ≡ gap_of f c
   right-gap c e = omega arith
 
-  left-gap : (p c : ℕ) → v + f ≡ 12288 → p + c ≡ 24 → apartOf v (512 * p) ≡ gap_of f c
+  left-gap : (p c : ℕ) → v + f ≡ 12288 → p + c ≡ 24 → apart_of v (512 * p) ≡ gap_of f c
   left-gap p c e h = omega arith
 
   near-gap : gap_of f ((f + 255) / 512) ≤ 256
@@ -43,14 +43,14 @@ record Aimed (v place back far : ℕ) : Type 0 where
   in-ten : (far + 255) / 512 < 10
   place_is : place ≡ beside back ((far + 255) / 512)
   place_in : (15 ≤ place) × (place ≤ 33)
-  gap_is : apartOf v (512 * place) ≡ gap_of far ((far + 255) / 512)
+  gap_is : apart_of v (512 * place) ≡ gap_of far ((far + 255) / 512)
 
 aimed : (v : ℕ) → Near v → Aimed v (place_of v) (side_of v).back (side_of v).far
 aimed v n = go (ltb v 12288) refl
   where
-    go : (t : Bool) → ltb v 12288 ≡ t → Aimed v (cond t ((v + 256) / 512) ((v + 255) / 512)) (cond t 1 0) (apartOf v 12288)
+    go : (t : Bool) → ltb v 12288 ≡ t → Aimed v (cond t ((v + 256) / 512) ((v + 255) / 512)) (cond t 1 0) (apart_of v 12288)
     go true e =
-        let f = apartOf v 12288 in
+        let f = apart_of v 12288 in
         let c = (f + 255) / 512 in
         let x : v + f ≡ 12288 = omega (arith, ltb-true v 12288 e) in
         let h : f < 4865 = omega (arith, n.off, ltb-true v 12288 e) in
@@ -63,7 +63,7 @@ aimed v n = go (ltb v 12288) refl
           gap_is = left-gap v f ((v + 256) / 512) c x p;
         }
     go false e =
-        let f = apartOf v 12288 in
+        let f = apart_of v 12288 in
         let c = (f + 255) / 512 in
         let x : v ≡ 12288 + f = omega (arith, ltb-false v 12288 e) in
         let h : f < 4609 = omega (arith, n.off, ltb-false v 12288 e) in
@@ -73,7 +73,7 @@ aimed v n = go (ltb v 12288) refl
           in-ten = i;
           place_is = p;
           place_in = (omega (arith, p, i), omega (arith, p, i));
-          gap_is = ap (λ (m : ℕ). apartOf v (512 * m)) p ∙ right-gap v f c x;
+          gap_is = ap (λ (m : ℕ). apart_of v (512 * m)) p ∙ right-gap v f c x;
         }
 
 module _ (v : ℕ) (n : Near v) where
@@ -86,7 +86,7 @@ module _ (v : ℕ) (n : Near v) where
   pub place-range : (15 ≤ place_of v) × (place_of v ≤ 33)
   place-range = (aimed v n).place_in
 
-  pub place-near : apartOf v (512 * place_of v) ≤ 256
+  pub place-near : apart_of v (512 * place_of v) ≤ 256
   place-near = omega (arith, (aimed v n).gap_is, near-gap v (side_of v).far)
 
 -- it is nearer than any other one
@@ -95,7 +95,7 @@ nearest f n = record { below = omega arith; down = omega arith; up = λ h. omega
 
 module _ (u x y : ℕ) (g : Wide u) (nx : Near x) (ny : Near y) where
   abbrev s : View
-  s = plainView u (side_of x) (side_of y)
+  s = plain_view u (side_of x) (side_of y)
 
   abbrev o : ℕ
   o = s.o
@@ -122,7 +122,7 @@ module _ (u x y : ℕ) (g : Wide u) (nx : Near x) (ny : Near y) where
   e-in = (aimed y ny).in-ten
 
   abbrev w : ℕ
-  w = nearNumber x y
+  w = near_number x y
 
   index_is : place_of x * 19 + place_of y - 300 ≡ index_of o c e
   index_is =
@@ -130,11 +130,11 @@ module _ (u x y : ℕ) (g : Wide u) (nx : Near x) (ny : Near y) where
       ∙ sym (index-plain (side_of x).back (side_of y).back c e (side-in x hx).back_in (side-in y hy).back_in c-in e-in)
 
   -- what is read there
-  pub read_is : (n : ℕ) → n ≡ get_or listed (place_of x * 19 + place_of y - 300) 0 → n ≡ nearNumber x y
+  pub read_is : (n : ℕ) → n ≡ get_or listed (place_of x * 19 + place_of y - 300) 0 → n ≡ near_number x y
   unfolding number_at
   read_is n z = z ∙ ap (λ (k : ℕ). get_or listed k 0) index_is
 
-  pub read-most : nearNumber x y ≤ 255
+  pub read-most : near_number x y ≤ 255
   read-most = (in_table o c e o-in c-in e-in).1.1
 
   -- its number shows a point of the width
@@ -178,7 +178,7 @@ module _ (u x y : ℕ) (g : Wide u) (nx : Near x) (ny : Near y) where
         go (no p) (no q) = omega (arith, mul-le-mul fx fx, mul-le-mul fy fy, further m j n (omega arith) (omega arith) h i l)
 
     -- a and b are the gaps of the place
-    pub shown-least : (a b r : ℕ) → a ≡ apartOf x (512 * place_of x) → b ≡ apartOf y (512 * place_of y) → r ≡ a * a + b * b + w → LeastKey u x y r
+    pub shown-least : (a b r : ℕ) → a ≡ apart_of x (512 * place_of x) → b ≡ apart_of y (512 * place_of y) → r ≡ a * a + b * b + w → LeastKey u x y r
     unfolding off_of
     shown-least a b r p q z = record { w = w; low = omega arith; is = is ∙ sym key-is; least = λ n h. other n h }
       where
@@ -188,7 +188,7 @@ module _ (u x y : ℕ) (g : Wide u) (nx : Near x) (ny : Near y) where
         other : (n : ℕ) → n < 2 ^ u → r ≤ key_of x y n
         other n h =
             let t = moved-within u o g o-in n h in
-            let k = beats (columnIn o n) (row_in o n) n t.column-in t.row-in t.less in
+            let k = beats (column_in o n) (row_in o n) n t.column-in t.row-in t.less in
             omega (arith, is, k, plain_moved u x y hx hy n (listed_below u n g h))
 
   -- it does not

@@ -14,35 +14,35 @@ use native.Mathlib.Omega.{arith}
 use borrow.Author.Tests.{ltb-true, ltb-false}
 use lib.Dec.{eqb, ltb}
 use lib.Pow.{pow_mono}
-use Rattle.points.specs.Points.{aPoint}
+use Rattle.points.specs.Points.{a_point}
 use Rattle.points.proofs.Rule.{small, rule}
-use Rattle.round_places.specs.Places.{Wide, leftIn, downIn, along, ahead_of, backOf, riseOf, fallOf, index_of, standX, standY}
-use Rattle.round_places.proofs.Rule.{standAt, inward, columnIn, row_in, Stood}
+use Rattle.round_places.specs.Places.{Wide, left_in, down_in, along, ahead_of, back_of, rise_of, fall_of, index_of, stand_x, stand_y}
+use Rattle.round_places.proofs.Rule.{stand_at, inward, column_in, row_in, Stood}
 use Rattle.round_columns.specs.declared.Side.{Side}
 use Rattle.round_columns.specs.declared.View.{View}
-use Rattle.round_columns.specs.Cells.{Counted, apartOf, gap_of, key_of, side_of, Sided, plainView, turnedView, Seen, plain, turned, Viewed, off_of}
+use Rattle.round_columns.specs.Cells.{Counted, apart_of, gap_of, key_of, side_of, Sided, plain_view, turned_view, Seen, plain, turned, Viewed, off_of}
 use Rattle.round_columns.proofs.Counts.{stand-fours}
 
 -- ---- one coordinate: a count v is x away from the middle, a point coordinate stands at c
 
-right-is-gap : (v x c m : ℕ) → v ≡ 12288 + x → c ≡ 96 + 4 * m → apartOf v (128 * c) ≡ gap_of x m
+right-is-gap : (v x c m : ℕ) → v ≡ 12288 + x → c ≡ 96 + 4 * m → apart_of v (128 * c) ≡ gap_of x m
 right-is-gap v x c m e f = omega arith
 
-left-is-gap : (v x c m : ℕ) → v + x ≡ 12288 → c + 4 * m ≡ 96 → apartOf v (128 * c) ≡ gap_of x m
+left-is-gap : (v x c m : ℕ) → v + x ≡ 12288 → c + 4 * m ≡ 96 → apart_of v (128 * c) ≡ gap_of x m
 left-is-gap v x c m e f = omega arith
 
 -- a coordinate on the other side
-right-over : (v x c : ℕ) → v ≡ 12288 + x → c ≤ 96 → gap_of x 0 ≤ apartOf v (128 * c)
+right-over : (v x c : ℕ) → v ≡ 12288 + x → c ≤ 96 → gap_of x 0 ≤ apart_of v (128 * c)
 right-over v x c e f = omega arith
 
-left_over : (v x c : ℕ) → v + x ≡ 12288 → 96 ≤ c → gap_of x 0 ≤ apartOf v (128 * c)
+left_over : (v x c : ℕ) → v + x ≡ 12288 → 96 ≤ c → gap_of x 0 ≤ apart_of v (128 * c)
 left_over v x c e f = omega arith
 
 -- how far the point is at least, by the place to which it is moved inwards
-pub gap-moved : (v c : ℕ) → c % 4 ≡ 0 → gap_of (side_of v).far (inward (side_of v).back c) ≤ apartOf v (128 * c)
+pub gap-moved : (v c : ℕ) → c % 4 ≡ 0 → gap_of (side_of v).far (inward (side_of v).back c) ≤ apart_of v (128 * c)
 gap-moved v c h = go (ltb v 12288) refl (dec_lt c 96)
   where
-    go : (t : Bool) → ltb v 12288 ≡ t → Dec (c < 96) → gap_of (side_of v).far (inward (cond t 1 0) c) ≤ apartOf v (128 * c)
+    go : (t : Bool) → ltb v 12288 ≡ t → Dec (c < 96) → gap_of (side_of v).far (inward (cond t 1 0) c) ≤ apart_of v (128 * c)
     go true e (yes f) =
         let x : v + (side_of v).far ≡ 12288 = omega (arith, ltb-true v 12288 e) in
         let i = left-is-gap v (side_of v).far c ((96 - c) / 4) x (omega arith) in
@@ -61,10 +61,10 @@ gap-moved v c h = go (ltb v 12288) refl (dec_lt c 96)
         rw i (omega arith)
 
 -- how far it is exactly, by a place on the side of v
-pub gap_same : (v c m : ℕ) → m < 10 → c ≡ standAt (side_of v).back m → apartOf v (128 * c) ≡ gap_of (side_of v).far m
+pub gap_same : (v c m : ℕ) → m < 10 → c ≡ stand_at (side_of v).back m → apart_of v (128 * c) ≡ gap_of (side_of v).far m
 gap_same v c m h = go (ltb v 12288) refl
   where
-    go : (t : Bool) → ltb v 12288 ≡ t → c ≡ standAt (cond t 1 0) m → apartOf v (128 * c) ≡ gap_of (side_of v).far m
+    go : (t : Bool) → ltb v 12288 ≡ t → c ≡ stand_at (cond t 1 0) m → apart_of v (128 * c) ≡ gap_of (side_of v).far m
     go true e f = left-is-gap v (side_of v).far c m (omega (arith, ltb-true v 12288 e)) (omega arith)
     go false e f = right-is-gap v (side_of v).far c m (omega (arith, ltb-false v 12288 e)) (omega arith)
 
@@ -87,41 +87,41 @@ module _ (b d : ℕ) (h : d < 2) where
   pub turned-along : (x y : ℕ) → along (4 * b + 2 * d + 1) x y ≡ y
   turned-along x y = let e : (4 * b + 2 * d + 1) % 2 ≡ 1 = omega arith in ap (λ (n : ℕ). cond (eqb n 1) y x) e
 
-  plain-left : leftIn o ≡ b
+  plain-left : left_in o ≡ b
   plain-left = omega arith
 
-  plain_down : downIn o ≡ d
+  plain_down : down_in o ≡ d
   plain_down = omega arith
 
-  turned_left : leftIn (o + 1) ≡ b
+  turned_left : left_in (o + 1) ≡ b
   turned_left = omega arith
 
-  turned_down : downIn (o + 1) ≡ d
+  turned_down : down_in (o + 1) ≡ d
   turned_down = omega arith
 
   plain-ahead : ahead_of o ≡ 19 * (1 - b)
-  plain-ahead = plain_along (19 * (1 - leftIn o)) (1 - downIn o) ∙ ap (λ (n : ℕ). 19 * (1 - n)) plain-left
+  plain-ahead = plain_along (19 * (1 - left_in o)) (1 - down_in o) ∙ ap (λ (n : ℕ). 19 * (1 - n)) plain-left
 
-  plain_back : backOf o ≡ 19 * b
-  plain_back = plain_along (19 * leftIn o) (downIn o) ∙ ap (λ (n : ℕ). 19 * n) plain-left
+  plain_back : back_of o ≡ 19 * b
+  plain_back = plain_along (19 * left_in o) (down_in o) ∙ ap (λ (n : ℕ). 19 * n) plain-left
 
-  plain-rise : riseOf o ≡ 1 - d
-  plain-rise = plain_along (1 - downIn o) (19 * (1 - leftIn o)) ∙ ap (λ (n : ℕ). 1 - n) plain_down
+  plain-rise : rise_of o ≡ 1 - d
+  plain-rise = plain_along (1 - down_in o) (19 * (1 - left_in o)) ∙ ap (λ (n : ℕ). 1 - n) plain_down
 
-  plain-fall : fallOf o ≡ d
-  plain-fall = plain_along (downIn o) (19 * leftIn o) ∙ plain_down
+  plain-fall : fall_of o ≡ d
+  plain-fall = plain_along (down_in o) (19 * left_in o) ∙ plain_down
 
   turned-ahead : ahead_of (o + 1) ≡ 1 - d
-  turned-ahead = turned-along (19 * (1 - leftIn (o + 1))) (1 - downIn (o + 1)) ∙ ap (λ (n : ℕ). 1 - n) turned_down
+  turned-ahead = turned-along (19 * (1 - left_in (o + 1))) (1 - down_in (o + 1)) ∙ ap (λ (n : ℕ). 1 - n) turned_down
 
-  turned-back : backOf (o + 1) ≡ d
-  turned-back = turned-along (19 * leftIn (o + 1)) (downIn (o + 1)) ∙ turned_down
+  turned-back : back_of (o + 1) ≡ d
+  turned-back = turned-along (19 * left_in (o + 1)) (down_in (o + 1)) ∙ turned_down
 
-  turned-rise : riseOf (o + 1) ≡ 19 * (1 - b)
-  turned-rise = turned-along (1 - downIn (o + 1)) (19 * (1 - leftIn (o + 1))) ∙ ap (λ (n : ℕ). 19 * (1 - n)) turned_left
+  turned-rise : rise_of (o + 1) ≡ 19 * (1 - b)
+  turned-rise = turned-along (1 - down_in (o + 1)) (19 * (1 - left_in (o + 1))) ∙ ap (λ (n : ℕ). 19 * (1 - n)) turned_left
 
-  turned-fall : fallOf (o + 1) ≡ 19 * b
-  turned-fall = turned-along (downIn (o + 1)) (19 * leftIn (o + 1)) ∙ ap (λ (n : ℕ). 19 * n) turned_left
+  turned-fall : fall_of (o + 1) ≡ 19 * b
+  turned-fall = turned-along (down_in (o + 1)) (19 * left_in (o + 1)) ∙ ap (λ (n : ℕ). 19 * n) turned_left
 
 pub seen-viewed : (u : ℕ) (x y : Side) (s : View) → Wide u → Sided x → Sided y → Seen u x y s → Viewed s
 seen-viewed u x y s g h i (plain l e) =
@@ -186,13 +186,13 @@ pub listed_below : (u w : ℕ) → Wide u → w < 2 ^ u → w < 256
 listed_below u w g h = let b : 2 ^ u ≤ 256 = pow_mono g.high in omega arith
 
 module _ (w : ℕ) (l : w < 256) where
-  fours-x : standX w % 4 ≡ 0
-  unfolding standX
-  fours-x = stand-fours (aPoint w).x (rule.each w l).x-is (small w l).x-small
+  fours-x : stand_x w % 4 ≡ 0
+  unfolding stand_x
+  fours-x = stand-fours (a_point w).x (rule.each w l).x-is (small w l).x-small
 
-  fours-y : standY w % 4 ≡ 0
-  unfolding standY
-  fours-y = stand-fours (aPoint w).y (rule.each w l).y-is (small w l).y-small
+  fours-y : stand_y w % 4 ≡ 0
+  unfolding stand_y
+  fours-y = stand-fours (a_point w).y (rule.each w l).y-is (small w l).y-small
 
 module _ (u x y : ℕ) (hx : Counted x) (hy : Counted y) where
   abbrev b : ℕ
@@ -205,60 +205,60 @@ module _ (u x y : ℕ) (hx : Counted x) (hy : Counted y) where
   d-in = (side-in y hy).back_in
 
   abbrev plainly : View
-  plainly = plainView u (side_of x) (side_of y)
+  plainly = plain_view u (side_of x) (side_of y)
 
   abbrev turnedly : View
-  turnedly = turnedView u (side_of x) (side_of y)
+  turnedly = turned_view u (side_of x) (side_of y)
 
   module _ (m e w : ℕ) (g : m < 10) (h : e < 10) where
     pub plain-right : Stood plainly.o m e w → key_of x y w ≡ off_of plainly m e + w
     unfolding key_of off_of
     plain-right t =
-        let i : standX w ≡ standAt b m = t.x-is ∙ ap₂ standAt (plain-left b d d-in) (plain_along b d d-in m e) in
-        let j : standY w ≡ standAt d e = t.y-is ∙ ap₂ standAt (plain_down b d d-in) (plain_along b d d-in e m) in
-        omega (arith, ap (λ (n : ℕ). n * n) (gap_same x (standX w) m g i), ap (λ (n : ℕ). n * n) (gap_same y (standY w) e h j))
+        let i : stand_x w ≡ stand_at b m = t.x-is ∙ ap₂ stand_at (plain-left b d d-in) (plain_along b d d-in m e) in
+        let j : stand_y w ≡ stand_at d e = t.y-is ∙ ap₂ stand_at (plain_down b d d-in) (plain_along b d d-in e m) in
+        omega (arith, ap (λ (n : ℕ). n * n) (gap_same x (stand_x w) m g i), ap (λ (n : ℕ). n * n) (gap_same y (stand_y w) e h j))
 
     pub turned_right : Stood turnedly.o m e w → key_of x y w ≡ off_of turnedly m e + w
     unfolding key_of off_of
     turned_right t =
-        let i : standX w ≡ standAt b e = t.x-is ∙ ap₂ standAt (turned_left b d d-in) (turned-along b d d-in m e) in
-        let j : standY w ≡ standAt d m = t.y-is ∙ ap₂ standAt (turned_down b d d-in) (turned-along b d d-in e m) in
-        omega (arith, ap (λ (n : ℕ). n * n) (gap_same x (standX w) e h i), ap (λ (n : ℕ). n * n) (gap_same y (standY w) m g j))
+        let i : stand_x w ≡ stand_at b e = t.x-is ∙ ap₂ stand_at (turned_left b d d-in) (turned-along b d d-in m e) in
+        let j : stand_y w ≡ stand_at d m = t.y-is ∙ ap₂ stand_at (turned_down b d d-in) (turned-along b d d-in e m) in
+        omega (arith, ap (λ (n : ℕ). n * n) (gap_same x (stand_x w) e h i), ap (λ (n : ℕ). n * n) (gap_same y (stand_y w) m g j))
 
   module _ (w : ℕ) (l : w < 256) where
     -- both gaps, moved
-    along-x : gap_of (side_of x).far (inward b (standX w)) ≤ apartOf x (128 * standX w)
-    along-x = gap-moved x (standX w) (fours-x w l)
+    along-x : gap_of (side_of x).far (inward b (stand_x w)) ≤ apart_of x (128 * stand_x w)
+    along-x = gap-moved x (stand_x w) (fours-x w l)
 
-    along-y : gap_of (side_of y).far (inward d (standY w)) ≤ apartOf y (128 * standY w)
-    along-y = gap-moved y (standY w) (fours-y w l)
+    along-y : gap_of (side_of y).far (inward d (stand_y w)) ≤ apart_of y (128 * stand_y w)
+    along-y = gap-moved y (stand_y w) (fours-y w l)
 
     -- where the point is moved to
-    module _ (o : ℕ) (f : leftIn o ≡ b) (g : downIn o ≡ d) where
-      moved-x : inward (leftIn o) (standX w) ≡ inward b (standX w)
-      moved-x = ap (λ (n : ℕ). inward n (standX w)) f
+    module _ (o : ℕ) (f : left_in o ≡ b) (g : down_in o ≡ d) where
+      moved-x : inward (left_in o) (stand_x w) ≡ inward b (stand_x w)
+      moved-x = ap (λ (n : ℕ). inward n (stand_x w)) f
 
-      moved-y : inward (downIn o) (standY w) ≡ inward d (standY w)
-      moved-y = ap (λ (n : ℕ). inward n (standY w)) g
+      moved-y : inward (down_in o) (stand_y w) ≡ inward d (stand_y w)
+      moved-y = ap (λ (n : ℕ). inward n (stand_y w)) g
 
-    pub plain_moved : off_of plainly (columnIn plainly.o w) (row_in plainly.o w) + w ≤ key_of x y w
+    pub plain_moved : off_of plainly (column_in plainly.o w) (row_in plainly.o w) + w ≤ key_of x y w
     unfolding key_of off_of
     plain_moved =
         let o = plainly.o in
         let mx = moved-x o (plain-left b d d-in) (plain_down b d d-in) in
         let my = moved-y o (plain-left b d d-in) (plain_down b d d-in) in
-        let m : columnIn o w ≡ inward b (standX w) = plain_along b d d-in _ _ ∙ mx in
-        let e : row_in o w ≡ inward d (standY w) = plain_along b d d-in _ _ ∙ my in
+        let m : column_in o w ≡ inward b (stand_x w) = plain_along b d d-in _ _ ∙ mx in
+        let e : row_in o w ≡ inward d (stand_y w) = plain_along b d d-in _ _ ∙ my in
         rw (m, e) (omega (arith, mul-le-mul along-x along-x, mul-le-mul along-y along-y))
 
-    pub turned-moved : off_of turnedly (columnIn turnedly.o w) (row_in turnedly.o w) + w ≤ key_of x y w
+    pub turned-moved : off_of turnedly (column_in turnedly.o w) (row_in turnedly.o w) + w ≤ key_of x y w
     unfolding key_of off_of
     turned-moved =
         let o = turnedly.o in
         let mx = moved-x o (turned_left b d d-in) (turned_down b d d-in) in
         let my = moved-y o (turned_left b d d-in) (turned_down b d d-in) in
-        let m : columnIn o w ≡ inward d (standY w) = turned-along b d d-in _ _ ∙ my in
-        let e : row_in o w ≡ inward b (standX w) = turned-along b d d-in _ _ ∙ mx in
+        let m : column_in o w ≡ inward d (stand_y w) = turned-along b d d-in _ _ ∙ my in
+        let e : row_in o w ≡ inward b (stand_x w) = turned-along b d d-in _ _ ∙ mx in
         rw (m, e) (omega (arith, mul-le-mul along-x along-x, mul-le-mul along-y along-y))
 
   -- either view
@@ -266,6 +266,6 @@ module _ (u x y : ℕ) (hx : Counted x) (hy : Counted y) where
   right_is s (plain l i) m e w g h = subst (λ (s : View). Stood s.o m e w → key_of x y w ≡ off_of s m e + w) (sym i) (plain-right m e w g h)
   right_is s (turned l i) m e w g h = subst (λ (s : View). Stood s.o m e w → key_of x y w ≡ off_of s m e + w) (sym i) (turned_right m e w g h)
 
-  pub moved-le : (s : View) → Seen u (side_of x) (side_of y) s → (w : ℕ) → w < 256 → off_of s (columnIn s.o w) (row_in s.o w) + w ≤ key_of x y w
-  moved-le s (plain l i) w h = subst (λ (s : View). off_of s (columnIn s.o w) (row_in s.o w) + w ≤ key_of x y w) (sym i) (plain_moved w h)
-  moved-le s (turned l i) w h = subst (λ (s : View). off_of s (columnIn s.o w) (row_in s.o w) + w ≤ key_of x y w) (sym i) (turned-moved w h)
+  pub moved-le : (s : View) → Seen u (side_of x) (side_of y) s → (w : ℕ) → w < 256 → off_of s (column_in s.o w) (row_in s.o w) + w ≤ key_of x y w
+  moved-le s (plain l i) w h = subst (λ (s : View). off_of s (column_in s.o w) (row_in s.o w) + w ≤ key_of x y w) (sym i) (plain_moved w h)
+  moved-le s (turned l i) w h = subst (λ (s : View). off_of s (column_in s.o w) (row_in s.o w) + w ≤ key_of x y w) (sym i) (turned-moved w h)

@@ -1,21 +1,21 @@
--- The search by places and columns, in counts. Not to be believed: proofs/ ties it to `nearKey`.
+-- The search by places and columns, in counts. Not to be believed: proofs/ ties it to `near_key`.
 --   count_of z           a received coordinate, counted from 12160 below zero;  Counted v, v is such a count
---   apartOf a b         how far two numbers are apart;  gap_of v t, how far v is from place t
+--   apart_of a b         how far two numbers are apart;  gap_of v t, how far v is from place t
 --   Lesser x y r        r is the smaller of x and y
 --   key_of x y w         the key of point w for the counts x and y: distance plus number
 --   LeastKey u x y r    r is the least key of the numbers below 2^u
 --   side_of v            a count as seen from the middle;  Sided s, what every side meets
 --   Seen u x y s        s is what two sides look like along the longer one;  Viewed s, what every such view meets
---   off_of s m e         the squared distance of column m and row e;  cellKey s m e, their key: that and the number there
+--   off_of s m e         the squared distance of column m and row e;  cell_key s m e, their key: that and the number there
 --   Placed v n r        r is the nearest to v of the places 0 to n, halves to the smaller
 --   InColumn s i r      r is the key of the nearest row of the rim's i-th column
 --   Rimmed s n r        r is the least key of the rim's first n columns
 --   Outside u x y       the longer side reaches the rim's first column
---   Near v              the table has the nearest place of the count v, and of what it is for the other side;  areNear x y, both are
+--   Near v              the table has the nearest place of the count v, and of what it is for the other side;  are_near x y, both are
 --   place_of v           the nearest place of a count, halves towards the middle;  steps_of v, how many places that is off the middle
---   nearNumber x y      the number at the nearest place
+--   near_number x y      the number at the nearest place
 use Rattle.std.specs.Prelude.{ℕ, ◌+◌, ◌-◌, ◌*◌, ◌/◌, ◌^◌, ◌≤◌, ◌<◌, ◌≡◌, Bool, ◌&&◌, cond, ltb, ℤ, pos, negsuc}
-use Rattle.round_places.specs.Places.{Wide, ahead_of, backOf, riseOf, fallOf, number_at, standX, standY, columnOf, top_of, first_of}
+use Rattle.round_places.specs.Places.{Wide, ahead_of, back_of, rise_of, fall_of, number_at, stand_x, stand_y, column_of, top_of, first_of}
 use Rattle.round_columns.specs.declared.Side.{Side}
 use Rattle.round_columns.specs.declared.View.{View}
 
@@ -27,11 +27,11 @@ pub record Counted (v : ℕ) : Type 0 where
   pub low : 3968 ≤ v
   pub high : v ≤ 20352
 
-abbrev pub apartOf : ℕ → ℕ → ℕ
-apartOf a b = (a - b) + (b - a)
+abbrev pub apart_of : ℕ → ℕ → ℕ
+apart_of a b = (a - b) + (b - a)
 
 abbrev pub gap_of : ℕ → ℕ → ℕ
-gap_of v t = apartOf v (512 * t)
+gap_of v t = apart_of v (512 * t)
 
 pub data Lesser (x y r : ℕ) : Type 0 where
   first : x ≤ y → r ≡ x → Lesser x y r
@@ -40,7 +40,7 @@ pub data Lesser (x y r : ℕ) : Type 0 where
 -- ---- the points of a width
 
 unfoldable pub key_of : ℕ → ℕ → ℕ → ℕ
-key_of x y w = apartOf x (128 * standX w) * apartOf x (128 * standX w) + apartOf y (128 * standY w) * apartOf y (128 * standY w) + w
+key_of x y w = apart_of x (128 * stand_x w) * apart_of x (128 * stand_x w) + apart_of y (128 * stand_y w) * apart_of y (128 * stand_y w) + w
 
 pub record LeastKey (u x y r : ℕ) : Type 0 where
   pub w : ℕ
@@ -51,14 +51,14 @@ pub record LeastKey (u x y r : ℕ) : Type 0 where
 -- ---- as seen from the middle
 
 abbrev pub side_of : ℕ → Side
-side_of v = record { back = cond (ltb v 12288) 1 0; far = apartOf v 12288 }
+side_of v = record { back = cond (ltb v 12288) 1 0; far = apart_of v 12288 }
 
 pub record Sided (s : Side) : Type 0 where
   pub back_in : s.back < 2
   pub far-in : s.far ≤ 8320
 
-abbrev pub plainView : ℕ → Side → Side → View
-plainView u x y =
+abbrev pub plain_view : ℕ → Side → Side → View
+plain_view u x y =
     record {
       u = u;
       o = 4 * x.back + 2 * y.back;
@@ -70,8 +70,8 @@ plainView u x y =
       short = y.far;
     }
 
-abbrev pub turnedView : ℕ → Side → Side → View
-turnedView u x y =
+abbrev pub turned_view : ℕ → Side → Side → View
+turned_view u x y =
     record {
       u = u;
       o = 4 * x.back + 2 * y.back + 1;
@@ -84,16 +84,16 @@ turnedView u x y =
     }
 
 pub data Seen (u : ℕ) (x y : Side) (s : View) : Type 0 where
-  plain : y.far ≤ x.far → s ≡ plainView u x y → Seen u x y s
-  turned : x.far < y.far → s ≡ turnedView u x y → Seen u x y s
+  plain : y.far ≤ x.far → s ≡ plain_view u x y → Seen u x y s
+  turned : x.far < y.far → s ≡ turned_view u x y → Seen u x y s
 
 pub record Viewed (s : View) : Type 0 where
   pub u-in : Wide s.u
   pub o-in : s.o < 8
   pub ahead-is : s.ahead ≡ ahead_of s.o
-  pub back_is : s.back ≡ backOf s.o
-  pub rise-is : s.rise ≡ riseOf s.o
-  pub fall-is : s.fall ≡ fallOf s.o
+  pub back_is : s.back ≡ back_of s.o
+  pub rise-is : s.rise ≡ rise_of s.o
+  pub fall-is : s.fall ≡ fall_of s.o
   pub far-in : s.far ≤ 8320
   pub short-in : s.short ≤ s.far
 
@@ -102,8 +102,8 @@ pub record Viewed (s : View) : Type 0 where
 unfoldable pub off_of : View → ℕ → ℕ → ℕ
 off_of s m e = gap_of s.far m * gap_of s.far m + gap_of s.short e * gap_of s.short e
 
-abbrev pub cellKey : View → ℕ → ℕ → ℕ
-cellKey s m e = off_of s m e + number_at s.o m e
+abbrev pub cell_key : View → ℕ → ℕ → ℕ
+cell_key s m e = off_of s m e + number_at s.o m e
 
 pub record Placed (v n r : ℕ) : Type 0 where
   pub below : r ≤ n
@@ -113,15 +113,15 @@ pub record Placed (v n r : ℕ) : Type 0 where
 pub record InColumn (s : View) (i r : ℕ) : Type 0 where
   pub e : ℕ
   pub row : Placed s.short (top_of s.u s.o i) e
-  pub is : r ≡ cellKey s (columnOf s.u s.o i) e
+  pub is : r ≡ cell_key s (column_of s.u s.o i) e
 
 pub record Rimmed (s : View) (n r : ℕ) : Type 0 where
   pub i : ℕ
   pub e : ℕ
   pub i-in : i < n
   pub e-in : e ≤ top_of s.u s.o i
-  pub is : r ≡ cellKey s (columnOf s.u s.o i) e
-  pub least : (j k : ℕ) → j < n → k ≤ top_of s.u s.o j → r ≤ cellKey s (columnOf s.u s.o j) k
+  pub is : r ≡ cell_key s (column_of s.u s.o i) e
+  pub least : (j k : ℕ) → j < n → k ≤ top_of s.u s.o j → r ≤ cell_key s (column_of s.u s.o j) k
 
 abbrev pub Outside : ℕ → ℕ → ℕ → Type 0
 Outside u x y = (s : View) → Seen u (side_of x) (side_of y) s → 512 * first_of s.u s.o ≤ s.far + 255
@@ -129,10 +129,10 @@ Outside u x y = (s : View) → Seen u (side_of x) (side_of y) s → 512 * first_
 -- ---- the nearest place
 
 pub record Near (v : ℕ) : Type 0 where
-  pub off : apartOf v 12160 < 4737
+  pub off : apart_of v 12160 < 4737
 
-abbrev pub areNear : ℕ → ℕ → Bool
-areNear x y = ltb (apartOf x 12160) 4737 && ltb (apartOf y 12160) 4737
+abbrev pub are_near : ℕ → ℕ → Bool
+are_near x y = ltb (apart_of x 12160) 4737 && ltb (apart_of y 12160) 4737
 
 abbrev pub place_of : ℕ → ℕ
 place_of v = cond (ltb v 12288) ((v + 256) / 512) ((v + 255) / 512)
@@ -140,5 +140,5 @@ place_of v = cond (ltb v 12288) ((v + 256) / 512) ((v + 255) / 512)
 abbrev pub steps_of : ℕ → ℕ
 steps_of v = ((side_of v).far + 255) / 512
 
-abbrev pub nearNumber : ℕ → ℕ → ℕ
-nearNumber x y = number_at (4 * (side_of x).back + 2 * (side_of y).back) (steps_of x) (steps_of y)
+abbrev pub near_number : ℕ → ℕ → ℕ
+near_number x y = number_at (4 * (side_of x).back + 2 * (side_of y).back) (steps_of x) (steps_of y)

@@ -8,12 +8,12 @@
 //
 // A label's points are the A points turned, so the received point is turned back instead: four coordinates, x, -x, y and -y, serve
 // all labels. Coordinates are counted from 95 units below zero, so that the middle point stands at 12288 = 24 · 512 and nothing is
-// negative. The contract is an equation of the result with `nearKeys` (specs/Near), so any two results that it allows are equal.
+// negative. The contract is an equation of the result with `near_keys` (specs/Near), so any two results that it allows are equal.
 ghost use Rattle.std.specs.Prelude.{◌≡◌, ◌+◌, ◌-◌, ◌*◌, ◌≤◌, ◌<◌, nat_abs};
 ghost use Rattle.round_places.specs.Places.{listed, Wide, number_at};
-ghost use Rattle.round_columns.specs.Near.{nearKeys};
-ghost use Rattle.round_columns.specs.Cells.{count_of, Counted, apartOf, Lesser, side_of, Sided, Seen, Viewed, InColumn, Outside};
-ghost use Rattle.round_columns.specs.Cells.{LeastKey, areNear, Near, place_of};
+ghost use Rattle.round_columns.specs.Near.{near_keys};
+ghost use Rattle.round_columns.specs.Cells.{count_of, Counted, apart_of, Lesser, side_of, Sided, Seen, Viewed, InColumn, Outside};
+ghost use Rattle.round_columns.specs.Cells.{LeastKey, are_near, Near, place_of};
 
 // A key for each label, distance plus number: A, C, B and D are 0, 1, 2 and 3.
 #[derive(Drop)]
@@ -54,7 +54,7 @@ fn counted(z: i32) -> u32
 }
 
 fn apart(v: u32, p: u32) -> u32
-    ensures { result ≡ apartOf v p }
+    ensures { result ≡ apart_of v p }
 {
     if v < p { p - v } else { v - p }
 }
@@ -180,7 +180,7 @@ fn near_key(t: &[u8; 521], u: u32, x: u32, y: u32) -> u32
 // Whether the table has the nearest places of the counts and of what they are counted from on the other side: none is more than 4736
 // = 37 · 128 off zero.
 fn are_near(x: u32, y: u32) -> bool
-    ensures { result ≡ areNear x y }
+    ensures { result ≡ are_near x y }
 {
     apart(x, 12160) < 4737 && apart(y, 12160) < 4737
 }
@@ -188,7 +188,7 @@ fn are_near(x: u32, y: u32) -> bool
 // For each label the key, distance plus number, of the point of width u that is nearest to (x, y), the smaller number of equals.
 pub fn nearest_keys(t: &[u8; 521], u: u32, x: i32, y: i32) -> Keys
     requires { (t.now ≡ listed) × Wide u × (nat_abs x ≤ 8192) × (nat_abs y ≤ 8192) }
-    ensures { result ≡ nearKeys u x y }
+    ensures { result ≡ near_keys u x y }
 {
     let px = counted(x);
     let py = counted(y);

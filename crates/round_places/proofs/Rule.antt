@@ -18,15 +18,15 @@ use lib.IntN.{ℤ, pos, negsuc, nat_abs, ◌-ℤ◌}
 use lib.Dec.{T, leb, ltb, eqb, eqb→eq, leb→le, ltb→lt}
 use lib.ListN.{get_or}
 use Rattle.wei.proofs.Finite.{and_left, and_right, upto, at}
-use Rattle.points.specs.Points.{aPoint, coordinates}
+use Rattle.points.specs.Points.{a_point, coordinates}
 use Rattle.points.proofs.Rule.{small}
-use Rattle.round_places.specs.Places.{listed, Wide, along, leftIn, downIn, xIn, yIn, ahead_of, backOf, riseOf, fallOf, number_at}
-use Rattle.round_places.specs.Places.{standOf, standX, standY, rimOf, columnOf, top_of, first_of}
+use Rattle.round_places.specs.Places.{listed, Wide, along, left_in, down_in, x_in, y_in, ahead_of, back_of, rise_of, fall_of, number_at}
+use Rattle.round_places.specs.Places.{stand_of, stand_x, stand_y, rim_of, column_of, top_of, first_of}
 
 -- where place m stands, onwards (0) and back from the middle
-abbrev pub standAt : ℕ → ℕ → ℕ
-standAt zero m = 96 + 4 * m
-standAt (suc l) m = 96 - 4 * m
+abbrev pub stand_at : ℕ → ℕ → ℕ
+stand_at zero m = 96 + 4 * m
+stand_at (suc l) m = 96 - 4 * m
 
 -- the place of a coordinate, the middle's for one on the other side
 abbrev pub inward : ℕ → ℕ → ℕ
@@ -34,17 +34,17 @@ inward zero c = (c - 96) / 4
 inward (suc l) c = (96 - c) / 4
 
 -- the column and the row of a point in view o
-abbrev pub columnIn : ℕ → ℕ → ℕ
-columnIn o w = along o (inward (leftIn o) (standX w)) (inward (downIn o) (standY w))
+abbrev pub column_in : ℕ → ℕ → ℕ
+column_in o w = along o (inward (left_in o) (stand_x w)) (inward (down_in o) (stand_y w))
 
 abbrev pub row_in : ℕ → ℕ → ℕ
-row_in o w = along o (inward (downIn o) (standY w)) (inward (leftIn o) (standX w))
+row_in o w = along o (inward (down_in o) (stand_y w)) (inward (left_in o) (stand_x w))
 
 -- ---- the tests
 
 -- point w stands in column m and row e of view o
 stood : ℕ → ℕ → ℕ → ℕ → Bool
-stood o m e w = eqb (standX w) (standAt (leftIn o) (xIn o m e)) && eqb (standY w) (standAt (downIn o) (yIn o m e))
+stood o m e w = eqb (stand_x w) (stand_at (left_in o) (x_in o m e)) && eqb (stand_y w) (stand_at (down_in o) (y_in o m e))
 
 shows : ℕ → ℕ → ℕ → Bool
 shows o m e = cond (ltb (number_at o m e) 254) (stood o m e (number_at o m e)) true
@@ -59,7 +59,7 @@ risen o m e = rises (number_at o m e) (number_at o m (e + 1)) && rises (number_a
 within : ℕ → ℕ → ℕ → ℕ → Bool
 within u o m e =
     cond (ltb m (first_of u o)) (leb e (top_of u o 0 + (first_of u o - m)))
-    (ltb (m - first_of u o) 4 && (eqb (columnOf u o (m - first_of u o)) m && leb e (top_of u o (m - first_of u o))))
+    (ltb (m - first_of u o) 4 && (eqb (column_of u o (m - first_of u o)) m && leb e (top_of u o (m - first_of u o))))
 
 moved : ℕ → ℕ → ℕ → ℕ → ℕ → Bool
 moved u o w m e = leb (number_at o m e) w && (ltb m 10 && (ltb e 10 && within u o m e))
@@ -73,42 +73,42 @@ inner : ℕ → ℕ → ℕ → ℕ → Bool
 inner u o m e = ltb (number_at o m e + 2) (2 ^ u)
 
 tabled : ℕ → ℕ → ℕ → Bool
-tabled o m e = leb (ahead_of o * m + riseOf o * e) 180 && (leb (backOf o * m + fallOf o * e) 180 && leb (number_at o m e) 255)
+tabled o m e = leb (ahead_of o * m + rise_of o * e) 180 && (leb (back_of o * m + fall_of o * e) 180 && leb (number_at o m e) 255)
 
 placed : ℕ → Bool
 placed w =
-    (eqb (get_or listed (489 + w * 2) 0) (standX w) && eqb (get_or listed (490 + w * 2) 0) (standY w))
+    (eqb (get_or listed (489 + w * 2) 0) (stand_x w) && eqb (get_or listed (490 + w * 2) 0) (stand_y w))
     && (ltb (get_or listed (489 + w * 2) 0) 128 && ltb (get_or listed (490 + w * 2) 0) 128)
 
 -- the tests of one point, of one column and of one rim
-abbrev movedPoint : ℕ → ℕ → ℕ → Bool
-movedPoint u o w = moved u o w (columnIn o w) (row_in o w)
+abbrev moved_point : ℕ → ℕ → ℕ → Bool
+moved_point u o w = moved u o w (column_in o w) (row_in o w)
 
-abbrev rimColumn : ℕ → ℕ → ℕ → Bool
-rimColumn u o i =
-    ltb (columnOf u o i) 10 && (ltb (top_of u o i) 10 && upto (top_of u o i + 1) (rimmed u o (columnOf u o i) (top_of u o i)))
+abbrev rim_column : ℕ → ℕ → ℕ → Bool
+rim_column u o i =
+    ltb (column_of u o i) 10 && (ltb (top_of u o i) 10 && upto (top_of u o i + 1) (rimmed u o (column_of u o i) (top_of u o i)))
 
-abbrev innerRim : ℕ → ℕ → Bool
-innerRim u o = leb (first_of u o) (top_of u o 0) && upto (first_of u o) (λ m. upto (m + 1) (inner u o m))
+abbrev inner_rim : ℕ → ℕ → Bool
+inner_rim u o = leb (first_of u o) (top_of u o 0) && upto (first_of u o) (λ m. upto (m + 1) (inner u o m))
 
 test-shows : T (upto 8 (λ o. upto 10 (λ m. upto 10 (shows o m))))
-unfolding shows stood listed number_at standX standY aPoint coordinates
+unfolding shows stood listed number_at stand_x stand_y a_point coordinates
 test-shows = tt
 
 test-risen : T (upto 8 (λ o. upto 10 (λ m. upto 9 (risen o m))))
 unfolding risen rises listed number_at
 test-risen = tt
 
-test-moved : T (upto 4 (λ v. upto 8 (λ o. upto (2 ^ (5 + v)) (movedPoint (5 + v) o))))
-unfolding moved within listed number_at rimOf standX standY aPoint coordinates
+test-moved : T (upto 4 (λ v. upto 8 (λ o. upto (2 ^ (5 + v)) (moved_point (5 + v) o))))
+unfolding moved within listed number_at rim_of stand_x stand_y a_point coordinates
 test-moved = tt
 
-test-rimmed : T (upto 4 (λ v. upto 8 (λ o. upto 4 (rimColumn (5 + v) o))))
-unfolding rimmed stood listed number_at rimOf standX standY aPoint coordinates
+test-rimmed : T (upto 4 (λ v. upto 8 (λ o. upto 4 (rim_column (5 + v) o))))
+unfolding rimmed stood listed number_at rim_of stand_x stand_y a_point coordinates
 test-rimmed = tt
 
-test-inner : T (upto 4 (λ v. upto 8 (innerRim (5 + v))))
-unfolding inner listed number_at rimOf
+test-inner : T (upto 4 (λ v. upto 8 (inner_rim (5 + v))))
+unfolding inner listed number_at rim_of
 test-inner = tt
 
 test-tabled : T (upto 8 (λ o. upto 10 (λ m. upto 10 (tabled o m))))
@@ -116,7 +116,7 @@ unfolding tabled listed number_at
 test-tabled = tt
 
 test-placed : T (upto 16 placed)
-unfolding placed listed standX standY aPoint coordinates
+unfolding placed listed stand_x stand_y a_point coordinates
 test-placed = tt
 
 -- ---- what they say
@@ -149,23 +149,23 @@ chain R self join n step a (suc b) g h = go (chain R self join n step a b) (ℕ_
 
 -- point w stands in column m and row e of view o
 pub record Stood (o m e w : ℕ) : Type 0 where
-  pub x-is : standX w ≡ standAt (leftIn o) (xIn o m e)
-  pub y-is : standY w ≡ standAt (downIn o) (yIn o m e)
+  pub x-is : stand_x w ≡ stand_at (left_in o) (x_in o m e)
+  pub y-is : stand_y w ≡ stand_at (down_in o) (y_in o m e)
 
 stood-is : (o m e w : ℕ) → T (stood o m e w) → Stood o m e w
 unfolding stood
 stood-is o m e w t =
-    let x = standAt (leftIn o) (xIn o m e) in
-    let y = standAt (downIn o) (yIn o m e) in
-    let r = both (eqb (standX w) x) (eqb (standY w) y) t in
-    record { x-is = eqb→eq (standX w) x r.0; y-is = eqb→eq (standY w) y r.1 }
+    let x = stand_at (left_in o) (x_in o m e) in
+    let y = stand_at (down_in o) (y_in o m e) in
+    let r = both (eqb (stand_x w) x) (eqb (stand_y w) y) t in
+    record { x-is = eqb→eq (stand_x w) x r.0; y-is = eqb→eq (stand_y w) y r.1 }
 
 module _ (o m e : ℕ) (g : o < 8) (h : m < 10) (i : e < 10) where
-  pub in_table : (ahead_of o * m + riseOf o * e ≤ 180) × ((backOf o * m + fallOf o * e ≤ 180) × (number_at o m e ≤ 255))
+  pub in_table : (ahead_of o * m + rise_of o * e ≤ 180) × ((back_of o * m + fall_of o * e ≤ 180) × (number_at o m e ≤ 255))
   unfolding tabled
   in_table =
-      let a = ahead_of o * m + riseOf o * e in
-      let b = backOf o * m + fallOf o * e in
+      let a = ahead_of o * m + rise_of o * e in
+      let b = back_of o * m + fall_of o * e in
       let n = number_at o m e in
       let t = at 10 (tabled o m) (at 10 (λ m. upto 10 (tabled o m)) (at 8 (λ o. upto 10 (λ m. upto 10 (tabled o m))) test-tabled o g) m h) e i in
       let r = both (leb a 180) (leb b 180 && leb n 255) t in
@@ -210,7 +210,7 @@ module _ (o m : ℕ) (g : o < 8) (h : m < 10) where
 -- within the rim of width u in view o: further in than its first column, or on the i-th column
 pub data Within (u o m e : ℕ) : Type 0 where
   before : m < first_of u o → e ≤ top_of u o 0 + (first_of u o - m) → Within u o m e
-  on : (i : ℕ) → i < 4 → columnOf u o i ≡ m → e ≤ top_of u o i → Within u o m e
+  on : (i : ℕ) → i < 4 → column_of u o i ≡ m → e ≤ top_of u o i → Within u o m e
 
 module _ (u o m e : ℕ) where
   -- the rim's column that m should be
@@ -221,7 +221,7 @@ module _ (u o m e : ℕ) where
   inside = leb e (top_of u o 0 + (first_of u o - m))
 
   abbrev above : Bool
-  above = eqb (columnOf u o i) m && leb e (top_of u o i)
+  above = eqb (column_of u o i) m && leb e (top_of u o i)
 
   within-is : T (within u o m e) → Within u o m e
   unfolding within
@@ -234,23 +234,23 @@ module _ (u o m e : ℕ) where
       go (no l) =
           let f = le-ltb m (first_of u o) (omega arith) in
           let r = both (ltb i 4) above (subst (λ (b : Bool). T (cond b inside (ltb i 4 && above))) f t) in
-          let s = both (eqb (columnOf u o i) m) (leb e (top_of u o i)) r.1 in
-          on i (ltb→lt i 4 r.0) (eqb→eq (columnOf u o i) m s.0) (leb→le e (top_of u o i) s.1)
+          let s = both (eqb (column_of u o i) m) (leb e (top_of u o i)) r.1 in
+          on i (ltb→lt i 4 r.0) (eqb→eq (column_of u o i) m s.0) (leb→le e (top_of u o i) s.1)
 
 module _ (u o : ℕ) (g : Wide u) (h : o < 8) where
   -- where a point of the width is, moved inwards
   pub record Moved (w : ℕ) : Type 0 where
-    pub less : number_at o (columnIn o w) (row_in o w) ≤ w
-    pub column-in : columnIn o w < 10
+    pub less : number_at o (column_in o w) (row_in o w) ≤ w
+    pub column-in : column_in o w < 10
     pub row-in : row_in o w < 10
-    pub is_within : Within u o (columnIn o w) (row_in o w)
+    pub is_within : Within u o (column_in o w) (row_in o w)
 
   pub moved-within : (w : ℕ) → w < 2 ^ u → Moved w
   unfolding moved
   moved-within w l =
-      let m = columnIn o w in
+      let m = column_in o w in
       let e = row_in o w in
-      let t = at (2 ^ u) (movedPoint u o) (at-view (λ u o. upto (2 ^ u) (movedPoint u o)) test-moved u o g h) w l in
+      let t = at (2 ^ u) (moved_point u o) (at-view (λ u o. upto (2 ^ u) (moved_point u o)) test-moved u o g h) w l in
       let r = both (leb (number_at o m e) w) (ltb m 10 && (ltb e 10 && within u o m e)) t in
       let s = both (ltb m 10) (ltb e 10 && within u o m e) r.1 in
       let q = both (ltb e 10) (within u o m e) s.1 in
@@ -264,14 +264,14 @@ module _ (u o : ℕ) (g : Wide u) (h : o < 8) where
   -- the columns of the rim
   module _ (i : ℕ) (l : i < 4) where
     abbrev m : ℕ
-    m = columnOf u o i
+    m = column_of u o i
 
     abbrev n : ℕ
     n = top_of u o i
 
     column : (T (ltb m 10)) × ((T (ltb n 10)) × T (upto (n + 1) (rimmed u o m n)))
     column =
-        let t = at 4 (rimColumn u o) (at-view (λ u o. upto 4 (rimColumn u o)) test-rimmed u o g h) i l in
+        let t = at 4 (rim_column u o) (at-view (λ u o. upto 4 (rim_column u o)) test-rimmed u o g h) i l in
         let r = both (ltb m 10) (ltb n 10 && upto (n + 1) (rimmed u o m n)) t in
         (r.0, both (ltb n 10) (upto (n + 1) (rimmed u o m n)) r.1)
 
@@ -304,7 +304,7 @@ module _ (u o : ℕ) (g : Wide u) (h : o < 8) where
 
   -- what is further in
   rim : (T (leb (first_of u o) (top_of u o 0))) × T (upto (first_of u o) (λ m. upto (m + 1) (inner u o m)))
-  rim = both (leb (first_of u o) (top_of u o 0)) (upto (first_of u o) (λ m. upto (m + 1) (inner u o m))) (at-view innerRim test-inner u o g h)
+  rim = both (leb (first_of u o) (top_of u o 0)) (upto (first_of u o) (λ m. upto (m + 1) (inner u o m))) (at-view inner_rim test-inner u o g h)
 
   pub steep : first_of u o ≤ top_of u o 0
   steep = leb→le (first_of u o) (top_of u o 0) rim.0
@@ -324,7 +324,7 @@ less-95 n h = go (ltb n 95) refl
     go false e = omega arith
 
 -- counted and uncounted again
-back-again : (c : ℤ) → nat_abs c ≤ 39 → pos (standOf c) -ℤ pos 95 ≡ c
+back-again : (c : ℤ) → nat_abs c ≤ 39 → pos (stand_of c) -ℤ pos 95 ≡ c
 back-again (pos n) h = go (ltb (95 + n) 95) refl
   where
     go : (t : Bool) → ltb (95 + n) 95 ≡ t → cond t (negsuc (95 - suc (95 + n))) (pos (95 + n - 95)) ≡ pos n
@@ -343,21 +343,21 @@ module _ (w : ℕ) (h : w < 16) where
   abbrev b : ℕ
   b = get_or listed (490 + w * 2) 0
 
-  place_is : (T (eqb a (standX w)) × T (eqb b (standY w))) × (T (ltb a 128) × T (ltb b 128))
+  place_is : (T (eqb a (stand_x w)) × T (eqb b (stand_y w))) × (T (ltb a 128) × T (ltb b 128))
   unfolding placed
   place_is =
-      let r = both (eqb a (standX w) && eqb b (standY w)) (ltb a 128 && ltb b 128) (at 16 placed test-placed w h) in
-      (both (eqb a (standX w)) (eqb b (standY w)) r.0, both (ltb a 128) (ltb b 128) r.1)
+      let r = both (eqb a (stand_x w) && eqb b (stand_y w)) (ltb a 128 && ltb b 128) (at 16 placed test-placed w h) in
+      (both (eqb a (stand_x w)) (eqb b (stand_y w)) r.0, both (ltb a 128) (ltb b 128) r.1)
 
   -- what stands there, and that it is small
-  pub near-x : (pos (get_or listed (489 + w * 2) 0) -ℤ pos 95 ≡ (aPoint w).x) × (get_or listed (489 + w * 2) 0 < 128)
-  unfolding standX
+  pub near-x : (pos (get_or listed (489 + w * 2) 0) -ℤ pos 95 ≡ (a_point w).x) × (get_or listed (489 + w * 2) 0 < 128)
+  unfolding stand_x
   near-x =
-      let e = ap (λ (n : ℕ). pos n -ℤ pos 95) (eqb→eq a (standX w) place_is.0.0) in
-      (e ∙ back-again (aPoint w).x (small w (omega arith)).x-small, ltb→lt a 128 place_is.1.0)
+      let e = ap (λ (n : ℕ). pos n -ℤ pos 95) (eqb→eq a (stand_x w) place_is.0.0) in
+      (e ∙ back-again (a_point w).x (small w (omega arith)).x-small, ltb→lt a 128 place_is.1.0)
 
-  pub near-y : (pos (get_or listed (490 + w * 2) 0) -ℤ pos 95 ≡ (aPoint w).y) × (get_or listed (490 + w * 2) 0 < 128)
-  unfolding standY
+  pub near-y : (pos (get_or listed (490 + w * 2) 0) -ℤ pos 95 ≡ (a_point w).y) × (get_or listed (490 + w * 2) 0 < 128)
+  unfolding stand_y
   near-y =
-      let e = ap (λ (n : ℕ). pos n -ℤ pos 95) (eqb→eq b (standY w) place_is.0.1) in
-      (e ∙ back-again (aPoint w).y (small w (omega arith)).y-small, ltb→lt b 128 place_is.1.1)
+      let e = ap (λ (n : ℕ). pos n -ℤ pos 95) (eqb→eq b (stand_y w) place_is.0.1) in
+      (e ∙ back-again (a_point w).y (small w (omega arith)).y-small, ltb→lt b 128 place_is.1.1)

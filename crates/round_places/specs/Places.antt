@@ -1,15 +1,15 @@
 -- The table of the A points by place, and its views (see src/lib.rt). Not to be believed: proofs/Rule ties it to the A points.
 --   listed              the table
---   leftIn o, downIn o  whether view o looks to the left, and down: 1, else 0
---   xIn o m e, yIn      how far column m and row e of view o are along x, and along y
---   ahead_of o, backOf o how far one column of view o is in the table, onwards or back;  riseOf, fallOf, one row
+--   left_in o, down_in o  whether view o looks to the left, and down: 1, else 0
+--   x_in o m e, y_in      how far column m and row e of view o are along x, and along y
+--   ahead_of o, back_of o how far one column of view o is in the table, onwards or back;  rise_of, fall_of, one row
 --   index_of o m e       where column m and row e of view o stand in the table;  number_at o m e, the number there, 254 or 255 for none
 --   Wide u              u is a width that the table has a rim for
---   standX w, standY w  the coordinates of point w, counted from 95 below zero
---   rimOf u o i         entry i of the rim of width u in view o;  columnOf, its column;  top_of, the last row of that
+--   stand_x w, stand_y w  the coordinates of point w, counted from 95 below zero
+--   rim_of u o i         entry i of the rim of width u in view o;  column_of, its column;  top_of, the last row of that
 --   first_of u o         the rim's first column
 use Rattle.std.specs.Prelude.{ℕ, ◌+◌, ◌-◌, ◌*◌, ◌/◌, ◌%◌, ◌≤◌, cond, List, [], ◌∷◌, eqb, ℤ, pos, negsuc, get_or}
-use Rattle.points.specs.Points.{aPoint}
+use Rattle.points.specs.Points.{a_point}
 
 unfoldable pub listed : List ℕ
 listed =
@@ -43,62 +43,62 @@ listed =
     96 ∷ 96 ∷ 92 ∷ 96 ∷ 96 ∷ 92 ∷ 92 ∷ 92 ∷ 96 ∷ 100 ∷ 100 ∷ 96 ∷ 92 ∷ 100 ∷ 100 ∷ 92 ∷
     100 ∷ 100 ∷ 88 ∷ 96 ∷ 96 ∷ 88 ∷ 88 ∷ 92 ∷ 92 ∷ 88 ∷ 88 ∷ 100 ∷ 100 ∷ 88 ∷ 96 ∷ 104 ∷ []
 
-abbrev pub leftIn : ℕ → ℕ
-leftIn o = o / 4
+abbrev pub left_in : ℕ → ℕ
+left_in o = o / 4
 
-abbrev pub downIn : ℕ → ℕ
-downIn o = o / 2 % 2
+abbrev pub down_in : ℕ → ℕ
+down_in o = o / 2 % 2
 
 -- a in a view along x, b in one along y
 abbrev pub along : ℕ → ℕ → ℕ → ℕ
 along o a b = cond (eqb (o % 2) 1) b a
 
-abbrev pub xIn : ℕ → ℕ → ℕ → ℕ
-xIn o m e = along o m e
+abbrev pub x_in : ℕ → ℕ → ℕ → ℕ
+x_in o m e = along o m e
 
-abbrev pub yIn : ℕ → ℕ → ℕ → ℕ
-yIn o m e = along o e m
+abbrev pub y_in : ℕ → ℕ → ℕ → ℕ
+y_in o m e = along o e m
 
 abbrev pub ahead_of : ℕ → ℕ
-ahead_of o = along o (19 * (1 - leftIn o)) (1 - downIn o)
+ahead_of o = along o (19 * (1 - left_in o)) (1 - down_in o)
 
-abbrev pub backOf : ℕ → ℕ
-backOf o = along o (19 * leftIn o) (downIn o)
+abbrev pub back_of : ℕ → ℕ
+back_of o = along o (19 * left_in o) (down_in o)
 
-abbrev pub riseOf : ℕ → ℕ
-riseOf o = along o (1 - downIn o) (19 * (1 - leftIn o))
+abbrev pub rise_of : ℕ → ℕ
+rise_of o = along o (1 - down_in o) (19 * (1 - left_in o))
 
-abbrev pub fallOf : ℕ → ℕ
-fallOf o = along o (downIn o) (19 * leftIn o)
+abbrev pub fall_of : ℕ → ℕ
+fall_of o = along o (down_in o) (19 * left_in o)
 
 abbrev pub index_of : ℕ → ℕ → ℕ → ℕ
-index_of o m e = 180 + (ahead_of o * m + riseOf o * e) - (backOf o * m + fallOf o * e)
+index_of o m e = 180 + (ahead_of o * m + rise_of o * e) - (back_of o * m + fall_of o * e)
 
 unfoldable pub number_at : ℕ → ℕ → ℕ → ℕ
 number_at o m e = get_or listed (index_of o m e) 0
 
-abbrev pub standOf : ℤ → ℕ
-standOf (pos n) = 95 + n
-standOf (negsuc n) = 94 - n
+abbrev pub stand_of : ℤ → ℕ
+stand_of (pos n) = 95 + n
+stand_of (negsuc n) = 94 - n
 
-unfoldable pub standX : ℕ → ℕ
-standX w = standOf (aPoint w).x
+unfoldable pub stand_x : ℕ → ℕ
+stand_x w = stand_of (a_point w).x
 
-unfoldable pub standY : ℕ → ℕ
-standY w = standOf (aPoint w).y
+unfoldable pub stand_y : ℕ → ℕ
+stand_y w = stand_of (a_point w).y
 
 pub record Wide (u : ℕ) : Type 0 where
   pub low : 5 ≤ u
   pub high : u ≤ 8
 
-unfoldable pub rimOf : ℕ → ℕ → ℕ → ℕ
-rimOf u o i = get_or listed (361 + ((u - 5) * 8 + o) * 4 + i) 0
+unfoldable pub rim_of : ℕ → ℕ → ℕ → ℕ
+rim_of u o i = get_or listed (361 + ((u - 5) * 8 + o) * 4 + i) 0
 
-abbrev pub columnOf : ℕ → ℕ → ℕ → ℕ
-columnOf u o i = rimOf u o i / 16
+abbrev pub column_of : ℕ → ℕ → ℕ → ℕ
+column_of u o i = rim_of u o i / 16
 
 abbrev pub top_of : ℕ → ℕ → ℕ → ℕ
-top_of u o i = rimOf u o i % 16
+top_of u o i = rim_of u o i % 16
 
 abbrev pub first_of : ℕ → ℕ → ℕ
-first_of u o = columnOf u o 0
+first_of u o = column_of u o 0

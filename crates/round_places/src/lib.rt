@@ -10,8 +10,8 @@
 // the widths from 5 on, each view and each of four columns, 16 times the column and its last row; where a view has three, the last one
 // twice. Then the coordinates of the first 16 points, counted from 95 below zero. A caller makes it once by `table` and lends it.
 ghost use Rattle.std.specs.Prelude.{◌≡◌, ◌<◌, ◌≤◌, get_or, pos, ◌-ℤ◌};
-ghost use Rattle.points.specs.Points.{aPoint};
-ghost use Rattle.round_places.specs.Places.{listed, Wide, rimOf};
+ghost use Rattle.points.specs.Points.{a_point};
+ghost use Rattle.round_places.specs.Places.{listed, Wide, rim_of};
 
 use points::Point;
 
@@ -66,7 +66,7 @@ pub fn number(t: &[u8; 521], k: u32) -> u32
 // The i-th column of the rim of width u in view o: 16 times the column, and its last row.
 pub fn rim(t: &[u8; 521], u: u32, o: u32, i: u32) -> u32
     requires { (t.now ≡ listed) × Wide u × (o < 8) × (i < 4) }
-    ensures { result ≡ rimOf u o i }
+    ensures { result ≡ rim_of u o i }
 {
     number(t, 361 + ((u - 5) * 8 + o) * 4 + i)
 }
@@ -83,7 +83,7 @@ fn uncounted(b: u8) -> i32
 // The A point number w, of the first 16.
 pub fn near_point(t: &[u8; 521], w: usize) -> Point
     requires { (t.now ≡ listed) × (w < 16) }
-    ensures { result ≡ aPoint w }
+    ensures { result ≡ a_point w }
 {
     let x = t[489 + w * 2];
     let y = t[490 + w * 2];

@@ -12,19 +12,19 @@ use mir.Syntax.{w32}
 use mir.Val.{Fits}
 use Rattle.points.specs.declared.Point.{Point}
 use Rattle.points.specs.Turn.{turned, Small}
-use Rattle.points.proofs.Signed.{natAbs-neg}
+use Rattle.points.proofs.Signed.{nat_abs-neg}
 use Rattle.distance.specs.declared.Spot.{Spot}
 use Rattle.distance.specs.Distance.{SpotInRange, difference, distance}
-use Rattle.round_search.specs.Key.{turnedBack}
+use Rattle.round_search.specs.Key.{turned_back}
 use Rattle.round_search.proofs.Ints.{square_le}
 
 pub distance-below : (h : Spot) (p : Point) → SpotInRange h → Small p → distance h p < 2 ^ 29
 unfolding distance
 distance-below h p a b = omega (arith, square_le h.x p.x a.x-in b.x-small, square_le h.y p.y a.y-in b.y-small)
 
-pub back-in-range : (h : Spot) → SpotInRange h → SpotInRange (turnedBack h)
-unfolding turnedBack
-back-in-range h a = record { x-in = omega (arith, natAbs-neg h.y, a.y-in); y-in = a.x-in }
+pub back-in-range : (h : Spot) → SpotInRange h → SpotInRange (turned_back h)
+unfolding turned_back
+back-in-range h a = record { x-in = omega (arith, nat_abs-neg h.y, a.y-in); y-in = a.x-in }
 
 -- 128 (-c) is -(128 c)
 scaled-neg : (c : ℤ) → pos 128 *ℤ neg_ℤ c ≡ neg_ℤ (pos 128 *ℤ c)
@@ -36,11 +36,11 @@ scaled-neg (negsuc n) = sym (neg_ℤ-neg_ℤ (pos (128 * suc n)))
 negated : (r c : ℤ) → nat_abs (difference (neg_ℤ r) c) ≡ nat_abs (difference r (neg_ℤ c))
 negated r c =
     ap nat_abs (sym (neg_ℤ-+ℤ r (pos 128 *ℤ c)))
-    ∙ natAbs-neg (r +ℤ pos 128 *ℤ c)
+    ∙ nat_abs-neg (r +ℤ pos 128 *ℤ c)
     ∙ ap (λ (z : ℤ). nat_abs (r +ℤ z)) (sym (neg_ℤ-neg_ℤ (pos 128 *ℤ c)) ∙ ap neg_ℤ (sym (scaled-neg c)))
 
-pub back : (h : Spot) (p : Point) → distance h (turned p) ≡ distance (turnedBack h) p
-unfolding distance turnedBack
+pub back : (h : Spot) (p : Point) → distance h (turned p) ≡ distance (turned_back h) p
+unfolding distance turned_back
 back h p = omega (arith, ap (λ (n : ℕ). n * n) (negated h.y p.x))
 
 -- a distance and a number below 256 fit 32 bits

@@ -15,7 +15,7 @@ use mir.Val.{SFits, Fits, hbits, to_z, of_z}
 use mir.Facts.{to_z-of_z}
 use Rattle.points.proofs.Signed.{fits, reads}
 use Rattle.distance.specs.Distance.{difference, square}
-use Rattle.distance.proofs.Rests.{Spread, sum, first, second, natAbs-*, spread}
+use Rattle.distance.proofs.Rests.{Spread, sum, first, second, nat_abs-*, spread}
 
 square-is : (z : ℤ) → z *ℤ z ≡ pos (square z)
 square-is (pos n) = refl
@@ -58,7 +58,7 @@ module _ (r c : ℤ) (g : nat_abs r ≤ 8192) (h : nat_abs c ≤ 39) where
   m-is = ap (λ (z : ℤ). pos 128 *ℤ z) (cast-reads w32 w16 c (omega arith) (omega arith))
 
   pub scaled_fits : SFits w16 m
-  scaled_fits = subst (SFits w16) (sym m-is) (fits w16 (pos 128 *ℤ c) (omega (arith, natAbs-* (pos 128) c)))
+  scaled_fits = subst (SFits w16) (sym m-is) (fits w16 (pos 128 *ℤ c) (omega (arith, nat_abs-* (pos 128) c)))
 
   -- r - 128 c
   abbrev d : ℤ

@@ -10,7 +10,7 @@ ghost use Rattle.std.specs.Prelude.{◌≡◌, ◌≤◌, ◌<◌, ◌^◌};
 ghost use Rattle.points.specs.Turn.{Small};
 ghost use Rattle.round_places.specs.Places.{listed};
 ghost use Rattle.distance.specs.Distance.{SpotInRange};
-ghost use Rattle.round_search.specs.Key.{keysFrom, lesserOf, lesserKeys, leastKeys, candidateOf};
+ghost use Rattle.round_search.specs.Key.{keys_from, lesser_of, lesser_keys, least_keys, candidate_of};
 
 use crate::line;
 use distance::Spot;
@@ -28,7 +28,7 @@ pub struct Candidate {
 // back instead.
 fn keys_from(h: Spot, p: Point, w: u32) -> Keys
     requires { SpotInRange h × Small p × (w < 256) }
-    ensures { result ≡ keysFrom h p w }
+    ensures { result ≡ keys_from h p w }
 {
     let h1 = line::turned_back(h);
     let h2 = line::turned_back(h1);
@@ -42,13 +42,13 @@ fn keys_from(h: Spot, p: Point, w: u32) -> Keys
 }
 
 fn lesser(x: u32, y: u32) -> u32
-    ensures { result ≡ lesserOf x y }
+    ensures { result ≡ lesser_of x y }
 {
     if y < x { y } else { x }
 }
 
 fn lesser_keys(x: Keys, y: Keys) -> Keys
-    ensures { result ≡ lesserKeys x y }
+    ensures { result ≡ lesser_keys x y }
 {
     Keys {
         a: lesser(x.a, y.a),
@@ -62,7 +62,7 @@ fn lesser_keys(x: Keys, y: Keys) -> Keys
 // n numbers, a power of two, and the machine takes several at once.
 fn least_keys(t: &[u8; 521], h: Spot, n: usize) -> Keys
     requires { (t.now ≡ listed) × SpotInRange h × (n ≤ 16) }
-    ensures { result ≡ leastKeys h n }
+    ensures { result ≡ least_keys h n }
 {
     let mut best = keys_from(h, round_places::near_point(t, 0), 0);
     let mut k: usize = 0;
@@ -76,7 +76,7 @@ fn least_keys(t: &[u8; 521], h: Spot, n: usize) -> Keys
 // The least keys of the numbers below 2^u.
 pub fn keys_below(t: &[u8; 521], u: u32, h: Spot) -> Keys
     requires { (t.now ≡ listed) × (u ≤ 8) × SpotInRange h }
-    ensures { result ≡ leastKeys h (2 ^ u) }
+    ensures { result ≡ least_keys h (2 ^ u) }
 {
     if u < 5 {
         return least_keys(t, h, 1usize << u);
@@ -87,7 +87,7 @@ pub fn keys_below(t: &[u8; 521], u: u32, h: Spot) -> Keys
 // The number and the distance of a key, where `rest` is the remainder that all distances leave.
 pub fn read_off(key: u32, rest: u32) -> Candidate
     requires { rest ≤ key }
-    ensures { result ≡ candidateOf key rest }
+    ensures { result ≡ candidate_of key rest }
 {
     let w = (key - rest) % 256;
     Candidate {

@@ -9,8 +9,8 @@ pub mod line;
 ghost use Rattle.std.specs.Prelude.{◌≡◌, ◌≤◌};
 ghost use Rattle.round_places.specs.Places.{listed};
 ghost use Rattle.distance.specs.Distance.{SpotInRange};
-ghost use Rattle.distance.specs.Found.{foundBy};
-ghost use Rattle.round_search.specs.Key.{roundDistance};
+ghost use Rattle.distance.specs.Found.{found_by};
+ghost use Rattle.round_search.specs.Key.{round_distance};
 
 use distance::{Found, Spot};
 
@@ -18,7 +18,7 @@ use distance::{Found, Spot};
 // 256, as that of number 0 shows.
 pub fn search(t: &[u8; 521], u: u32, h: Spot) -> Found
     requires { (t.now ≡ listed) × (u ≤ 8) × SpotInRange h }
-    ensures { result ≡ foundBy u roundDistance h }
+    ensures { result ≡ found_by u round_distance h }
 {
     let rest = line::distance_from(h, round_places::near_point(t, 0)) % 256;
     let keys = key::keys_below(t, u, h);

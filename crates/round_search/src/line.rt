@@ -5,7 +5,7 @@
 ghost use Rattle.std.specs.Prelude.{◌≡◌, ◌≤◌, nat_abs};
 ghost use Rattle.points.specs.Turn.{Small};
 ghost use Rattle.distance.specs.Distance.{SpotInRange, difference, square, distance};
-ghost use Rattle.round_search.specs.Key.{turnedBack};
+ghost use Rattle.round_search.specs.Key.{turned_back};
 
 use distance::Spot;
 use points::Point;
@@ -31,7 +31,7 @@ pub fn distance_from(h: Spot, p: Point) -> u32
 
 pub fn turned_back(h: Spot) -> Spot
     requires { SpotInRange h }
-    ensures { (result ≡ turnedBack h) × SpotInRange result }
+    ensures { (result ≡ turned_back h) × SpotInRange result }
 {
     Spot { x: -h.y, y: h.x }
 }

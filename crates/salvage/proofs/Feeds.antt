@@ -34,7 +34,7 @@ use Rattle.replay.proofs.Feeds.{runs}
 use Rattle.salvage.specs.declared.record.Tally.{Tally}
 use Rattle.salvage.specs.Taking.{Minded, minded}
 use Rattle.salvage.proofs.Takes.{minded-own}
-use Rattle.salvage.specs.Working.{Held, settled, settledAt, heldBy, stepped, feedings, written, writtenAt, outs, Feeds}
+use Rattle.salvage.specs.Working.{Held, settled, settled_at, held_by, stepped, feedings, written, written_at, outs, Feeds}
 
 -- ---- records
 
@@ -45,33 +45,33 @@ pub record Both : Type 0 where
 abbrev pub both : State → Tally → Both
 both s t = record { state = s; tally = t }
 
-abbrev pub bothOf : Minded → Both
-bothOf m = both m.state m.tally
+abbrev pub both_of : Minded → Both
+both_of m = both m.state m.tally
 
-abbrev pub mindedBy : Both → Entry → Minded
-mindedBy b r = minded b.state b.tally r
+abbrev pub minded_by : Both → Entry → Minded
+minded_by b r = minded b.state b.tally r
 
 unfoldable pub minds : Both → List Entry → Both
 minds b [] = b
-minds b (r ∷ rs) = minds (bothOf (mindedBy b r)) rs
+minds b (r ∷ rs) = minds (both_of (minded_by b r)) rs
 
 unfoldable pub wrotes : Both → List Entry → List Entry
 wrotes b [] = []
-wrotes b (r ∷ rs) = written (mindedBy b r) r ++ wrotes (bothOf (mindedBy b r)) rs
+wrotes b (r ∷ rs) = written (minded_by b r) r ++ wrotes (both_of (minded_by b r)) rs
 
 pub minds-append : (b : Both) (xs ys : List Entry) → minds (minds b xs) ys ≡ minds b (xs ++ ys)
 unfolding minds
 minds-append b [] ys = refl
-minds-append b (x ∷ xs) ys = minds-append (bothOf (mindedBy b x)) xs ys
+minds-append b (x ∷ xs) ys = minds-append (both_of (minded_by b x)) xs ys
 
 pub wrotes-append : (b : Both) (xs ys : List Entry) → wrotes b xs ++ wrotes (minds b xs) ys ≡ wrotes b (xs ++ ys)
 unfolding minds wrotes
 wrotes-append b [] ys = refl
 wrotes-append b (x ∷ xs) ys =
-    let c = bothOf (mindedBy b x) in
-    append_assoc (written (mindedBy b x) x) (wrotes c xs) (wrotes (minds c xs) ys) ∙ ap (λ (l : List Entry). written (mindedBy b x) x ++ l) (wrotes-append c xs ys)
+    let c = both_of (minded_by b x) in
+    append_assoc (written (minded_by b x) x) (wrotes c xs) (wrotes (minds c xs) ys) ∙ ap (λ (l : List Entry). written (minded_by b x) x ++ l) (wrotes-append c xs ys)
 
-settled-minds : (t : Stage) (b : Both) (g : Frame) → bothOf (settled (is_whole t) b.state b.tally (entry_of g)) ≡ minds b (ended t g)
+settled-minds : (t : Stage) (b : Both) (g : Frame) → both_of (settled (is_whole t) b.state b.tally (entry_of g)) ≡ minds b (ended t g)
 unfolding settled minds
 settled-minds Fresh b g = refl
 settled-minds Part b g = refl
@@ -82,7 +82,7 @@ settled-wrotes : (t : Stage) (b : Both) (g : Frame) → written (settled (is_who
 unfolding settled wrotes
 settled-wrotes Fresh b g = refl
 settled-wrotes Part b g = refl
-settled-wrotes Whole b g = sym (append-nil (written (mindedBy b (entry_of g)) (entry_of g)))
+settled-wrotes Whole b g = sym (append-nil (written (minded_by b (entry_of g)) (entry_of g)))
 settled-wrotes Bad b g = refl
 
 -- ---- bytes
@@ -103,7 +103,7 @@ feedings-follow f b (x ∷ bs) =
     ∙ ap (λ (c : Both). holding (following g bs).frame c) (minds-append b (ended g.stage g) (following g bs).entries)
 
 pub outs-follow : (f : Frame) (b : Both) (bs : List ℕ) → outs (holding f b) bs ≡ wrotes b (following f bs).entries
-unfolding outs following wrotes stepped writtenAt
+unfolding outs following wrotes stepped written_at
 outs-follow f b [] = refl
 outs-follow f b (x ∷ bs) =
     let g = pushed f x in
@@ -120,8 +120,8 @@ pub outs-append : (h : Held) (xs ys : List ℕ) → outs h (xs ++ ys) ≡ outs h
 unfolding feedings outs
 outs-append h [] ys = refl
 outs-append h (x ∷ xs) ys =
-    ap (λ (l : List Entry). writtenAt h x ++ l) (outs-append (stepped h x) xs ys)
-    ∙ sym (append_assoc (writtenAt h x) (outs (stepped h x) xs) (outs (feedings (stepped h x) xs) ys))
+    ap (λ (l : List Entry). written_at h x ++ l) (outs-append (stepped h x) xs ys)
+    ∙ sym (append_assoc (written_at h x) (outs (stepped h x) xs) (outs (feedings (stepped h x) xs) ys))
 
 -- ---- the record that they made whole
 
@@ -192,13 +192,13 @@ module _ (h₀ : Held) (bs page₀ : List ℕ) (h : Held) (page : List ℕ) (i a
         go true e = g.room k (ltb-true k i e)
         go false e = omega (arith, ap (λ (x : List Entry). space_of x) (here (k - i) (omega (arith, ltb-false k i e))), g.wrote.next, free)
 
-    module _ (m : Minded) (z : m ≡ settledAt h f₁) (r : ℕ) (page₁ : List ℕ) (w : Puts page at (bytes_of (written m (entry_of f₁))) r page₁) (k : r ≤ length page) where
-      pub going_on : Going h₀ bs page₀ (heldBy f₁ m) page₁ (i + n) r
+    module _ (m : Minded) (z : m ≡ settled_at h f₁) (r : ℕ) (page₁ : List ℕ) (w : Puts page at (bytes_of (written m (entry_of f₁))) r page₁) (k : r ≤ length page) where
+      pub going_on : Going h₀ bs page₀ (held_by f₁ m) page₁ (i + n) r
       unfolding ds
       going_on =
           let p = a.pushes in
-          let held-is : heldBy f₁ m ≡ feedings h (take n ds) =
-          ap (heldBy f₁) z ∙ ap (λ (c : Both). holding f₁ c) (settled-minds f₁.stage (beside h) f₁)
+          let held-is : held_by f₁ m ≡ feedings h (take n ds) =
+          ap (held_by f₁) z ∙ ap (λ (c : Both). holding f₁ c) (settled-minds f₁.stage (beside h) f₁)
           ∙ sym (feedings-follow h.frame (beside h) (take n ds) ∙ ap (λ (x : Read). holding x.frame (minds (beside h) x.entries)) p) in
           let out-is : outs h (take n ds) ≡ written m (entry_of f₁) =
           outs-follow h.frame (beside h) (take n ds) ∙ ap (λ (x : Read). wrotes (beside h) x.entries) p

@@ -23,10 +23,10 @@ use Rattle.record_write.proofs.Fronts.{bytes-append}
 use Rattle.page.proofs.Pages.{front-is}
 use Rattle.replay_judge.specs.declared.Verdict.TheVariants.{Agree}
 use Rattle.replay_judge.specs.Judging.{left, left_of}
-use Rattle.replay.specs.Meaning.{closed, agreed, verdictOf}
-use Rattle.replay.specs.Course.{isBad, found}
+use Rattle.replay.specs.Meaning.{closed, agreed, verdict_of}
+use Rattle.replay.specs.Course.{is_bad, found}
 use Rattle.salvage_meaning.specs.Salvage as meaning
-use Rattle.salvage_meaning.specs.Salvage.{kept, mended, grouped, replacedIn, addedIn, removedIn, changes, salvageOf}
+use Rattle.salvage_meaning.specs.Salvage.{kept, mended, grouped, replaced_in, added_in, removed_in, changes, salvage_of}
 use Rattle.salvage_meaning.proofs.Running.{false-true}
 use Rattle.salvage_meaning.proofs.Groups.{first-none}
 use Rattle.salvage_meaning.proofs.Written.{reading-formed, kept-formed, Agreeing, written-agrees}
@@ -34,7 +34,7 @@ use Rattle.salvage_meaning.proofs.Same.{Bytes, agreed-same}
 use Rattle.salvage_meaning.proofs.Laws.{kept-few}
 use Rattle.salvage.specs.declared.Salvage.{Salvage}
 use Rattle.salvage.specs.declared.Changes.{Changes}
-use Rattle.salvage.specs.Working.{Held, feedings, outs, Feeds, changesOf, end_of, salvageAt, freshSalvage}
+use Rattle.salvage.specs.Working.{Held, feedings, outs, Feeds, changes_of, end_of, salvage_at, fresh_salvage}
 use Rattle.salvage.specs.Run.{Ran, starts, feeds, skips, Reported}
 use Rattle.salvage.proofs.Feeds.{Both, beside, holding, minds, wrotes, minds-append, wrotes-append, feedings-follow, outs-follow, feeds-settled}
 use Rattle.salvage.proofs.Comes.{Holds, off-minds, Comes, comes}
@@ -42,10 +42,10 @@ use Rattle.salvage.proofs.Comes.{Holds, off-minds, Comes, comes}
 -- ---- after a run
 
 abbrev fresh₀ : Both
-fresh₀ = beside (salvageAt freshSalvage)
+fresh₀ = beside (salvage_at fresh_salvage)
 
 record After (s : Salvage) (bs out : List ℕ) : Type 0 where
-  held : beside (salvageAt s) ≡ minds fresh₀ (following fresh bs).entries
+  held : beside (salvage_at s) ≡ minds fresh₀ (following fresh bs).entries
   frame : agreed s.replay.judge.verdict ≡ true → s.replay.frame ≡ (following fresh bs).frame
   wrote : out ≡ bytes_of (wrotes fresh₀ (following fresh bs).entries)
 
@@ -54,7 +54,7 @@ module _ (s : Salvage) (bs out : List ℕ) (a : After s bs out) (ys : List ℕ) 
   X = following fresh bs
 
   abbrev b : Both
-  b = beside (salvageAt s)
+  b = beside (salvage_at s)
 
   -- what later bytes do, if they are looked at
   more-held : minds fresh₀ (following fresh (bs ++ ys)).entries ≡ minds b (following X.frame ys).entries
@@ -82,14 +82,14 @@ module _ (s : Salvage) (bs out : List ℕ) (a : After s bs out) (ys : List ℕ) 
     off-wrote-none f = outs-follow f b ys ∙ (off-minds b (following f ys).entries off).1
 
   -- they are fed
-  module _ (r : Salvage) (e : salvageAt r ≡ feedings (salvageAt s) ys) (os : List ℕ) (z : os ≡ bytes_of (outs (salvageAt s) ys)) where
-    fed-held : beside (salvageAt r) ≡ minds b (following s.replay.frame ys).entries
+  module _ (r : Salvage) (e : salvage_at r ≡ feedings (salvage_at s) ys) (os : List ℕ) (z : os ≡ bytes_of (outs (salvage_at s) ys)) where
+    fed-held : beside (salvage_at r) ≡ minds b (following s.replay.frame ys).entries
     fed-held = ap beside (e ∙ feedings-follow s.replay.frame b ys)
 
     fed-off : agreed s.replay.judge.verdict ≡ false → After r (bs ++ ys) (out ++ os)
     unfolding bytes_of
     fed-off off =
-        let same : beside (salvageAt r) ≡ b = fed-held ∙ (off-minds b (following s.replay.frame ys).entries off).0 in
+        let same : beside (salvage_at r) ≡ b = fed-held ∙ (off-minds b (following s.replay.frame ys).entries off).0 in
         record {
           held = same ∙ sym (off-held off);
           frame = λ k. absurd (false-true (sym (ap (λ (c : Both). agreed c.state.verdict) same ∙ off) ∙ k));
@@ -114,7 +114,7 @@ module _ (s : Salvage) (bs out : List ℕ) (a : After s bs out) (ys : List ℕ) 
         go false k = fed-off k
 
   -- they are not
-  bad-stage : (t : Stage) → isBad t ≡ true → t ≡ Bad
+  bad-stage : (t : Stage) → is_bad t ≡ true → t ≡ Bad
   bad-stage Fresh k = absurd (false-true k)
   bad-stage Part k = absurd (false-true k)
   bad-stage Whole k = absurd (false-true k)
@@ -133,13 +133,13 @@ module _ (s : Salvage) (bs out : List ℕ) (a : After s bs out) (ys : List ℕ) 
   unfolding found
   after-skip f = go (agreed s.replay.judge.verdict) refl f
     where
-      go : (c : Bool) → agreed s.replay.judge.verdict ≡ c → cond c (isBad s.replay.frame.stage) true ≡ true → After s (bs ++ ys) out
+      go : (c : Bool) → agreed s.replay.judge.verdict ≡ c → cond c (is_bad s.replay.frame.stage) true ≡ true → After s (bs ++ ys) out
       go false k m = record { held = sym (off-held k); frame = λ n. absurd (false-true (sym k ∙ n)); wrote = sym (off-wrote k) }
       go true k m =
           let g : s.replay.frame ≡ X.frame = a.frame k in
           swallowed g (swallows X.frame ys (ap (λ (x : Frame). x.stage) (sym g) ∙ bad-stage s.replay.frame.stage m))
 
-after_none : After freshSalvage [] []
+after_none : After fresh_salvage [] []
 unfolding following minds wrotes bytes_of
 after_none = record { held = refl; frame = λ _. refl; wrote = refl }
 
@@ -151,7 +151,7 @@ after_run (skips {s} {bs} {out} q f ys) = after-skip s bs out (after_run q) ys f
 
 -- ---- THE THEOREM
 
-fresh_holds : Holds (salvageAt freshSalvage).state closed []
+fresh_holds : Holds (salvage_at fresh_salvage).state closed []
 unfolding left
 fresh_holds = record { receiver = refl; fine = tt; due = refl; long = refl; on = refl }
 
@@ -160,11 +160,11 @@ unfolding capped
 all_come bs = comes (reading_of bs).records Start (reading-formed bs) _ closed [] fresh_holds 0 0 0 0
 
 pub record Meant (s : Salvage) (bs out : List ℕ) : Type 0 where
-  pub bytes : out ≡ (salvageOf bs).bytes
-  pub numbers : (c : Changes) → c ≡ end_of (salvageAt s) (capped (length bs)) → Reported c bs
+  pub bytes : out ≡ (salvage_of bs).bytes
+  pub numbers : (c : Changes) → c ≡ end_of (salvage_at s) (capped (length bs)) → Reported c bs
 
 meant : (s : Salvage) (bs out : List ℕ) → After s bs out → Meant s bs out
-unfolding salvageOf replacedIn
+unfolding salvage_of replaced_in
 meant s bs out a =
     let rs = (reading_of bs).records in
     let old = kept closed rs in
@@ -172,16 +172,16 @@ meant s bs out a =
     let q = (following-reads bs).entries in
     let c = all_come bs in
     let none : (grouped old).front ≡ [] = first-none old (kept-formed Start closed rs (reading-formed bs)) in
-    let same : beside (salvageAt s) ≡ minds fresh₀ rs = a.held ∙ ap (minds fresh₀) q in
+    let same : beside (salvage_at s) ≡ minds fresh₀ rs = a.held ∙ ap (minds fresh₀) q in
     record {
       bytes = a.wrote ∙ ap (λ (x : List Entry). bytes_of (wrotes fresh₀ x)) q ∙ ap bytes_of c.0;
       numbers = λ x e. record {
         replaced = ap (λ (y : Changes). y.replaced) e ∙ ap (λ (y : Both). y.tally.replaced) same ∙ c.1.replaced
-            ∙ ap (λ (y : List ℕ). capped (0 + (replacedIn y [] + changes replacedIn (grouped old).later new))) none ∙ ap capped (omega arith);
+            ∙ ap (λ (y : List ℕ). capped (0 + (replaced_in y [] + changes replaced_in (grouped old).later new))) none ∙ ap capped (omega arith);
         added = ap (λ (y : Changes). y.added) e ∙ ap (λ (y : Both). capped (y.tally.added + length (left_of y.state))) same ∙ c.1.added
-            ∙ ap (λ (y : List ℕ). capped (0 + (addedIn y [] + changes addedIn (grouped old).later new))) none ∙ ap capped (omega arith);
+            ∙ ap (λ (y : List ℕ). capped (0 + (added_in y [] + changes added_in (grouped old).later new))) none ∙ ap capped (omega arith);
         removed = ap (λ (y : Changes). y.removed) e ∙ ap (λ (y : Both). y.tally.removed) same ∙ c.1.removed
-            ∙ ap (λ (y : List ℕ). capped (0 + (removedIn y [] + changes removedIn (grouped old).later new))) none ∙ ap capped (omega arith);
+            ∙ ap (λ (y : List ℕ). capped (0 + (removed_in y [] + changes removed_in (grouped old).later new))) none ∙ ap capped (omega arith);
         cut = λ h.
             ap (λ (y : Changes). y.cut) e ∙ ap (λ (y : Both). capped (length bs) - y.tally.kept) same ∙ ap (λ (k : ℕ). capped (length bs) - k) c.1.space
             ∙ ap₂ (λ (n k : ℕ). n - k) (capped_small (length bs) h) (capped_small (0 + length (bytes_of old)) (omega (arith, kept-few bs))) ∙ omega arith;
@@ -200,22 +200,22 @@ run-agrees {s} {bs} {out} q some =
     subst Agreeing (sym e) (written-agrees bs (λ z. some (e ∙ z)))
 
 -- "A capture that agrees comes out byte for byte with four zeros"
-pub run-same : {s : Salvage} {bs out : List ℕ} → Ran s bs out → Bytes bs → (k : ℕ) → verdictOf bs ≡ Agree k
-    → (out ≡ bs) × (length bs ≤ 18446744073709551615 → end_of (salvageAt s) (capped (length bs)) ≡ changesOf 0 0 0 0)
+pub run-same : {s : Salvage} {bs out : List ℕ} → Ran s bs out → Bytes bs → (k : ℕ) → verdict_of bs ≡ Agree k
+    → (out ≡ bs) × (length bs ≤ 18446744073709551615 → end_of (salvage_at s) (capped (length bs)) ≡ changes_of 0 0 0 0)
 unfolding capped
 run-same {s} {bs} {out} q h k v =
     let m = salvage-meant q in
-    let r = m.numbers (end_of (salvageAt s) (capped (length bs))) refl in
+    let r = m.numbers (end_of (salvage_at s) (capped (length bs))) refl in
     let u = agreed-same bs h k v in
     let replaced = r.replaced ∙ ap (λ (x : meaning.Salvage). capped x.replaced) u in
     let added = r.added ∙ ap (λ (x : meaning.Salvage). capped x.added) u in
     let removed = r.removed ∙ ap (λ (x : meaning.Salvage). capped x.removed) u in (
       m.bytes ∙ ap (λ (x : meaning.Salvage). x.bytes) u,
-      λ l. let cut = r.cut l ∙ ap (λ (x : meaning.Salvage). x.cut) u in λ i. changesOf (replaced i) (added i) (removed i) (cut i),
+      λ l. let cut = r.cut l ∙ ap (λ (x : meaning.Salvage). x.cut) u in λ i. changes_of (replaced i) (added i) (removed i) (cut i),
     )
 
 -- whatever lumps and pages there were: the same bytes, and the same numbers
-pub runs-settled : {s t : Salvage} {bs out other : List ℕ} → Ran s bs out → Ran t bs other → (n : ℕ) → (out ≡ other) × (end_of (salvageAt s) n ≡ end_of (salvageAt t) n)
+pub runs-settled : {s t : Salvage} {bs out other : List ℕ} → Ran s bs out → Ran t bs other → (n : ℕ) → (out ≡ other) × (end_of (salvage_at s) n ≡ end_of (salvage_at t) n)
 runs-settled q p n =
     let a = after_run q in
     let b = after_run p in
@@ -237,9 +237,9 @@ back h =
     }
 
 -- any two results of one call are equal
-pub feed-settled : (s a b : Salvage) (bs page : List ℕ) (n m x y : ℕ) (p q : List ℕ) → Feeds (salvageAt s) bs page (salvageAt a) n x p → Feeds (salvageAt s) bs page (salvageAt b) m y q
+pub feed-settled : (s a b : Salvage) (bs page : List ℕ) (n m x y : ℕ) (p q : List ℕ) → Feeds (salvage_at s) bs page (salvage_at a) n x p → Feeds (salvage_at s) bs page (salvage_at b) m y q
     → (a ≡ b) × (n ≡ m) × (x ≡ y) × (p ≡ q)
 unfolding back
 feed-settled s a b bs page n m x y p q f g =
-    let e = feeds-settled (salvageAt s) bs page (salvageAt a) (salvageAt b) n m x y p q f g in
+    let e = feeds-settled (salvage_at s) bs page (salvage_at a) (salvage_at b) n m x y p q f g in
     (ap back e.0, e.1, e.2, e.3)

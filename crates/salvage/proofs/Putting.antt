@@ -19,7 +19,7 @@ use Rattle.records.specs.Values.{bytes_of}
 use Rattle.records.specs.Frames.{entry_of}
 use Rattle.records.proofs.Steps.{size_fits}
 use Rattle.lists.proofs.Lent.{lent, back}
-use Rattle.record_write.specs.Front.{wordEntries, Fronted}
+use Rattle.record_write.specs.Front.{word_entries, Fronted}
 use Rattle.record_write.proofs.Fronts.{bytes-append, word_bytes}
 use Rattle.page.specs.Page.{Puts}
 use Rattle.page.proofs.Pages.{joined}
@@ -58,10 +58,10 @@ unfolding bytes_of
 none-put w f given due page at e = rw e (record { next = omega arith; said = rw append-nil (sym (take-append-drop at page)) })
 
 -- a page whose rest, from p on, was lent, and came back with words in front
-rest_put : (page ws ys : List ℕ) (p : ℕ) → p ≤ length page → Fronted (wordEntries ws) (take (length page - p) (drop p page)) ys
-    → Puts page p (bytes_of (wordEntries ws)) (p + 5 * length ws) (take p page ++ (ys ++ drop (length page - p) (drop p page)))
+rest_put : (page ws ys : List ℕ) (p : ℕ) → p ≤ length page → Fronted (word_entries ws) (take (length page - p) (drop p page)) ys
+    → Puts page p (bytes_of (word_entries ws)) (p + 5 * length ws) (take p page ++ (ys ++ drop (length page - p) (drop p page)))
 rest_put page ws ys p h e =
-    let vs = bytes_of (wordEntries ws) in
+    let vs = bytes_of (word_entries ws) in
     let n : length vs ≡ 5 * length ws = word_bytes ws in
     record {
       next = ap (λ (k : ℕ). p + k) (sym n);
@@ -69,13 +69,13 @@ rest_put page ws ys p h e =
     }
 
 pub words-put : (w : Bool) (f : Frame) (given n p at : ℕ) (due page page₁ ys : List ℕ) → w ≡ true → n ≡ min given (length due) → p ≤ length page → length page₁ ≡ length page
-    → Puts page at (bytes_of (entry_of f ∷ [])) p page₁ → Fronted (wordEntries (take n due)) (take (length page₁ - p) (drop p page₁)) ys
+    → Puts page at (bytes_of (entry_of f ∷ [])) p page₁ → Fronted (word_entries (take n due)) (take (length page₁ - p) (drop p page₁)) ys
     → Puts page at (bytes_of (standing w f given due)) (p + 5 * n) (take p page₁ ++ (ys ++ drop (length page₁ - p) (drop p page₁)))
 words-put w f given n p at due page page₁ ys e z room same a b =
     let long : length (take n due) ≡ n = length-take-le n due (omega arith) in
-    let all : bytes_of (entry_of f ∷ []) ++ bytes_of (wordEntries (take n due)) ≡ bytes_of (standing w f given due) =
-    sym (bytes-append (entry_of f ∷ []) (wordEntries (take n due))) ∙ ap (λ (l : List ℕ). bytes_of (entry_of f ∷ wordEntries l)) (ap (λ (k : ℕ). take k due) z ∙ take-least given due) ∙ rw e in
+    let all : bytes_of (entry_of f ∷ []) ++ bytes_of (word_entries (take n due)) ≡ bytes_of (standing w f given due) =
+    sym (bytes-append (entry_of f ∷ []) (word_entries (take n due))) ∙ ap (λ (l : List ℕ). bytes_of (entry_of f ∷ word_entries l)) (ap (λ (k : ℕ). take k due) z ∙ take-least given due) ∙ rw e in
     let last = take p page₁ ++ (ys ++ drop (length page₁ - p) (drop p page₁)) in
-    let r : Puts page₁ p (bytes_of (wordEntries (take n due))) (p + 5 * n) last =
-    subst (λ (k : ℕ). Puts page₁ p (bytes_of (wordEntries (take n due))) (p + 5 * k) last) long (rest_put page₁ (take n due) ys p (omega arith) b) in
+    let r : Puts page₁ p (bytes_of (word_entries (take n due))) (p + 5 * n) last =
+    subst (λ (k : ℕ). Puts page₁ p (bytes_of (word_entries (take n due))) (p + 5 * k) last) long (rest_put page₁ (take n due) ys p (omega arith) b) in
     subst (λ (t : List ℕ). Puts page at t (p + 5 * n) last) all (joined room a r)

@@ -16,14 +16,14 @@ use Rattle.records.specs.Values.{Entry, entry, word_of}
 use Rattle.records.specs.Frames.{capped}
 use Rattle.replay_judge.specs.declared.Judge.{Judge}
 use Rattle.replay_judge.specs.declared.Due.TheVariants.{None, Word as Next}
-use Rattle.replay_judge.specs.Judging.{State, state_of, left, left_of, firstDue, took}
+use Rattle.replay_judge.specs.Judging.{State, state_of, left, left_of, first_due, took}
 use Rattle.replay.specs.Meaning.{agreed}
 use Rattle.replay.proofs.Own.{took-own}
-use Rattle.salvage_meaning.specs.Salvage.{isWord}
+use Rattle.salvage_meaning.specs.Salvage.{is_word}
 use Rattle.salvage_meaning.proofs.Same.{word_size}
 use Rattle.salvage.specs.declared.record.Tally.{Tally}
 use Rattle.salvage.specs.declared.record.Outcome.{Outcome}
-use Rattle.salvage.specs.Taking.{waitingFor, waitingState, counts, unlessSame, movedOn, setAgainst, Minded, mindedOf, worded, tallyRan, ran, minded}
+use Rattle.salvage.specs.Taking.{waiting_for, waiting_state, counts, unless_same, moved_on, set_against, Minded, minded_of, worded, tally_ran, ran, minded}
 
 -- ---- the words that belong there
 
@@ -42,11 +42,11 @@ module _ (s : State) (t : Tally) (r : Entry) where
   minded-off e = rw e
 
   module _ (e : agreed s.verdict ≡ true) where
-    pub minded-word : isWord r ≡ true → minded s t r ≡ worded s t (word_of r.body)
+    pub minded-word : is_word r ≡ true → minded s t r ≡ worded s t (word_of r.body)
     unfolding minded
     minded-word h = rw (e, h)
 
-    pub minded-run : isWord r ≡ false → minded s t r ≡ ran s t r
+    pub minded-run : is_word r ≡ false → minded s t r ≡ ran s t r
     unfolding minded
     minded-run h = rw (e, h)
 
@@ -56,7 +56,7 @@ module _ (s : State) (t : Tally) (k : ℕ) (body : List ℕ) where
   abbrev own : Entry
   own = entry k (take (kind_of k).size body)
 
-  word-own : isWord own ≡ true → word_of body ≡ word_of own.body
+  word-own : is_word own ≡ true → word_of body ≡ word_of own.body
   word-own h =
       let z : (kind_of k).size ≡ 4 = word_size own h in
       let at : (i : ℕ) → i < 4 → get_or (take (kind_of k).size body) i 0 ≡ get_or body i 0 = λ i l. get_or-take (kind_of k).size body i 0 (omega arith) in
@@ -65,13 +65,13 @@ module _ (s : State) (t : Tally) (k : ℕ) (body : List ℕ) where
   ran-own : ran s t (entry k body) ≡ ran s t own
   unfolding ran
   ran-own =
-      ap (λ (n : State). record { state = n; tally = tallyRan s t (kind_of k).size (agreed n.verdict); writes = agreed n.verdict }) (took-own (waitingState s) k body)
+      ap (λ (n : State). record { state = n; tally = tally_ran s t (kind_of k).size (agreed n.verdict); writes = agreed n.verdict }) (took-own (waiting_state s) k body)
 
   pub minded-own : minded s t (entry k body) ≡ minded s t own
   unfolding minded
-  minded-own = go (isWord own) refl
+  minded-own = go (is_word own) refl
     where
-      go : (b : Bool) → isWord own ≡ b
+      go : (b : Bool) → is_word own ≡ b
           → cond (agreed s.verdict) (cond b (worded s t (word_of body)) (ran s t (entry k body))) (record { state = s; tally = t; writes = false })
           ≡ cond (agreed s.verdict) (cond b (worded s t (word_of own.body)) (ran s t own)) (record { state = s; tally = t; writes = false })
       go true h = ap (λ (g : ℕ). cond (agreed s.verdict) (worded s t g) (record { state = s; tally = t; writes = false })) (word-own h)
@@ -83,25 +83,25 @@ module _ (j : Judge) (t : Tally) (k : ℕ) (body sums registers picks due : List
   abbrev s : State
   s = state_of j sums registers picks due
 
-  pub off-is : agreed j.verdict ≡ false → mindedOf (record { judge = j; tally = t; writes = false }) sums registers picks due ≡ minded s t (entry k body)
+  pub off-is : agreed j.verdict ≡ false → minded_of (record { judge = j; tally = t; writes = false }) sums registers picks due ≡ minded s t (entry k body)
   off-is e = sym (minded-off s t (entry k body) e)
 
-  pub word-is : agreed j.verdict ≡ true → isWord (entry k body) ≡ true → (g : ℕ) → g ≡ word_of body → (q : Outcome) → q ≡ setAgainst j t g (left_of s)
-      → mindedOf q sums registers picks due ≡ minded s t (entry k body)
-  unfolding setAgainst
+  pub word-is : agreed j.verdict ≡ true → is_word (entry k body) ≡ true → (g : ℕ) → g ≡ word_of body → (q : Outcome) → q ≡ set_against j t g (left_of s)
+      → minded_of q sums registers picks due ≡ minded s t (entry k body)
+  unfolding set_against
   word-is e h g z q w = rw (w, z) (sym (minded-word s t (entry k body) e h))
 
-  pub run_is : agreed j.verdict ≡ true → isWord (entry k body) ≡ false → (m : Minded) → m ≡ ran s t (entry k body) → m ≡ minded s t (entry k body)
+  pub run_is : agreed j.verdict ≡ true → is_word (entry k body) ≡ false → (m : Minded) → m ≡ ran s t (entry k body) → m ≡ minded s t (entry k body)
   run_is e h m z = z ∙ sym (minded-run s t (entry k body) e h)
 
-  module _ (wait next : Judge) (sums₁ registers₁ picks₁ due₁ : List ℕ) (w : wait ≡ waitingFor j)
+  module _ (wait next : Judge) (sums₁ registers₁ picks₁ due₁ : List ℕ) (w : wait ≡ waiting_for j)
       (n : state_of next sums₁ registers₁ picks₁ due₁ ≡ took (state_of wait sums registers picks due) (entry k body)) where
     abbrev after : State → Minded
-    after x = record { state = x; tally = tallyRan s t (kind_of k).size (agreed x.verdict); writes = agreed x.verdict }
+    after x = record { state = x; tally = tally_ran s t (kind_of k).size (agreed x.verdict); writes = agreed x.verdict }
 
     pub ran-is : (few added kept : ℕ) (b : Bool) → few ≡ length (left_of s) → added ≡ capped (t.added + few) → b ≡ agreed next.verdict
         → kept ≡ cond b (capped (t.kept + (1 + (kind_of k).size))) t.kept
-        → mindedOf (record { judge = next; tally = counts t.replaced added t.removed kept; writes = b }) sums₁ registers₁ picks₁ due₁ ≡ ran s t (entry k body)
+        → minded_of (record { judge = next; tally = counts t.replaced added t.removed kept; writes = b }) sums₁ registers₁ picks₁ due₁ ≡ ran s t (entry k body)
     unfolding ran
     ran-is few added kept b f a v z = rw (z, v, a, f) (ap after (n ∙ ap (λ (x : Judge). took (state_of x sums registers picks due) (entry k body)) w))
 
@@ -111,14 +111,14 @@ next-none : (n : ℕ) → Next n ≡ None → ⊥
 next-none n e = let z : ◌≡◌ {A = ℕ} 0 1 = cc in omega arith
 
 module _ (j : Judge) (t : Tally) (g k : ℕ) (kept : k ≡ capped (t.kept + 5)) (q : Outcome) where
-  pub against-none : (l : List ℕ) → firstDue l ≡ None → (m : ℕ) → m ≡ capped (t.removed + 1)
-      → q ≡ movedOn j j.shown (counts t.replaced t.added m k) → q ≡ setAgainst j t g l
-  unfolding firstDue setAgainst
+  pub against-none : (l : List ℕ) → first_due l ≡ None → (m : ℕ) → m ≡ capped (t.removed + 1)
+      → q ≡ moved_on j j.shown (counts t.replaced t.added m k) → q ≡ set_against j t g l
+  unfolding first_due set_against
   against-none [] e m r z = z ∙ rw (kept, r)
   against-none (x ∷ l) e m r z = absurd (next-none x e)
 
-  pub against-word : (l : List ℕ) (h : ℕ) → firstDue l ≡ Next h → (n : ℕ) → n ≡ unlessSame g h t.replaced
-      → q ≡ movedOn j (j.shown + 1) (counts n t.added t.removed k) → q ≡ setAgainst j t g l
-  unfolding firstDue setAgainst
+  pub against-word : (l : List ℕ) (h : ℕ) → first_due l ≡ Next h → (n : ℕ) → n ≡ unless_same g h t.replaced
+      → q ≡ moved_on j (j.shown + 1) (counts n t.added t.removed k) → q ≡ set_against j t g l
+  unfolding first_due set_against
   against-word [] h e n r z = absurd (next-none h (sym e))
   against-word (x ∷ l) h e n r z = let y : x ≡ h = cc in z ∙ rw (kept, r, y)

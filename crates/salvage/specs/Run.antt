@@ -4,20 +4,20 @@
 use Rattle.std.specs.Prelude.{ℕ, ◌≤◌, ◌≡◌, true, List, [], ◌++◌, length, take}
 use Rattle.records.specs.Frames.{capped}
 use Rattle.replay.specs.Course.{found}
-use Rattle.salvage_meaning.specs.Salvage.{salvageOf}
+use Rattle.salvage_meaning.specs.Salvage.{salvage_of}
 use Rattle.salvage.specs.declared.Salvage.{Salvage}
 use Rattle.salvage.specs.declared.Changes.{Changes}
-use Rattle.salvage.specs.Working.{Feeds, salvageAt, freshSalvage}
+use Rattle.salvage.specs.Working.{Feeds, salvage_at, fresh_salvage}
 
 -- `skips`: once a place is malformed or a record refused, later bytes need not be fed
 pub data Ran : Salvage → List ℕ → List ℕ → Type 0 where
-  starts : Ran freshSalvage [] []
-  feeds : {s r : Salvage} {bs out lump page page' : List ℕ} {used size : ℕ} → Ran s bs out → Feeds (salvageAt s) lump page (salvageAt r) used size page'
+  starts : Ran fresh_salvage [] []
+  feeds : {s r : Salvage} {bs out lump page page' : List ℕ} {used size : ℕ} → Ran s bs out → Feeds (salvage_at s) lump page (salvage_at r) used size page'
       → Ran r (bs ++ take used lump) (out ++ take size page')
   skips : {s : Salvage} {bs out : List ℕ} → Ran s bs out → found s.replay.frame s.replay.judge.verdict ≡ true → (ys : List ℕ) → Ran s (bs ++ ys) out
 
 pub record Reported (c : Changes) (bs : List ℕ) : Type 0 where
-  pub replaced : c.replaced ≡ capped (salvageOf bs).replaced
-  pub added : c.added ≡ capped (salvageOf bs).added
-  pub removed : c.removed ≡ capped (salvageOf bs).removed
-  pub cut : length bs ≤ 18446744073709551615 → c.cut ≡ (salvageOf bs).cut
+  pub replaced : c.replaced ≡ capped (salvage_of bs).replaced
+  pub added : c.added ≡ capped (salvage_of bs).added
+  pub removed : c.removed ≡ capped (salvage_of bs).removed
+  pub cut : length bs ≤ 18446744073709551615 → c.cut ≡ (salvage_of bs).cut

@@ -2,19 +2,19 @@
 --   Held, held_of f ..       a frame, a state and the counts: all that a salvage holds
 --   settled, stepped h b    one byte; feedings h bs: some bytes
 --   standing w f n due      what is written, if w says so: the record of the frame f, and the words that belong there
---   writtenAt h b, outs h bs   the records that are written meanwhile
+--   written_at h b, outs h bs   the records that are written meanwhile
 --   Feeds h bs page h' n size page'   of the bytes bs the first n lead from h to h', and what is written for them fills `size` bytes of the page
 --   end_of h fed             what was changed, where the input ends after so many bytes
---   salvageAt s, freshSalvage   a salvage by value, and the one before any byte
+--   salvage_at s, fresh_salvage   a salvage by value, and the one before any byte
 use Rattle.std.specs.Prelude.{ℕ, ◌+◌, ◌-◌, ◌<◌, ◌≤◌, ◌≡◌, Bool, false, cond, List, [], ◌∷◌, ◌++◌, length, take}
 use Rattle.records.specs.declared.Frame.{Frame}
 use Rattle.records.specs.Values.{Entry, bytes_of}
 use Rattle.records.specs.Frames.{capped, pushed, entry_of}
-use Rattle.record_write.specs.Front.{wordEntries, space_of}
+use Rattle.record_write.specs.Front.{word_entries, space_of}
 use Rattle.page.specs.Page.{Puts}
 use Rattle.replay_judge.specs.declared.Judge.{Judge}
 use Rattle.replay_judge.specs.Judging.{State, state_of, left_of}
-use Rattle.replay.specs.Course.{is_whole, freshReplay}
+use Rattle.replay.specs.Course.{is_whole, fresh_replay}
 use Rattle.salvage.specs.declared.record.Tally.{Tally}
 use Rattle.salvage.specs.Taking.{counts, Minded, minded}
 use Rattle.salvage.specs.declared.Salvage.{Salvage}
@@ -32,14 +32,14 @@ held_of f j t sums registers picks due = record { frame = f; state = state_of j 
 unfoldable pub settled : Bool → State → Tally → Entry → Minded
 settled b s t r = cond b (minded s t r) (record { state = s; tally = t; writes = false })
 
-abbrev pub settledAt : Held → Frame → Minded
-settledAt h f = settled (is_whole f.stage) h.state h.tally (entry_of f)
+abbrev pub settled_at : Held → Frame → Minded
+settled_at h f = settled (is_whole f.stage) h.state h.tally (entry_of f)
 
-abbrev pub heldBy : Frame → Minded → Held
-heldBy f m = record { frame = f; state = m.state; tally = m.tally }
+abbrev pub held_by : Frame → Minded → Held
+held_by f m = record { frame = f; state = m.state; tally = m.tally }
 
 unfoldable pub stepped : Held → ℕ → Held
-stepped h b = let f = pushed h.frame b in heldBy f (settledAt h f)
+stepped h b = let f = pushed h.frame b in held_by f (settled_at h f)
 
 unfoldable pub feedings : Held → List ℕ → Held
 feedings h [] = h
@@ -48,7 +48,7 @@ feedings h (b ∷ bs) = feedings (stepped h b) bs
 -- ---- what is written
 
 abbrev pub with_words : Bool → Entry → ℕ → List ℕ → List Entry
-with_words w r given due = cond w (r ∷ wordEntries (take given due)) []
+with_words w r given due = cond w (r ∷ word_entries (take given due)) []
 
 abbrev pub standing : Bool → Frame → ℕ → List ℕ → List Entry
 standing w f given due = with_words w (entry_of f) given due
@@ -56,12 +56,12 @@ standing w f given due = with_words w (entry_of f) given due
 abbrev pub written : Minded → Entry → List Entry
 written m r = with_words m.writes r m.state.given m.state.due
 
-unfoldable pub writtenAt : Held → ℕ → List Entry
-writtenAt h b = let f = pushed h.frame b in written (settledAt h f) (entry_of f)
+unfoldable pub written_at : Held → ℕ → List Entry
+written_at h b = let f = pushed h.frame b in written (settled_at h f) (entry_of f)
 
 unfoldable pub outs : Held → List ℕ → List Entry
 outs h [] = []
-outs h (b ∷ bs) = writtenAt h b ++ outs (stepped h b) bs
+outs h (b ∷ bs) = written_at h b ++ outs (stepped h b) bs
 
 -- ---- a lump and a page
 
@@ -76,19 +76,19 @@ pub record Feeds (h : Held) (bs page : List ℕ) (h' : Held) (used size : ℕ) (
 
 -- ---- the end
 
-abbrev pub changesOf : ℕ → ℕ → ℕ → ℕ → Changes
-changesOf r a m c = record { replaced = r; added = a; removed = m; cut = c }
+abbrev pub changes_of : ℕ → ℕ → ℕ → ℕ → Changes
+changes_of r a m c = record { replaced = r; added = a; removed = m; cut = c }
 
 -- words that no old one stood against are added; "bytes cut from the end" are all but those of the records kept
 abbrev pub end_of : Held → ℕ → Changes
 end_of h fed =
     let t = h.tally in
-    changesOf t.replaced (capped (t.added + length (left_of h.state))) t.removed (fed - t.kept)
+    changes_of t.replaced (capped (t.added + length (left_of h.state))) t.removed (fed - t.kept)
 
 -- ---- by value
 
-abbrev pub salvageAt : Salvage → Held
-salvageAt s = let r = s.replay in held_of r.frame r.judge s.tally r.sums r.registers r.picks r.due
+abbrev pub salvage_at : Salvage → Held
+salvage_at s = let r = s.replay in held_of r.frame r.judge s.tally r.sums r.registers r.picks r.due
 
-abbrev pub freshSalvage : Salvage
-freshSalvage = record { replay = freshReplay; tally = counts 0 0 0 0 }
+abbrev pub fresh_salvage : Salvage
+fresh_salvage = record { replay = fresh_replay; tally = counts 0 0 0 0 }

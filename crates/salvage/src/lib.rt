@@ -12,8 +12,8 @@ ghost use Rattle.records.specs.Frames.{entry_of};
 ghost use Rattle.page.specs.Page.{Puts};
 ghost use Rattle.replay_judge.specs.Judging.{state_of};
 ghost use Rattle.replay.specs.Course.{is_whole};
-ghost use Rattle.salvage.specs.Taking.{mindedOf};
-ghost use Rattle.salvage.specs.Working.{settled, held_of, standing, Feeds, end_of, salvageAt, freshSalvage};
+ghost use Rattle.salvage.specs.Taking.{minded_of};
+ghost use Rattle.salvage.specs.Working.{settled, held_of, standing, Feeds, end_of, salvage_at, fresh_salvage};
 
 use crate::record::{Outcome, Tally};
 use records::Frame;
@@ -55,7 +55,7 @@ pub struct Changes {
 }
 
 pub fn start() -> Salvage
-    ensures { result ≡ freshSalvage }
+    ensures { result ≡ fresh_salvage }
 {
     Salvage {
         replay: replay::start(),
@@ -78,7 +78,7 @@ fn settle(
     picks: &mut [u64; 72],
     due: &mut [u32],
 ) -> Outcome
-    ensures { mindedOf result sums.new registers.new picks.new due.new
+    ensures { minded_of result sums.new registers.new picks.new due.new
         ≡ settled (is_whole frame.stage) (state_of j sums.old registers.old picks.old due.old) t (entry_of frame) }
 {
     let stage = frame.stage;
@@ -165,7 +165,7 @@ fn feed_lent(
 
 // Bytes as they come: all of them, or as many as it takes to fill the page so far that a record might have no room.
 pub fn feed(s: Salvage, bytes: &[u8], page: &mut [u8]) -> Fed
-    ensures { Feeds (salvageAt s) bytes.now page.old (salvageAt result.salvage) result.used result.size page.new }
+    ensures { Feeds (salvage_at s) bytes.now page.old (salvage_at result.salvage) result.used result.size page.new }
 {
     let r = s.replay;
     let frame = r.frame;
@@ -214,7 +214,7 @@ fn less(a: u64, b: u64) -> u64
 
 // What was changed, where the input ends after `fed` bytes.
 pub fn end(s: Salvage, fed: u64) -> Changes
-    ensures { result ≡ end_of (salvageAt s) fed }
+    ensures { result ≡ end_of (salvage_at s) fed }
 {
     let r = s.replay;
     let due = r.due;

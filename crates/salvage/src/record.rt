@@ -8,8 +8,8 @@ ghost use Rattle.records.specs.Kinds.{kind_of};
 ghost use Rattle.records.specs.Values.{entry};
 ghost use Rattle.records.specs.Frames.{capped};
 ghost use Rattle.replay_judge.specs.Judging.{left, state_of};
-ghost use Rattle.salvage_meaning.specs.Salvage.{isWordRole};
-ghost use Rattle.salvage.specs.Taking.{waitingFor, unlessSame, movedOn, setAgainst, mindedOf, ran, minded};
+ghost use Rattle.salvage_meaning.specs.Salvage.{is_word_role};
+ghost use Rattle.salvage.specs.Taking.{waiting_for, unless_same, moved_on, set_against, minded_of, ran, minded};
 
 use records::Role;
 use replay_judge::{Due, Judge, Verdict};
@@ -42,7 +42,7 @@ pub fn missed(j: Judge, due: &[u32]) -> usize
 
 // A judge to which no word is due, before its first record.
 fn waiting(j: Judge) -> Judge
-    ensures { result ≡ waitingFor j }
+    ensures { result ≡ waiting_for j }
 {
     let core = j.core;
     Judge {
@@ -57,7 +57,7 @@ fn waiting(j: Judge) -> Judge
 
 // The judge with so many words that an old one stood against. An old word is never written.
 fn moved_on(j: Judge, shown: usize, tally: Tally) -> Outcome
-    ensures { result ≡ movedOn j shown tally }
+    ensures { result ≡ moved_on j shown tally }
 {
     let core = j.core;
     let verdict = j.verdict;
@@ -76,7 +76,7 @@ fn moved_on(j: Judge, shown: usize, tally: Tally) -> Outcome
 }
 
 fn is_word(role: Role) -> bool
-    ensures { result ≡ isWordRole role }
+    ensures { result ≡ is_word_role role }
 {
     match role {
         Role::Open => false,
@@ -89,7 +89,7 @@ fn is_word(role: Role) -> bool
 
 // One more, unless both words are the same.
 fn unless_same(g: u32, h: u32, n: u64) -> u64
-    ensures { result ≡ unlessSame g h n }
+    ensures { result ≡ unless_same g h n }
 {
     if g == h {
         return n;
@@ -99,7 +99,7 @@ fn unless_same(g: u32, h: u32, n: u64) -> u64
 
 // The old word g.
 fn take_word(j: Judge, t: Tally, g: u32, due: &[u32]) -> Outcome
-    ensures { result ≡ setAgainst j t g (left j.shown j.given due.now) }
+    ensures { result ≡ set_against j t g (left j.shown j.given due.now) }
 {
     let kept = record_fill::fed_on(t.kept, 5);
     let d = replay_judge::next_due(j, due);
@@ -143,7 +143,7 @@ fn run(
     picks: &mut [u64; 72],
     due: &mut [u32],
 ) -> Outcome
-    ensures { mindedOf result sums.new registers.new picks.new due.new
+    ensures { minded_of result sums.new registers.new picks.new due.new
         ≡ ran (state_of j sums.old registers.old picks.old due.old) t (entry k body) }
 {
     let added = record_fill::fed_on(t.added, missed(j, due));
@@ -173,7 +173,7 @@ pub fn take(
     picks: &mut [u64; 72],
     due: &mut [u32],
 ) -> Outcome
-    ensures { mindedOf result sums.new registers.new picks.new due.new
+    ensures { minded_of result sums.new registers.new picks.new due.new
         ≡ minded (state_of j sums.old registers.old picks.old due.old) t (entry k body) }
 {
     let verdict = j.verdict;

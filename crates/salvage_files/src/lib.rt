@@ -5,7 +5,7 @@
 // Where anything fails there is a message on the error stream and no line, OUT.part is removed, and OUT is not made. An OUT that exists, whatever
 // it is, stays as it was. OUT.part is made anew or not at all, so of two salvages to one OUT the second is refused.
 ghost use Rattle.std.specs.Prelude.{◌≡◌, true, ◌+◌, ◌≤◌, length};
-ghost use Rattle.salvage.specs.Working.{feedings, salvageAt};
+ghost use Rattle.salvage.specs.Working.{feedings, salvage_at};
 
 use libc::{STDERR_FILENO, STDOUT_FILENO};
 use salvage::{Changes, Salvage};
@@ -40,7 +40,7 @@ fn flush(to: i32, page: &[u8], size: usize) -> bool
 // Bytes that were read: page after page of what they give.
 fn hear(t: Progress, to: i32, bytes: &[u8], page: &mut [u8]) -> Progress
     requires { 335 ≤ length page.old }
-    ensures { result.fine ≡ true → salvageAt result.salvage ≡ feedings (salvageAt t.salvage) bytes.now }
+    ensures { result.fine ≡ true → salvage_at result.salvage ≡ feedings (salvage_at t.salvage) bytes.now }
 {
     let mut s = t.salvage;
     let mut some = t.some;

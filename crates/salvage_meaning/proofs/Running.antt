@@ -12,22 +12,22 @@ use native.Mathlib.Omega.{arith}
 use lib.Dec.{eqb}
 use lib.ListN.{replicate}
 use Rattle.trellis.specs.Lists.{Every}
-use Rattle.receiver_meaning.specs.Piece.{Piece, markedPiece}
-use Rattle.receiver_meaning.specs.Owed.{pieceOwed, finishOwed}
+use Rattle.receiver_meaning.specs.Piece.{Piece, marked_piece}
+use Rattle.receiver_meaning.specs.Owed.{piece_owed, finish_owed}
 use Rattle.receiver_meaning.proofs.Speaks.{piece-below, finish-below}
 use Rattle.openings.specs.Given.{start_at}
-use Rattle.openings.specs.Opening.{openingOwed}
+use Rattle.openings.specs.Opening.{opening_owed}
 use Rattle.records.specs.declared.Role.{Role}
 use Rattle.records.specs.declared.Role.TheVariants.{Open, Symbol, Word, Finish, Unknown}
 use Rattle.records.specs.Kinds.{kind_of}
-use Rattle.records.specs.Values.{Entry, accordOf, windowOf, start_of, markIn, coordinatesOf}
+use Rattle.records.specs.Values.{Entry, accord_of, window_of, start_of, mark_in, coordinates_of}
 use Rattle.records.specs.Frames.{capped}
 use Rattle.replay_judge.specs.declared.Verdict.TheVariants.{Agree, Refused}
 use Rattle.replay_judge.specs.Judging.{State, left}
-use Rattle.replay.specs.Meaning.{Line, closed, told, agreed, Seen, answered, room, opened, hears, ends, byRole, taking}
-use Rattle.replay.proofs.Meant.{receiverOf, FineLine, Shows, shows-took}
+use Rattle.replay.specs.Meaning.{Line, closed, told, agreed, Seen, answered, room, opened, hears, ends, by_role, taking}
+use Rattle.replay.proofs.Meant.{receiver_of, FineLine, Shows, shows-took}
 use Rattle.replay.proofs.Words.{seen, all_small}
-use Rattle.salvage_meaning.specs.Salvage.{isWordRole, isWord, waiting, running}
+use Rattle.salvage_meaning.specs.Salvage.{is_word_role, is_word, waiting, running}
 
 pub false-true : false ≡ true → ⊥
 false-true e = let z : ◌≡◌ {A = ℕ} 0 1 = cc in omega arith
@@ -61,21 +61,21 @@ module _ (l : Line) (m n : ℕ) where
   turned-symbol : (q : Line) (k : ℕ) (b : List ℕ) → Turned (hears (seen l [] m n) q k b) (hears (waiting l) q k b) n
   turned-symbol closed k b = answers 9 closed []
   turned-symbol (told t) k b =
-      let d = pieceOwed t (markedPiece (markIn k b ∷ []) (coordinatesOf k b)) room in
+      let d = piece_owed t (marked_piece (mark_in k b ∷ []) (coordinates_of k b)) room in
       answers d.reason.number (told d.told) d.words
 
   turned-finish : (q : Line) → Turned (ends (seen l [] m n) q) (ends (waiting l) q) n
   turned-finish closed = answers 9 closed []
-  turned-finish (told t) = let d = finishOwed t room in answers d.reason.number closed d.words
+  turned-finish (told t) = let d = finish_owed t room in answers d.reason.number closed d.words
 
-  turned-role : (r : Role) (k : ℕ) (b : List ℕ) → isWordRole r ≡ false → Turned (byRole r (seen l [] m n) n k b) (byRole r (waiting l) 0 k b) n
-  turned-role Open k b h = answers (openingOwed (accordOf k b) (windowOf b) (start_at (start_of b))) (told (opened k b)) []
+  turned-role : (r : Role) (k : ℕ) (b : List ℕ) → is_word_role r ≡ false → Turned (by_role r (seen l [] m n) n k b) (by_role r (waiting l) 0 k b) n
+  turned-role Open k b h = answers (opening_owed (accord_of k b) (window_of b) (start_at (start_of b))) (told (opened k b)) []
   turned-role Symbol k b h = turned-symbol l k b
   turned-role Word k b h = absurd (false-true (sym h))
   turned-role Finish k b h = turned-finish l
   turned-role Unknown k b h = record { yes = λ _. record { number = m; is = refl }; no = λ z. absurd (false-true (sym z)); quiet = λ z. refl }
 
-module _ (l : Line) (r : Entry) (h : isWord r ≡ false) where
+module _ (l : Line) (r : Entry) (h : is_word r ≡ false) where
   turned : (m n : ℕ) → Turned (taking (seen l [] m n) r) (running l r) n
   unfolding taking
   turned m n = turned-role l m n (kind_of r.kind).role r.kind r.body h
@@ -92,15 +92,15 @@ module _ (l : Line) (r : Entry) (h : isWord r ≡ false) where
 -- ---- what the line has been told
 
 -- a replay that has come to the line l, and to which no word is due
-abbrev pub stateFor : Line → State
-stateFor l = record { receiver = receiverOf l; due = replicate 65 0; given = 0; shown = 0; records = 0; verdict = Agree 0 }
+abbrev pub state_for : Line → State
+state_for l = record { receiver = receiver_of l; due = replicate 65 0; given = 0; shown = 0; records = 0; verdict = Agree 0 }
 
-state-shows : (l : Line) → FineLine l → Shows (stateFor l) (waiting l)
+state-shows : (l : Line) → FineLine l → Shows (state_for l) (waiting l)
 unfolding left capped
 state-shows l f = record { receiver = refl; fine = f; due = refl; long = refl; records = refl; verdict = refl }
 
 pub fine-running : (l : Line) (r : Entry) → FineLine l → FineLine (running l r).line
-fine-running l r f = (shows-took (stateFor l) (waiting l) r (state-shows l f)).fine
+fine-running l r f = (shows-took (state_for l) (waiting l) r (state-shows l f)).fine
 
 -- ---- the words
 
@@ -114,19 +114,19 @@ small-answered l l' x ws h = go (eqb x 0) refl
     go true e = rw e h
     go false e = rw e tt
 
-small-role : (l : Line) → FineLine l → (r : Role) (k : ℕ) (b : List ℕ) → isWordRole r ≡ false → Small (byRole r (waiting l) 0 k b).due
-small-role l f Open k b h = small-answered l (told (opened k b)) (openingOwed (accordOf k b) (windowOf b) (start_at (start_of b))) [] tt
+small-role : (l : Line) → FineLine l → (r : Role) (k : ℕ) (b : List ℕ) → is_word_role r ≡ false → Small (by_role r (waiting l) 0 k b).due
+small-role l f Open k b h = small-answered l (told (opened k b)) (opening_owed (accord_of k b) (window_of b) (start_at (start_of b))) [] tt
 small-role closed f Symbol k b h = small-answered closed closed 9 [] tt
 small-role (told t) f Symbol k b h =
-    let p : Piece = markedPiece (markIn k b ∷ []) (coordinatesOf k b) in
-    let d = pieceOwed t p room in
+    let p : Piece = marked_piece (mark_in k b ∷ []) (coordinates_of k b) in
+    let d = piece_owed t p room in
     small-answered (told t) (told d.told) d.reason.number d.words (all_small t f d.words (piece-below t f p room))
 small-role l f Word k b h = absurd (false-true (sym h))
 small-role closed f Finish k b h = small-answered closed closed 9 [] tt
 small-role (told t) f Finish k b h =
-    let d = finishOwed t room in small-answered (told t) closed d.reason.number d.words (all_small t f d.words (finish-below t f room))
+    let d = finish_owed t room in small-answered (told t) closed d.reason.number d.words (all_small t f d.words (finish-below t f room))
 small-role l f Unknown k b h = tt
 
-pub small-running : (l : Line) (r : Entry) → isWord r ≡ false → FineLine l → Small (running l r).due
+pub small-running : (l : Line) (r : Entry) → is_word r ≡ false → FineLine l → Small (running l r).due
 unfolding taking
 small-running l r h f = small-role l f (kind_of r.kind).role r.kind r.body h

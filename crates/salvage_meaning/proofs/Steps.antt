@@ -8,37 +8,37 @@ use Prim.Native.Nat.{ℕ, ◌+◌}
 use native.Mathlib.Omega.{arith}
 use lib.ListN.{length, length-append}
 use Rattle.records.specs.Values.{Entry, word_of, bytes_of}
-use Rattle.record_write.specs.Front.{wordEntries}
+use Rattle.record_write.specs.Front.{word_entries}
 use Rattle.replay.specs.Meaning.{Line, agreed}
-use Rattle.salvage_meaning.specs.Salvage.{isWord, running, kept, mended, grouped}
+use Rattle.salvage_meaning.specs.Salvage.{is_word, running, kept, mended, grouped}
 
 module _ (l : Line) (r : Entry) (rs : List Entry) where
-  pub kept_word : isWord r ≡ true → kept l (r ∷ rs) ≡ r ∷ kept l rs
+  pub kept_word : is_word r ≡ true → kept l (r ∷ rs) ≡ r ∷ kept l rs
   unfolding kept
   kept_word h = rw h
 
-  pub kept-taken : isWord r ≡ false → agreed (running l r).verdict ≡ true → kept l (r ∷ rs) ≡ r ∷ kept (running l r).line rs
+  pub kept-taken : is_word r ≡ false → agreed (running l r).verdict ≡ true → kept l (r ∷ rs) ≡ r ∷ kept (running l r).line rs
   unfolding kept
   kept-taken h e = rw (h, e)
 
-  pub kept-refused : isWord r ≡ false → agreed (running l r).verdict ≡ false → kept l (r ∷ rs) ≡ []
+  pub kept-refused : is_word r ≡ false → agreed (running l r).verdict ≡ false → kept l (r ∷ rs) ≡ []
   unfolding kept
   kept-refused h e = rw (h, e)
 
-  pub mended-word : isWord r ≡ true → mended l (r ∷ rs) ≡ mended l rs
+  pub mended-word : is_word r ≡ true → mended l (r ∷ rs) ≡ mended l rs
   unfolding mended
   mended-word h = rw h
 
-  pub mended-head : isWord r ≡ false → mended l (r ∷ rs) ≡ r ∷ (wordEntries (running l r).due ++ mended (running l r).line rs)
+  pub mended-head : is_word r ≡ false → mended l (r ∷ rs) ≡ r ∷ (word_entries (running l r).due ++ mended (running l r).line rs)
   unfolding mended
   mended-head h = rw h
 
 module _ (r : Entry) (rs : List Entry) where
-  pub grouped-word : isWord r ≡ true → grouped (r ∷ rs) ≡ record { front = word_of r.body ∷ (grouped rs).front; later = (grouped rs).later }
+  pub grouped-word : is_word r ≡ true → grouped (r ∷ rs) ≡ record { front = word_of r.body ∷ (grouped rs).front; later = (grouped rs).later }
   unfolding grouped
   grouped-word h = rw h
 
-  pub grouped-head : isWord r ≡ false → grouped (r ∷ rs) ≡ record { front = []; later = (grouped rs).front ∷ (grouped rs).later }
+  pub grouped-head : is_word r ≡ false → grouped (r ∷ rs) ≡ record { front = []; later = (grouped rs).front ∷ (grouped rs).later }
   unfolding grouped
   grouped-head h = rw h
 

@@ -2,7 +2,7 @@
 ghost use Rattle.std.specs.Prelude.{◌≡◌, ◌++◌, ◌+◌, ◌≤◌, length, take};
 ghost use Rattle.page.specs.Page.{Puts};
 ghost use Rattle.phrases.specs.Phrase.{decimal};
-ghost use Rattle.salvage_text.specs.Says.{changesLine};
+ghost use Rattle.salvage_text.specs.Says.{changes_line};
 
 #[derive(Drop)]
 pub struct Line {
@@ -22,7 +22,7 @@ fn counted(page: &mut [u8], at: usize, text: &[u8], n: u64) -> usize
 
 fn put_line(page: &mut [u8], replaced: u64, added: u64, removed: u64, cut: u64) -> usize
     requires { 111 ≤ length page.old }
-    ensures { Puts page.old 0 (changesLine replaced added removed cut) result page.new }
+    ensures { Puts page.old 0 (changes_line replaced added removed cut) result page.new }
 {
     let p = counted(page, 0, b"replaced ", replaced);
     let p = counted(page, p, b" added ", added);
@@ -32,7 +32,7 @@ fn put_line(page: &mut [u8], replaced: u64, added: u64, removed: u64, cut: u64) 
 }
 
 pub fn line_of(replaced: u64, added: u64, removed: u64, cut: u64) -> Line
-    ensures { (take result.size result.text ≡ changesLine replaced added removed cut) × (result.size ≤ 111) }
+    ensures { (take result.size result.text ≡ changes_line replaced added removed cut) × (result.size ≤ 111) }
 {
     let mut text = [0u8; 111];
     let size = put_line(&mut text, replaced, added, removed, cut);

@@ -1,4 +1,4 @@
--- What `nearestEven n d` is, over whole numbers alone: nothing here is about floats. It leans on specs/Nearest.antt, and on the library
+-- What `nearest_even n d` is, over whole numbers alone: nothing here is about floats. It leans on specs/Nearest.antt, and on the library
 -- for equal fractions.
 --   nearest-is     it is nearest to n / d, and even at a half
 --   nearest-only   no other number is
@@ -14,7 +14,7 @@ use lib.Dec.{T, is_le, compare_is_eq, leb→le, nleb→lt, eqb→eq, eqb, eqb_re
 use lib.Arith.{lt_of_le-ne}
 use lib.Ieee.{nearest}
 use lib.Ieee.Nearest.{closest, closest_same}
-use Rattle.samples.specs.Nearest.{roundBy, nearestEven, IsNearest}
+use Rattle.samples.specs.Nearest.{round_by, nearest_even, IsNearest}
 
 -- ---- it is nearest
 abbrev Compared : Ordering → ℕ → ℕ → Type 0
@@ -54,13 +54,13 @@ module _ (n d q x : ℕ) (D : 0 < d) (X : x < d) (e : q * d + x ≡ n) where
       go (suc zero) i = step (omega arith) (λ t. i)
       go (suc (suc p)) i = omega arith
 
-  rounded-by : (o : Ordering) → Compared o (x * 2) d → IsNearest n d (roundBy o q)
+  rounded-by : (o : Ordering) → Compared o (x * 2) d → IsNearest n d (round_by o q)
   rounded-by Ordering.lt h = stay (omega arith) (λ t. omega arith)
   rounded-by Ordering.eq h = at-half h
   rounded-by Ordering.gt h = step (omega arith) (λ t. omega arith)
 
-pub nearest-is : (n d : ℕ) → 0 < d → IsNearest n d (nearestEven n d)
-unfolding nearestEven
+pub nearest-is : (n d : ℕ) → 0 < d → IsNearest n d (nearest_even n d)
+unfolding nearest_even
 nearest-is n d D = rounded-by n d (n / d) (n % d) D (mod-lt n D) (div-add-mod' n d) (compare (n % d * 2) d) (compared (n % d * 2) d)
 
 -- ---- and the only one
@@ -78,16 +78,16 @@ nearest-only n d r s D p q =
     le_antisymm (not_more r s (apart n d s r D q p)) (not_more s r (apart n d r s D p q))
 
 -- ---- what bounds the fraction
-pub nearest-le : (n d q : ℕ) → 0 < d → n ≤ q * d → nearestEven n d ≤ q
-nearest-le n d q D h = not_more (nearestEven n d) q (over (nearestEven n d) (nearest-is n d D))
+pub nearest-le : (n d q : ℕ) → 0 < d → n ≤ q * d → nearest_even n d ≤ q
+nearest-le n d q D h = not_more (nearest_even n d) q (over (nearest_even n d) (nearest-is n d D))
   where
     over : (r : ℕ) → IsNearest n d r → q < r → ⊥
     over r p w =
         let m : (q + 1) * d ≤ r * d = mul-le-mul_right d (omega arith) in
         omega (arith, one_more q d, p.not-above)
 
-pub nearest-ge : (n d q : ℕ) → 0 < d → q * d ≤ n → q ≤ nearestEven n d
-nearest-ge n d q D h = not_more q (nearestEven n d) (under (nearestEven n d) (nearest-is n d D))
+pub nearest-ge : (n d q : ℕ) → 0 < d → q * d ≤ n → q ≤ nearest_even n d
+nearest-ge n d q D h = not_more q (nearest_even n d) (under (nearest_even n d) (nearest-is n d D))
   where
     under : (r : ℕ) → IsNearest n d r → r < q → ⊥
     under r p w =
@@ -95,21 +95,21 @@ nearest-ge n d q D h = not_more q (nearestEven n d) (under (nearestEven n d) (ne
         omega (arith, one_more r d, p.not-below)
 
 -- ---- the library's rounding
-pub nearest-closest : (n d : ℕ) → closest n d ≡ nearestEven n d
-unfolding nearestEven
+pub nearest-closest : (n d : ℕ) → closest n d ≡ nearest_even n d
+unfolding nearest_even
 nearest-closest n d = go (compare (n % d * 2) d)
   where
-    go : (o : Ordering) → nearest (n / d) o ≡ roundBy o (n / d)
+    go : (o : Ordering) → nearest (n / d) o ≡ round_by o (n / d)
     go Ordering.lt = refl
     go Ordering.eq = refl
     go Ordering.gt = omega arith
 
-pub nearest-same : (a b c d : ℕ) → 0 < b → 0 < d → a * d ≡ c * b → nearestEven a b ≡ nearestEven c d
+pub nearest-same : (a b c d : ℕ) → 0 < b → 0 < d → a * d ≡ c * b → nearest_even a b ≡ nearest_even c d
 nearest-same a b c d B D e = sym (nearest-closest a b) ∙ closest_same a b c d B D e ∙ nearest-closest c d
 
 -- ---- an even whole number A, and n / d more or less
-pub nearest-plus : (A n d : ℕ) → A % 2 ≡ 0 → 0 < d → nearestEven (A * d + n) d ≡ A + nearestEven n d
-nearest-plus A n d E D = nearest-only (A * d + n) d (nearestEven (A * d + n) d) (A + nearestEven n d) D (nearest-is (A * d + n) d D) (moved (nearestEven n d) (nearest-is n d D))
+pub nearest-plus : (A n d : ℕ) → A % 2 ≡ 0 → 0 < d → nearest_even (A * d + n) d ≡ A + nearest_even n d
+nearest-plus A n d E D = nearest-only (A * d + n) d (nearest_even (A * d + n) d) (A + nearest_even n d) D (nearest-is (A * d + n) d D) (moved (nearest_even n d) (nearest-is n d D))
   where
     moved : (r : ℕ) → IsNearest n d r → IsNearest (A * d + n) d (A + r)
     moved r p =
@@ -123,9 +123,9 @@ nearest-plus A n d E D = nearest-only (A * d + n) d (nearestEven (A * d + n) d) 
           even-below = λ t. omega (arith, p.even-below (omega arith));
         }
 
-pub nearest-minus : (A n d : ℕ) → A % 2 ≡ 0 → 0 < d → n ≤ A * d → nearestEven (A * d - n) d ≡ A - nearestEven n d
+pub nearest-minus : (A n d : ℕ) → A % 2 ≡ 0 → 0 < d → n ≤ A * d → nearest_even (A * d - n) d ≡ A - nearest_even n d
 nearest-minus A n d E D h =
-    nearest-only (A * d - n) d (nearestEven (A * d - n) d) (A - nearestEven n d) D (nearest-is (A * d - n) d D) (moved (nearestEven n d) (nearest-le n d A D h) (nearest-is n d D))
+    nearest-only (A * d - n) d (nearest_even (A * d - n) d) (A - nearest_even n d) D (nearest-is (A * d - n) d D) (moved (nearest_even n d) (nearest-le n d A D h) (nearest-is n d D))
   where
     moved : (r : ℕ) → r ≤ A → IsNearest n d r → IsNearest (A * d - n) d (A - r)
     moved r l p =

@@ -15,14 +15,14 @@ use lib.Ieee.{Float, nan, inf, fin, binary32, up, down, add, sub, mul, of_int, o
 use lib.Ieee.Fits.{down_pos}
 use lib.Ieee.Exact.{HasValue}
 use lib.Ieee.Back.{round_whole}
-use Rattle.samples.specs.Nearest.{nearestEven}
+use Rattle.samples.specs.Nearest.{nearest_even}
 use Rattle.samples.specs.Given.{GivenCoordinate, done, refused}
 use Rattle.samples.specs.Heard.{signed, in_range}
 use Rattle.samples.proofs.Nearest.{nearest-same, nearest-le, nearest-ge}
 use Rattle.samples.proofs.Rounding.{AtLeast}
 use Rattle.samples.proofs.Scaling.{scale, scaled_exact, scaled-far}
 use Rattle.samples.proofs.Shifting.{shifted, shifted-near, shifted-far}
-use Rattle.samples.proofs.Value.{size-signed, out_of_range, range-cases, byValue}
+use Rattle.samples.proofs.Value.{size-signed, out_of_range, range-cases, by_value}
 
 abbrev pub converted : Float → Float
 converted v = shifted (mul binary32 v scale)
@@ -37,7 +37,7 @@ pub data Outcome (w : Float) : GivenCoordinate → Type 0 where
   within : (z : ℤ) → nat_abs z ≤ 8192 → w ≡ of_int binary32 z → Outcome w (done z)
   outside : Outside w → Outcome w refused
 
-near-value : (x : Float) (s : Bool) (a c : ℕ) → 0 < c → a < 4194304 * c → HasValue x s a c → shifted x ≡ of_int binary32 (signed s (nearestEven a c))
+near-value : (x : Float) (s : Bool) (a c : ℕ) → 0 < c → a < 4194304 * c → HasValue x s a c → shifted x ≡ of_int binary32 (signed s (nearest_even a c))
 near-value nan s a c C h v = absurd v
 near-value (inf t) s a c C h v = absurd v
 near-value (fin t m e) s a c C h v =
@@ -45,7 +45,7 @@ near-value (fin t m e) s a c C h v =
     let d = down e in
     let below : n < 4194304 * d = lt_of_mul-lt-mul_right c (lt_of_le_of_lt (le_of_eq v.1) (lt_of_lt_of_le (mul-lt-mul_of_pos_right h (down_pos e)) (le_of_eq (mul_right_comm 4194304 c d)))) in
     shifted-near t m e below
-    ∙ ap (λ (u : Bool). of_int binary32 (signed u (nearestEven n d))) v.0
+    ∙ ap (λ (u : Bool). of_int binary32 (signed u (nearest_even n d))) v.0
     ∙ ap (λ (r : ℕ). of_int binary32 (signed s r)) (nearest-same n d a c (down_pos e) C v.1)
 
 abbrev pub negative : ℤ → Bool
@@ -75,7 +75,7 @@ near-outcome w s r e l =
     (λ c. rw c.1 (outside (rw e (value-outside (of_int binary32 z) (negative z) (nat_abs z) (integer-value z (omega arith)) (omega (arith, c.0))))))
     (range-cases s r)
 
-pub outcome : (v : Float) → T (fits binary32 v) → Outcome (converted v) (byValue v)
+pub outcome : (v : Float) → T (fits binary32 v) → Outcome (converted v) (by_value v)
 outcome nan f = unfold mul add sub of_bits in outside tt
 outcome (inf false) f = unfold mul add sub of_bits in outside tt
 outcome (inf true) f = unfold mul add sub of_bits in outside tt
@@ -90,10 +90,10 @@ outcome (fin s m e) f = go (ltb n (4194304 * d)) (ltb→lt n (4194304 * d)) (nlt
     x : Float
     x = mul binary32 (fin s m e) scale
 
-    go : (b : Bool) → (T b → n < 4194304 * d) → (T (not b) → 4194304 * d ≤ n) → Outcome (shifted x) (in_range s (nearestEven n d))
+    go : (b : Bool) → (T b → n < 4194304 * d) → (T (not b) → 4194304 * d ≤ n) → Outcome (shifted x) (in_range s (nearest_even n d))
     go true g h =
-        near-outcome (shifted x) s (nearestEven n d) (near-value x s n d (down_pos e) (g tt) (scaled_exact s m e f (g tt)))
+        near-outcome (shifted x) s (nearest_even n d) (near-value x s n d (down_pos e) (g tt) (scaled_exact s m e f (g tt)))
         (nearest-le n d 4194304 (down_pos e) (omega (arith, g tt)))
     go false g h =
         let far = nearest-ge n d 4194304 (down_pos e) (h tt) in
-        rw (out_of_range s (nearestEven n d) (omega arith)) (outside (far-outside (shifted x) s (shifted-far s x (scaled-far s m e (h tt)))))
+        rw (out_of_range s (nearest_even n d) (omega arith)) (outside (far-outside (shifted x) s (shifted-far s x (scaled-far s m e (h tt)))))

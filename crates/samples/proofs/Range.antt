@@ -14,9 +14,9 @@ use lib.Ieee.Bits.{is_true}
 use lib.Ieee.Exact.{HasValue}
 use lib.Ieee.Back.{positive_back, negative_back}
 use Rattle.samples.specs.Given.{GivenCoordinate, done, refused}
-use Rattle.samples.specs.Heard.{heardCoordinate}
+use Rattle.samples.specs.Heard.{heard_coordinate}
 use Rattle.samples.proofs.Rounding.{tested_le}
-use Rattle.samples.proofs.Value.{byValue, heard-value}
+use Rattle.samples.proofs.Value.{by_value, heard-value}
 use Rattle.samples.proofs.Outcome.{converted, Outside, Outcome, within, outside, outcome, negative, integer-value}
 
 -- -8192.0 and 8192.0
@@ -83,15 +83,15 @@ whole-casts (negsuc n) h = negative_back binary32 31 n (lt→ltb n 16777216 (ome
 
 -- ---- the answer
 pub passed : (v : Float) → T (fits binary32 v) → le lowest (converted v) ≡ true → le (converted v) highest ≡ true →
-    T (in_signed binary32 31 (converted v)) × (done (to_signed 31 (converted v)) ≡ heardCoordinate v)
-passed v f p q = rw (heard-value v f) (go (converted v) (byValue v) p q (outcome v f))
+    T (in_signed binary32 31 (converted v)) × (done (to_signed 31 (converted v)) ≡ heard_coordinate v)
+passed v f p q = rw (heard-value v f) (go (converted v) (by_value v) p q (outcome v f))
   where
     go : (w : Float) (g : GivenCoordinate) → le lowest w ≡ true → le w highest ≡ true → Outcome w g → T (in_signed binary32 31 w) × (done (to_signed 31 w) ≡ g)
     go w g p q (within z h e) = rw e ((whole-casts z h).0, ap done (whole-casts z h).1)
     go w g p q (outside h) = absurd (outside-fails w h (subst T (sym p) tt) (subst T (sym q) tt))
 
-pub failed : (v : Float) → T (fits binary32 v) → (le lowest (converted v) ≡ true → le (converted v) highest ≡ true → ⊥) → refused ≡ heardCoordinate v
-failed v f k = rw (heard-value v f) (go (converted v) (byValue v) k (outcome v f))
+pub failed : (v : Float) → T (fits binary32 v) → (le lowest (converted v) ≡ true → le (converted v) highest ≡ true → ⊥) → refused ≡ heard_coordinate v
+failed v f k = rw (heard-value v f) (go (converted v) (by_value v) k (outcome v f))
   where
     go : (w : Float) (g : GivenCoordinate) → (le lowest w ≡ true → le w highest ≡ true → ⊥) → Outcome w g → refused ≡ g
     go w g k (within z h e) = absurd (k (is_true (le lowest w) (rw e (whole-passes z h).0)) (is_true (le w highest) (rw e (whole-passes z h).1)))

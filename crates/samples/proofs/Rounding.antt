@@ -1,5 +1,5 @@
 -- What `round`, the library's one rounding to a float, does with a fraction n / d: where the floats are the whole numbers it is
--- `nearestEven`, and it never passes a whole number up to 2 ^ 24, which is a float itself. It leans on `lib.Ieee`, whose `round_mono`
+-- `nearest_even`, and it never passes a whole number up to 2 ^ 24, which is a float itself. It leans on `lib.Ieee`, whose `round_mono`
 -- says that the larger fraction rounds to no less.
 --   round-to-whole   from 2 ^ 23 to 2 ^ 24 the result is the nearest whole number
 --   round-at-least   of n / d from q on, the result is q or more in size, or infinite
@@ -19,7 +19,7 @@ use lib.Ieee.Exact.{HasValue, units_val}
 use lib.Ieee.Nearest.{closest, closest_same}
 use lib.Ieee.Order.{round_mono, transfer}
 use lib.Ieee.Back.{round_whole}
-use Rattle.samples.specs.Nearest.{nearestEven}
+use Rattle.samples.specs.Nearest.{nearest_even}
 use Rattle.samples.proofs.Nearest.{nearest-closest}
 
 -- ---- from 2 ^ 23 up to 2 ^ 24 the floats are the whole numbers
@@ -31,7 +31,7 @@ in-units nan s q v = v
 in-units (inf t) s q v = v
 in-units (fin t m e) s q v = (v.0, mul-one (m * up e) ∙ eq_of_mul-eq-mul_right (2 ^ 149) (pow_pos 149) (m * up e) (q * down e) (v.1 ∙ mul_right_comm q (2 ^ 149) (down e)))
 
-pub round-to-whole : (n d : ℕ) → 0 < d → 2 ^ 23 * d ≤ n → n < 2 ^ 24 * d → HasValue (round binary32 false n d) false (nearestEven n d) 1
+pub round-to-whole : (n d : ℕ) → 0 < d → 2 ^ 23 * d ≤ n → n < 2 ^ 24 * d → HasValue (round binary32 false n d) false (nearest_even n d) 1
 round-to-whole n d D h k =
     let N = n * 2 ^ 149 in
     let q = closest n d in

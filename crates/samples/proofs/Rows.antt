@@ -4,13 +4,13 @@
 use mathlib.Core.Path.{◌≡◌, refl}
 use mathlib.Core.List.{map}
 use lib.Ieee.{binary32, to_bits}
-use Rattle.samples.specs.Heard.{heardCoordinate}
-use Rattle.samples.specs.Rows.{SampleRow, sampleRows}
+use Rattle.samples.specs.Heard.{heard_coordinate}
+use Rattle.samples.specs.Rows.{SampleRow, sample_rows}
 
-pub row-bits : map (λ (r : SampleRow). to_bits binary32 r.float) sampleRows ≡ map (λ (r : SampleRow). r.bits) sampleRows
+pub row-bits : map (λ (r : SampleRow). to_bits binary32 r.float) sample_rows ≡ map (λ (r : SampleRow). r.bits) sample_rows
 unfolding to_bits
 row-bits = refl
 
-pub sample-rows : map (λ (r : SampleRow). heardCoordinate r.float) sampleRows ≡ map (λ (r : SampleRow). r.given) sampleRows
-unfolding heardCoordinate to_bits
+pub sample-rows : map (λ (r : SampleRow). heard_coordinate r.float) sample_rows ≡ map (λ (r : SampleRow). r.given) sample_rows
+unfolding heard_coordinate to_bits
 sample-rows = refl

@@ -15,7 +15,7 @@ use lib.Ieee.Fits.{down_pos}
 use lib.Ieee.Bits.{is_true, is_false}
 use lib.Ieee.Exact.{HasValue}
 use lib.Ieee.Scale.{round_same}
-use Rattle.samples.specs.Nearest.{nearestEven}
+use Rattle.samples.specs.Nearest.{nearest_even}
 use Rattle.samples.specs.Heard.{signed}
 use Rattle.samples.proofs.Nearest.{nearest-le, nearest-plus, nearest-minus}
 use Rattle.samples.proofs.Rounding.{AtLeast, AtMost, round-to-whole, round-at-least, round-at-most}
@@ -78,18 +78,18 @@ off_less (fin false m e) (suc k) l v =
     parts k l = omega arith
 
 -- ---- near: the sum is the rounding, since it falls where the floats are the whole numbers
-pub shifted-near : (s : Bool) (m : ℕ) (e : ℤ) → m * up e < 4194304 * down e → shifted (fin s m e) ≡ of_int binary32 (signed s (nearestEven (m * up e) (down e)))
+pub shifted-near : (s : Bool) (m : ℕ) (e : ℤ) → m * up e < 4194304 * down e → shifted (fin s m e) ≡ of_int binary32 (signed s (nearest_even (m * up e) (down e)))
 shifted-near false m e h =
     let n = m * up e in
     let d = down e in
     let whole = round-to-whole (12582912 * d + n) d (down_pos e) (omega arith) (omega arith) in
-    off-more (add binary32 (fin false m e) big) (nearestEven n d)
+    off-more (add binary32 (fin false m e) big) (nearest_even n d)
     (rw (add-plus m e, ← (nearest-plus 12582912 n d refl (down_pos e))) whole)
 shifted-near true m e h =
     let n = m * up e in
     let d = down e in
     let whole = round-to-whole (12582912 * d - n) d (down_pos e) (omega arith) (omega arith) in
-    off_less (add binary32 (fin true m e) big) (nearestEven n d) (nearest-le n d 12582912 (down_pos e) (omega arith))
+    off_less (add binary32 (fin true m e) big) (nearest_even n d) (nearest-le n d 12582912 (down_pos e) (omega arith))
     (rw (add-minus m e (omega arith), ← (nearest-minus 12582912 n d refl (down_pos e) (omega arith))) whole)
 
 -- ---- far: coarser floats, but the sum stays away from the constant, on its own side

@@ -1,7 +1,7 @@
 -- The meaning speaks of the bits; here it is turned to the float's value: of ± a / c what is heard is 128 a / c rounded, with its sign.
 -- It leans on the library's `of_bits`, which gives the value of a pattern.
---   size-signed, in-range, out_of_range, range-cases   what `signed` and `inRange` are
---   byValue v     what is heard of v, by its value
+--   size-signed, in-range, out_of_range, range-cases   what `signed` and `in_range` are
+--   by_value v     what is heard of v, by its value
 --   of-value      the same of a float that is ± a / c, whichever fraction that is
 --   of-bits       of the float that a pattern stands for, a NaN's too, it is what the meaning says of the pattern
 --   heard-value   so it is what is heard of every float
@@ -18,9 +18,9 @@ use lib.Ieee.{Float, nan, inf, fin, binary32, up, down, odd, of_fields, of_bits,
 use lib.Ieee.Fits.{down_pos}
 use lib.Ieee.Exact.{HasValue, odd_sign}
 use lib.Ieee.Bits.{is_true, is_false, of_bits-to_bits}
-use Rattle.samples.specs.Nearest.{nearestEven}
+use Rattle.samples.specs.Nearest.{nearest_even}
 use Rattle.samples.specs.Given.{GivenCoordinate, done, refused}
-use Rattle.samples.specs.Heard.{isNegative, field, digits, signed, in_range, heardFields, heardBits, heardCoordinate}
+use Rattle.samples.specs.Heard.{is_negative, field, digits, signed, in_range, heard_fields, heard_bits, heard_coordinate}
 use Rattle.samples.proofs.Nearest.{nearest-same}
 
 -- ---- the range
@@ -45,34 +45,34 @@ range-cases s r = go (leb r 8192) (leb→le r 8192) (nleb→lt r 8192)
     go false f g = inr (g tt, out_of_range s r (g tt))
 
 -- ---- by the value
-abbrev pub byValue : Float → GivenCoordinate
-byValue nan = refused
-byValue (inf s) = refused
-byValue (fin s m e) = in_range s (nearestEven (m * up e * 128) (down e))
+abbrev pub by_value : Float → GivenCoordinate
+by_value nan = refused
+by_value (inf s) = refused
+by_value (fin s m e) = in_range s (nearest_even (m * up e * 128) (down e))
 
-pub of-value : (x : Float) (s : Bool) (a c : ℕ) → 0 < c → HasValue x s a c → byValue x ≡ in_range s (nearestEven (128 * a) c)
+pub of-value : (x : Float) (s : Bool) (a c : ℕ) → 0 < c → HasValue x s a c → by_value x ≡ in_range s (nearest_even (128 * a) c)
 of-value nan s a c C v = absurd v
 of-value (inf t) s a c C v = absurd v
 of-value (fin t m e) s a c C v =
     let n = m * up e in
     let d = down e in
     let same : n * 128 * c ≡ 128 * a * d = mul_right_comm n 128 c ∙ ap (λ (z : ℕ). z * 128) v.1 ∙ mul_comm (a * d) 128 ∙ sym (mul_assoc 128 a d) in
-    ap (λ (u : Bool). in_range u (nearestEven (n * 128) d)) v.0 ∙ ap (in_range s) (nearest-same (n * 128) d (128 * a) c (down_pos e) C same)
+    ap (λ (u : Bool). in_range u (nearest_even (n * 128) d)) v.0 ∙ ap (in_range s) (nearest-same (n * 128) d (128 * a) c (down_pos e) C same)
 
-of-fields : (s : Bool) (x t : ℕ) → byValue (of_fields binary32 s x t) ≡ heardFields s x t
-unfolding of_fields heardFields
+of-fields : (s : Bool) (x t : ℕ) → by_value (of_fields binary32 s x t) ≡ heard_fields s x t
+unfolding of_fields heard_fields
 of-fields s zero t = of-value (odd 24 s t 0 149) s t (2 ^ 149) (pow_pos 149) (subst (λ (z : ℕ). HasValue (odd 24 s t 0 149) s z (2 ^ 149)) (mul-one t) (odd_sign 24 s t 0 149))
 of-fields s (suc x) t = go (eqb (suc x) 255) (eqb t 0)
   where
-    go : (a b : Bool) → byValue (cond a (cond b (inf s) nan) (odd 24 s (2 ^ 23 + t) x 149)) ≡ cond a refused (in_range s (nearestEven (128 * ((2 ^ 23 + t) * 2 ^ x)) (2 ^ 149)))
+    go : (a b : Bool) → by_value (cond a (cond b (inf s) nan) (odd 24 s (2 ^ 23 + t) x 149)) ≡ cond a refused (in_range s (nearest_even (128 * ((2 ^ 23 + t) * 2 ^ x)) (2 ^ 149)))
     go true true = refl
     go true false = refl
     go false b = of-value (odd 24 s (2 ^ 23 + t) x 149) s ((2 ^ 23 + t) * 2 ^ x) (2 ^ 149) (pow_pos 149) (odd_sign 24 s (2 ^ 23 + t) x 149)
 
-pub of-bits : (b : ℕ) → byValue (of_bits binary32 b) ≡ heardBits b
-unfolding of_bits heardBits
-of-bits b = of-fields (isNegative b) (field b) (digits b)
+pub of-bits : (b : ℕ) → by_value (of_bits binary32 b) ≡ heard_bits b
+unfolding of_bits heard_bits
+of-bits b = of-fields (is_negative b) (field b) (digits b)
 
-pub heard-value : (v : Float) → T (fits binary32 v) → heardCoordinate v ≡ byValue v
-unfolding heardCoordinate
-heard-value v h = sym (of-bits (to_bits binary32 v)) ∙ ap byValue (of_bits-to_bits binary32 v h)
+pub heard-value : (v : Float) → T (fits binary32 v) → heard_coordinate v ≡ by_value v
+unfolding heard_coordinate
+heard-value v h = sym (of-bits (to_bits binary32 v)) ∙ ap by_value (of_bits-to_bits binary32 v h)

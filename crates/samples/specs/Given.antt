@@ -4,8 +4,8 @@
 --   GivenCoordinate      what is given for one float: number and whole number
 --   done z, refused      its two cases
 --   GivenSample          what is given for a pair: number, both whole numbers, and the place at fault if there is one
---   bothDone x y, refusedAt p   its two cases
---   coordinateGiven, sampleGiven   what each case of the answers `Coordinate` and `Pair` gives
+--   both_done x y, refused_at p   its two cases
+--   coordinate_given, sample_given   what each case of the answers `Coordinate` and `Pair` gives
 use Rattle.std.specs.Prelude.{ℕ, ℤ, pos}
 use Rattle.std.proofs.Math.Option.{Option, none, some}
 use Rattle.samples.specs.declared.Coordinate.{Coordinate}
@@ -29,16 +29,16 @@ pub record GivenSample : Type 0 where
   pub y : ℤ
   pub place : Option ℕ
 
-abbrev pub bothDone : ℤ → ℤ → GivenSample
-bothDone x y = record { number = 0; x = x; y = y; place = none }
+abbrev pub both_done : ℤ → ℤ → GivenSample
+both_done x y = record { number = 0; x = x; y = y; place = none }
 
-abbrev pub refusedAt : ℕ → GivenSample
-refusedAt p = record { number = 5; x = pos 0; y = pos 0; place = some p }
+abbrev pub refused_at : ℕ → GivenSample
+refused_at p = record { number = 5; x = pos 0; y = pos 0; place = some p }
 
-abbrev pub coordinateGiven : Coordinate → GivenCoordinate
-coordinateGiven (coordinate.Heard z) = done z
-coordinateGiven coordinate.Refused = refused
+abbrev pub coordinate_given : Coordinate → GivenCoordinate
+coordinate_given (coordinate.Heard z) = done z
+coordinate_given coordinate.Refused = refused
 
-abbrev pub sampleGiven : Pair → GivenSample
-sampleGiven (pair.Heard x y) = bothDone x y
-sampleGiven (pair.Refused p) = refusedAt p
+abbrev pub sample_given : Pair → GivenSample
+sample_given (pair.Heard x y) = both_done x y
+sample_given (pair.Refused p) = refused_at p

@@ -6,9 +6,9 @@
 // What is given back, in numbers, is in specs/Given.antt; what is heard, read from the bits, in specs/Heard.antt. A front end that loses
 // samples says which are missing: specs/Sampled.antt.
 ghost use Rattle.std.specs.Prelude.{◌≡◌};
-ghost use Rattle.samples.specs.Given.{coordinateGiven, sampleGiven};
-ghost use Rattle.samples.specs.Heard.{heardCoordinate, heardSample};
-ghost use Rattle.samples.specs.Sampled.{markedGiven, heardSampled};
+ghost use Rattle.samples.specs.Given.{coordinate_given, sample_given};
+ghost use Rattle.samples.specs.Heard.{heard_coordinate, heard_sample};
+ghost use Rattle.samples.specs.Sampled.{marked_given, heard_sampled};
 
 // What is heard of one float: a whole number from -8192 to 8192, or nothing.
 #[derive(Drop)]
@@ -22,7 +22,7 @@ pub enum Coordinate {
 // for either sign, and the difference takes the constant off exactly. What is too large for that stretch is rounded
 // more coarsely or overflows, but never comes back into the range. A NaN passes neither comparison.
 pub fn hear_coordinate(v: f32) -> Coordinate
-    ensures { coordinateGiven result ≡ heardCoordinate v }
+    ensures { coordinate_given result ≡ heard_coordinate v }
 {
     let scaled = v * 128.0;
     let near = scaled + 12582912.0;
@@ -50,7 +50,7 @@ pub enum Pair {
 
 // x is tried first, so a fault of y is told only where x was heard.
 pub fn hear_sample(s: Sample) -> Pair
-    ensures { sampleGiven result ≡ heardSample s.x s.y }
+    ensures { sample_given result ≡ heard_sample s.x s.y }
 {
     let Coordinate::Heard(x) = hear_coordinate(s.x) else {
         return Pair::Refused { place: 0 };
@@ -77,7 +77,7 @@ pub enum Marked {
 }
 
 pub fn hear_sampled(s: Sampled) -> Marked
-    ensures { markedGiven result ≡ heardSampled s }
+    ensures { marked_given result ≡ heard_sampled s }
 {
     let Sampled::Heard(x, y) = s else {
         return Marked::Missing;

@@ -16,14 +16,14 @@ use native.Mathlib.Omega.{arith}
 use lib.Dec.{ltb}
 use lib.ListN.{get_or}
 use borrow.Author.Tests.{lt-ltb, ltb-true, ltb-false}
-use Rattle.trellis.specs.Pick.{keepN, least}
+use Rattle.trellis.specs.Pick.{keep_n, least}
 use Rattle.trellis.proofs.Least.{least-is}
 use Rattle.wei.specs.State.{before}
 use Rattle.wei.proofs.States.{before-below, before-rises, between-below}
 use Rattle.select.specs.declared.Selected.{Selected}
-use Rattle.select.specs.Select.{limit, sixteen, arrive, winner, sum_at, firstStep, lowered, live_of, head_of, followed, stepAt}
-use Rattle.select.specs.Ways.{stepBy, keyBy, key_at, sumsIn, stepsIn, followedStep}
-use Rattle.lists.specs.UpTo.{allUpTo}
+use Rattle.select.specs.Select.{limit, sixteen, arrive, winner, sum_at, first_step, lowered, live_of, head_of, followed, step_at}
+use Rattle.select.specs.Ways.{step_by, key_by, key_at, sums_in, steps_in, followed_step}
+use Rattle.lists.specs.UpTo.{all_up_to}
 use Rattle.sums.specs.Sums.{end_of, lowest}
 use Rattle.lists.proofs.UpTo.{up-to-all}
 use Rattle.sums.proofs.Least.{end_below, lowest-le}
@@ -31,7 +31,7 @@ use Rattle.select.proofs.Lists.{sixteen-at, sixteen-same}
 use Rattle.select.proofs.Followed.{followed-live, followed-below, followed-is}
 
 -- ── the least of four ──
-pub step-below : (t k : ℕ) → t < 16 → k < 4 → stepBy t k < 128
+pub step-below : (t k : ℕ) → t < 16 → k < 4 → step_by t k < 128
 step-below t k h l = omega (arith, before-below t k h l, between-below (before t k) t)
 
 module _ (sums costs : List ℕ) (t : ℕ) (h : t < 16) where
@@ -39,14 +39,14 @@ module _ (sums costs : List ℕ) (t : ℕ) (h : t < 16) where
   sum = arrive sums costs t
 
   abbrev key : ℕ → ℕ
-  key = keyBy sums costs t
+  key = key_by sums costs t
 
   -- the way from an earlier state before wins where the sums are equal
-  nearer-is : (i j : ℕ) → i < j → j < 4 → min (key i) (key j) ≡ key (keepN (ltb (sum j) (sum i)) i j)
-  unfolding keyBy
+  nearer-is : (i j : ℕ) → i < j → j < 4 → min (key i) (key j) ≡ key (keep_n (ltb (sum j) (sum i)) i j)
+  unfolding key_by
   nearer-is i j l k = go (ltb (sum j) (sum i)) refl
     where
-      go : (b : Bool) → ltb (sum j) (sum i) ≡ b → min (key i) (key j) ≡ key (keepN b i j)
+      go : (b : Bool) → ltb (sum j) (sum i) ≡ b → min (key i) (key j) ≡ key (keep_n b i j)
       go true e = omega (arith, ltb-true (sum j) (sum i) e, step-below t j h k)
       go false e = omega (arith, ltb-false (sum j) (sum i) e, before-rises t i j l, between-below (before t i) t)
 
@@ -54,9 +54,9 @@ module _ (sums costs : List ℕ) (t : ℕ) (h : t < 16) where
   unfolding least
   one_more n l = nearer-is (least sum n) (suc n) (omega (arith, (least-is sum n).low)) l
 
-  pub best : (a b c d p q r : ℕ) → a ≡ keyBy sums costs t 0 → b ≡ keyBy sums costs t 1 → c ≡ keyBy sums costs t 2 → d ≡ keyBy sums costs t 3
+  pub best : (a b c d p q r : ℕ) → a ≡ key_by sums costs t 0 → b ≡ key_by sums costs t 1 → c ≡ key_by sums costs t 2 → d ≡ key_by sums costs t 3
       → p ≡ min a b → q ≡ min c d → r ≡ min p q → r ≡ key_at sums costs t
-  unfolding key_at keyBy firstStep sum_at winner least
+  unfolding key_at key_by first_step sum_at winner least
   best a b c d p q r ea eb ec ed ep eq er =
       let chain : r ≡ min (min (min a b) c) d = omega arith in
       let two : min (min (key 0) (key 1)) (key 2) ≡ key (least sum 2) = ap (λ (x : ℕ). min x (key 2)) (one_more 0 (omega arith)) ∙ one_more 1 (omega arith) in
@@ -64,85 +64,85 @@ module _ (sums costs : List ℕ) (t : ℕ) (h : t < 16) where
 
 -- ── what sixteen keys say ──
 module _ (keys : List ℕ) (s : ℕ) (h : s < 16) where
-  pub sum-at : get_or (sumsIn keys) s 0 ≡ get_or keys s 0 / 128
+  pub sum-at : get_or (sums_in keys) s 0 ≡ get_or keys s 0 / 128
   sum-at = sixteen-at (λ i. get_or keys i 0 / 128) s h
 
-  pub step-at : get_or (stepsIn keys) s 0 ≡ get_or keys s 0 % 128
+  pub step-at : get_or (steps_in keys) s 0 ≡ get_or keys s 0 % 128
   step-at = sixteen-at (λ i. get_or keys i 0 % 128) s h
 
 module _ (sums costs : List ℕ) where
-  key-parts : (t : ℕ) → t < 16 → (key_at sums costs t / 128 ≡ sum_at sums costs t) × (key_at sums costs t % 128 ≡ firstStep sums costs t)
-  unfolding key_at firstStep winner
+  key-parts : (t : ℕ) → t < 16 → (key_at sums costs t / 128 ≡ sum_at sums costs t) × (key_at sums costs t % 128 ≡ first_step sums costs t)
+  unfolding key_at first_step winner
   key-parts t h =
-      let l : stepBy t (winner sums costs t) < 128 = step-below t (winner sums costs t) h (omega (arith, (least-is (arrive sums costs t) 3).low)) in
+      let l : step_by t (winner sums costs t) < 128 = step-below t (winner sums costs t) h (omega (arith, (least-is (arrive sums costs t) 3).low)) in
       (omega arith, omega arith)
 
-  pub keys-sums : sumsIn (sixteen (key_at sums costs)) ≡ sixteen (sum_at sums costs)
+  pub keys-sums : sums_in (sixteen (key_at sums costs)) ≡ sixteen (sum_at sums costs)
   keys-sums =
       sixteen-same (λ s. get_or (sixteen (key_at sums costs)) s 0 / 128) (sum_at sums costs)
       (λ t h. ap (λ (x : ℕ). x / 128) (sixteen-at (key_at sums costs) t h) ∙ (key-parts t h).0)
 
-  pub keys-steps : stepsIn (sixteen (key_at sums costs)) ≡ sixteen (firstStep sums costs)
+  pub keys-steps : steps_in (sixteen (key_at sums costs)) ≡ sixteen (first_step sums costs)
   keys-steps =
-      sixteen-same (λ s. get_or (sixteen (key_at sums costs)) s 0 % 128) (firstStep sums costs)
+      sixteen-same (λ s. get_or (sixteen (key_at sums costs)) s 0 % 128) (first_step sums costs)
       (λ t h. ap (λ (x : ℕ). x % 128) (sixteen-at (key_at sums costs) t h) ∙ (key-parts t h).1)
 
-pub lowest-is : (keys : List ℕ) → lowest keys / 128 ≡ lowest (sumsIn keys)
+pub lowest-is : (keys : List ℕ) → lowest keys / 128 ≡ lowest (sums_in keys)
 unfolding lowest
 lowest-is keys =
-    let sums : List ℕ = sumsIn keys in
+    let sums : List ℕ = sums_in keys in
     let e = end_of keys in
     let d = end_of sums in
     omega (arith, lowest-le sums e (end_below keys), sum-at keys e (end_below keys), lowest-le keys d (end_below sums), sum-at keys d (end_below sums))
 
 -- ── state by state ──
 module _ (keys : List ℕ) (s : ℕ) (h : s < 16) where
-  pub low_fits : (low : ℕ) → low ≡ lowest (sumsIn keys) → low ≤ get_or keys s 0 / 128
-  low_fits low e = omega (arith, lowest-le (sumsIn keys) s h, sum-at keys s h)
+  pub low_fits : (low : ℕ) → low ≡ lowest (sums_in keys) → low ≤ get_or keys s 0 / 128
+  low_fits low e = omega (arith, lowest-le (sums_in keys) s h, sum-at keys s h)
 
-  pub kept-is : (low x : ℕ) → low ≡ lowest (sumsIn keys)
-      → x ≡ cond (ltb (get_or keys s 0 / 128) limit) (get_or keys s 0 / 128 - low) limit → x ≡ lowered (sumsIn keys) s
+  pub kept-is : (low x : ℕ) → low ≡ lowest (sums_in keys)
+      → x ≡ cond (ltb (get_or keys s 0 / 128) limit) (get_or keys s 0 / 128 - low) limit → x ≡ lowered (sums_in keys) s
   unfolding lowered
   kept-is low x e q = q ∙ ap₂ (λ (v l : ℕ). cond (ltb v limit) (v - l) limit) (sym (sum-at keys s h)) e
 
-  pub follows : (d x : ℕ) → d ≡ head_of (live_of (sumsIn keys)) → d < 16
-      → x ≡ cond (ltb (get_or keys s 0 / 128) limit) (get_or keys s 0 % 128) (get_or keys d 0 % 128) → x ≡ followedStep (sumsIn keys) (stepsIn keys) s
+  pub follows : (d x : ℕ) → d ≡ head_of (live_of (sums_in keys)) → d < 16
+      → x ≡ cond (ltb (get_or keys s 0 / 128) limit) (get_or keys s 0 % 128) (get_or keys d 0 % 128) → x ≡ followed_step (sums_in keys) (steps_in keys) s
   follows d x e l q =
-      followed-is (sumsIn keys) (stepsIn keys) s d x e
+      followed-is (sums_in keys) (steps_in keys) s d x e
       (q ∙ ap₂ (λ (v w : ℕ). cond (ltb v limit) w (get_or keys d 0 % 128)) (sym (sum-at keys s h)) (sym (step-at keys s h))
-      ∙ ap (cond (ltb (get_or (sumsIn keys) s 0) limit) (get_or (stepsIn keys) s 0)) (sym (step-at keys d l)))
+      ∙ ap (cond (ltb (get_or (sums_in keys) s 0) limit) (get_or (steps_in keys) s 0)) (sym (step-at keys d l)))
 
 -- ── where all states are reached ──
-module _ (keys : List ℕ) (all : allUpTo 268435455 keys ≡ true) where
-  reached : (s : ℕ) → s < 16 → get_or (sumsIn keys) s 0 < limit
+module _ (keys : List ℕ) (all : all_up_to 268435455 keys ≡ true) where
+  reached : (s : ℕ) → s < 16 → get_or (sums_in keys) s 0 < limit
   reached s h = omega (arith, sum-at keys s h, up-to-all 268435455 keys all s)
 
-  pub all-kept : (low : ℕ) → low ≡ lowest (sumsIn keys) → sixteen (λ s. get_or keys s 0 / 128 - low) ≡ sixteen (lowered (sumsIn keys))
+  pub all-kept : (low : ℕ) → low ≡ lowest (sums_in keys) → sixteen (λ s. get_or keys s 0 / 128 - low) ≡ sixteen (lowered (sums_in keys))
   unfolding lowered
   all-kept low e =
-      sixteen-same (λ s. get_or keys s 0 / 128 - low) (lowered (sumsIn keys))
+      sixteen-same (λ s. get_or keys s 0 / 128 - low) (lowered (sums_in keys))
       (λ s h. ap₂ (λ (a b : ℕ). a - b) (sym (sum-at keys s h)) e ∙ sym (rw (lt-ltb _ _ (reached s h))))
 
-  pub all-followed : stepsIn keys ≡ sixteen (followedStep (sumsIn keys) (stepsIn keys))
-  unfolding followedStep
+  pub all-followed : steps_in keys ≡ sixteen (followed_step (sums_in keys) (steps_in keys))
+  unfolding followed_step
   all-followed =
-      sixteen-same (λ s. get_or keys s 0 % 128) (followedStep (sumsIn keys) (stepsIn keys))
-      (λ s h. sym (step-at keys s h) ∙ ap (λ (k : ℕ). get_or (stepsIn keys) k 0) (sym (followed-live (sumsIn keys) s (reached s h))))
+      sixteen-same (λ s. get_or keys s 0 % 128) (followed_step (sums_in keys) (steps_in keys))
+      (λ s h. sym (step-at keys s h) ∙ ap (λ (k : ℕ). get_or (steps_in keys) k 0) (sym (followed-live (sums_in keys) s (reached s h))))
 
 -- ── a symbol ──
-followed-steps : (sums costs : List ℕ) → sixteen (followedStep (sixteen (sum_at sums costs)) (sixteen (firstStep sums costs))) ≡ sixteen (stepAt sums costs)
-unfolding followedStep stepAt
+followed-steps : (sums costs : List ℕ) → sixteen (followed_step (sixteen (sum_at sums costs)) (sixteen (first_step sums costs))) ≡ sixteen (step_at sums costs)
+unfolding followed_step step_at
 followed-steps sums costs =
     let new = sixteen (sum_at sums costs) in
-    sixteen-same (followedStep new (sixteen (firstStep sums costs))) (stepAt sums costs)
-    (λ s h. sixteen-at (firstStep sums costs) (followed new s) (followed-below new s h))
+    sixteen-same (followed_step new (sixteen (first_step sums costs))) (step_at sums costs)
+    (λ s h. sixteen-at (first_step sums costs) (followed new s) (followed-below new s h))
 
 module _ (sums costs keys : List ℕ) (is : keys ≡ sixteen (key_at sums costs)) where
-  pub advanced : (kept steps : List ℕ) → kept ≡ sixteen (lowered (sumsIn keys)) → steps ≡ sixteen (followedStep (sumsIn keys) (stepsIn keys))
-      → ◌≡◌ {A = Selected} (record { sums = kept; steps = steps }) (record { sums = sixteen (lowered (sixteen (sum_at sums costs))); steps = sixteen (stepAt sums costs) })
+  pub advanced : (kept steps : List ℕ) → kept ≡ sixteen (lowered (sums_in keys)) → steps ≡ sixteen (followed_step (sums_in keys) (steps_in keys))
+      → ◌≡◌ {A = Selected} (record { sums = kept; steps = steps }) (record { sums = sixteen (lowered (sixteen (sum_at sums costs))); steps = sixteen (step_at sums costs) })
   advanced kept steps k s =
-      let a : sumsIn keys ≡ sixteen (sum_at sums costs) = ap sumsIn is ∙ keys-sums sums costs in
-      let b : stepsIn keys ≡ sixteen (firstStep sums costs) = ap stepsIn is ∙ keys-steps sums costs in
+      let a : sums_in keys ≡ sixteen (sum_at sums costs) = ap sums_in is ∙ keys-sums sums costs in
+      let b : steps_in keys ≡ sixteen (first_step sums costs) = ap steps_in is ∙ keys-steps sums costs in
       let p : kept ≡ sixteen (lowered (sixteen (sum_at sums costs))) = k ∙ ap (λ (l : List ℕ). sixteen (lowered l)) a in
-      let q : steps ≡ sixteen (stepAt sums costs) = s ∙ ap₂ (λ (l m : List ℕ). sixteen (followedStep l m)) a b ∙ followed-steps sums costs in
+      let q : steps ≡ sixteen (step_at sums costs) = s ∙ ap₂ (λ (l m : List ℕ). sixteen (followed_step l m)) a b ∙ followed-steps sums costs in
       λ i. record { sums = p i; steps = q i }

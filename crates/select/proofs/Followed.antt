@@ -18,44 +18,44 @@ use Rattle.trellis.specs.Lists.{In}
 use Rattle.trellis.specs.Search.{range}
 use Rattle.trellis.proofs.Lists.{state-in, state-below}
 use Rattle.sums.specs.Sums.{limit}
-use Rattle.select.specs.Select.{reachedOf, live_of, head_of, followed}
-use Rattle.select.specs.Ways.{followedStep}
+use Rattle.select.specs.Select.{reached_of, live_of, head_of, followed}
+use Rattle.select.specs.Ways.{followed_step}
 
 module _ (sums : List ℕ) where
   abbrev live : ℕ → Bool
   live s = ltb (get_or sums s 0) limit
 
-  reached-in : (xs : List ℕ) (s : ℕ) → In s xs → live s ≡ true → In s (reachedOf sums xs)
-  unfolding reachedOf
+  reached-in : (xs : List ℕ) (s : ℕ) → In s xs → live s ≡ true → In s (reached_of sums xs)
+  unfolding reached_of
   reached-in [] s m e = absurd m
   reached-in (x ∷ xs) s m e = go (λ j. reached-in xs s j e) (live x) refl m
     where
-      go : (In s xs → In s (reachedOf sums xs)) → (b : Bool) → live x ≡ b → In s (x ∷ xs) → In s (cond b (x ∷ reachedOf sums xs) (reachedOf sums xs))
+      go : (In s xs → In s (reached_of sums xs)) → (b : Bool) → live x ≡ b → In s (x ∷ xs) → In s (cond b (x ∷ reached_of sums xs) (reached_of sums xs))
       go r true q m = ⊎_elim (λ p. inl p) (λ j. inr (r j)) m
       go r false q m = ⊎_elim (λ p. let z : ◌≡◌ {A = Bool} false true = sym q ∙ ap live (sym p) ∙ e in absurd (let y : ◌≡◌ {A = ℕ} 0 1 = cc in omega arith)) r m
 
-  reached-out : (xs : List ℕ) (s : ℕ) → In s (reachedOf sums xs) → In s xs × (live s ≡ true)
-  unfolding reachedOf
+  reached-out : (xs : List ℕ) (s : ℕ) → In s (reached_of sums xs) → In s xs × (live s ≡ true)
+  unfolding reached_of
   reached-out [] s m = absurd m
   reached-out (x ∷ xs) s m = go (λ j. reached-out xs s j) (live x) refl m
     where
-      go : (In s (reachedOf sums xs) → In s xs × (live s ≡ true)) → (b : Bool) → live x ≡ b → In s (cond b (x ∷ reachedOf sums xs) (reachedOf sums xs)) → In s (x ∷ xs) × (live s ≡ true)
+      go : (In s (reached_of sums xs) → In s xs × (live s ≡ true)) → (b : Bool) → live x ≡ b → In s (cond b (x ∷ reached_of sums xs) (reached_of sums xs)) → In s (x ∷ xs) × (live s ≡ true)
       go r true q m = ⊎_elim (λ p. (inl p, ap live p ∙ q)) (λ j. (inr (r j).0, (r j).1)) m
       go r false q m = (inr (r m).0, (r m).1)
 
   head-below : head_of (live_of sums) < 16
   unfolding live_of
-  head-below = go (reachedOf sums (range 0 16)) refl
+  head-below = go (reached_of sums (range 0 16)) refl
     where
-      go : (l : List ℕ) → reachedOf sums (range 0 16) ≡ l → head_of l < 16
+      go : (l : List ℕ) → reached_of sums (range 0 16) ≡ l → head_of l < 16
       go [] e = omega arith
       go (x ∷ l) e = state-below 16 x (reached-out (range 0 16) x (subst (In x) (sym e) (inl refl))).0
 
   head-up : (s : ℕ) → s < 16 → get_or sums s 0 < limit → get_or sums (head_of (live_of sums)) 0 < limit
   unfolding live_of
-  head-up s h k = go (reachedOf sums (range 0 16)) refl
+  head-up s h k = go (reached_of sums (range 0 16)) refl
     where
-      go : (l : List ℕ) → reachedOf sums (range 0 16) ≡ l → get_or sums (head_of l) 0 < limit
+      go : (l : List ℕ) → reached_of sums (range 0 16) ≡ l → get_or sums (head_of l) 0 < limit
       go [] e = absurd (subst (In s) e (reached-in (range 0 16) s (state-in 16 s h) (lt-ltb (get_or sums s 0) limit k)))
       go (x ∷ l) e = ltb-true (get_or sums x 0) limit (reached-out (range 0 16) x (subst (In x) (sym e) (inl refl))).1
 
@@ -79,8 +79,8 @@ module _ (sums : List ℕ) where
       go true e = ltb-true (get_or sums s 0) limit e
       go false e = head-up t h k
 
-pub followed-is : (sums steps : List ℕ) (s h x : ℕ) → h ≡ head_of (live_of sums) → x ≡ cond (ltb (get_or sums s 0) limit) (get_or steps s 0) (get_or steps h 0) → x ≡ followedStep sums steps s
-unfolding followedStep followed
+pub followed-is : (sums steps : List ℕ) (s h x : ℕ) → h ≡ head_of (live_of sums) → x ≡ cond (ltb (get_or sums s 0) limit) (get_or steps s 0) (get_or steps h 0) → x ≡ followed_step sums steps s
+unfolding followed_step followed
 followed-is sums steps s h x e q = q ∙ go (ltb (get_or sums s 0) limit)
   where
     go : (b : Bool) → cond b (get_or steps s 0) (get_or steps h 0) ≡ get_or steps (cond b s (head_of (live_of sums))) 0
@@ -95,10 +95,10 @@ module _ (sums : List ℕ) (s : ℕ) (more : s < 16) where
       let up : 16 - s ≡ suc (16 - (s + 1)) = omega arith in
       ap (range s) up ∙ ap (λ (n : ℕ). s ∷ range n (16 - (s + 1))) (sym (add-one s))
 
-  pub head-here : get_or sums s 0 < limit → head_of (reachedOf sums (range s (16 - s))) ≡ s
-  unfolding reachedOf
-  head-here h = ap (λ (l : List ℕ). head_of (reachedOf sums l)) from ∙ rw (lt-ltb _ _ h)
+  pub head-here : get_or sums s 0 < limit → head_of (reached_of sums (range s (16 - s))) ≡ s
+  unfolding reached_of
+  head-here h = ap (λ (l : List ℕ). head_of (reached_of sums l)) from ∙ rw (lt-ltb _ _ h)
 
-  pub head-later : limit ≤ get_or sums s 0 → head_of (reachedOf sums (range s (16 - s))) ≡ head_of (reachedOf sums (range (s + 1) (16 - (s + 1))))
-  unfolding reachedOf
-  head-later h = ap (λ (l : List ℕ). head_of (reachedOf sums l)) from ∙ rw (le-ltb _ _ h)
+  pub head-later : limit ≤ get_or sums s 0 → head_of (reached_of sums (range s (16 - s))) ≡ head_of (reached_of sums (range (s + 1) (16 - (s + 1))))
+  unfolding reached_of
+  head-later h = ap (λ (l : List ℕ). head_of (reached_of sums l)) from ∙ rw (le-ltb _ _ h)

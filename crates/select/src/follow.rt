@@ -4,13 +4,13 @@
 ghost use Rattle.std.specs.Prelude.{◌≡◌, cond, ◌-◌, ◌/◌, ◌%◌, ◌≤◌, ◌<◌, ltb};
 ghost use Rattle.sums.specs.Sums.{limit, lowest};
 ghost use Rattle.select.specs.Select.{sixteen, lowered, head_of, live_of};
-ghost use Rattle.select.specs.Ways.{sumsIn, stepsIn, followedStep};
+ghost use Rattle.select.specs.Ways.{sums_in, steps_in, followed_step};
 
 use sums::LIMIT;
 
 // The first reached state; 0 where none is reached.
 fn first_live(keys: &[u32; 16]) -> usize
-    ensures { (result ≡ head_of (live_of (sumsIn keys.now))) × (result < 16) }
+    ensures { (result ≡ head_of (live_of (sums_in keys.now))) × (result < 16) }
 {
     let mut s: usize = 0;
     while s < 16 {
@@ -35,7 +35,7 @@ fn step_if_reached(key: u32, other: u8) -> u8
 
 // For each state the step into it; where nothing reaches it, the step into the first reached one.
 pub fn followers(keys: &[u32; 16]) -> [u8; 16]
-    ensures { result ≡ sixteen (followedStep (sumsIn keys.now) (stepsIn keys.now)) }
+    ensures { result ≡ sixteen (followed_step (sums_in keys.now) (steps_in keys.now)) }
 {
     let head = first_live(keys);
     let other = (keys[head] % 128) as u8;
@@ -62,8 +62,8 @@ fn sum_if_reached(key: u32, low: u32) -> u32
 
 // For each state what it keeps, where `low` is the least sum.
 pub fn kept(keys: &[u32; 16], low: u32) -> [u32; 16]
-    requires { low ≡ lowest (sumsIn keys.now) }
-    ensures { result ≡ sixteen (lowered (sumsIn keys.now)) }
+    requires { low ≡ lowest (sums_in keys.now) }
+    ensures { result ≡ sixteen (lowered (sums_in keys.now)) }
 {
     let mut all = [0u32; 16];
     let mut s: usize = 0;

@@ -6,8 +6,8 @@ mod ways;
 
 ghost use Rattle.std.specs.Prelude.{◌≡◌, ◌-◌, ◌/◌, get_or};
 ghost use Rattle.sums.specs.Sums.{lowest};
-ghost use Rattle.select.specs.Select.{sixteen, sum_at, lowered, stepAt};
-ghost use Rattle.select.specs.Ways.{Summable, sumsIn, stepsIn};
+ghost use Rattle.select.specs.Select.{sixteen, sum_at, lowered, step_at};
+ghost use Rattle.select.specs.Ways.{Summable, sums_in, steps_in};
 
 // What the states keep, and the step into each.
 #[derive(Drop)]
@@ -18,7 +18,7 @@ pub struct Selected {
 
 // The sums of all ways, less the least of them.
 fn sums_less(keys: &[u32; 16], low: u32) -> [u32; 16]
-    requires { low ≡ lowest (sumsIn keys.now) }
+    requires { low ≡ lowest (sums_in keys.now) }
     ensures { result ≡ sixteen (λ s. get_or keys.now s 0 / 128 - low) }
 {
     let mut all = [0u32; 16];
@@ -32,7 +32,7 @@ fn sums_less(keys: &[u32; 16], low: u32) -> [u32; 16]
 
 // The steps of all ways.
 fn steps_in(keys: &[u32; 16]) -> [u8; 16]
-    ensures { result ≡ stepsIn keys.now }
+    ensures { result ≡ steps_in keys.now }
 {
     let mut all = [0u8; 16];
     let mut s: usize = 0;
@@ -47,7 +47,7 @@ fn steps_in(keys: &[u32; 16]) -> [u8; 16]
 // one. All states are reached but in the first two symbols after a named start, so one test spares the sixteen.
 pub fn advance(sums: &[u32; 16], costs: &[u32; 8]) -> Selected
     requires { Summable sums.now costs.now }
-    ensures { result ≡ record { sums = sixteen (lowered (sixteen (sum_at sums.entry.now costs.now))); steps = sixteen (stepAt sums.entry.now costs.now) } }
+    ensures { result ≡ record { sums = sixteen (lowered (sixteen (sum_at sums.entry.now costs.now))); steps = sixteen (step_at sums.entry.now costs.now) } }
 {
     let keys = ways::select(sums, costs);
     let low = sums::lowest(&keys) / 128;

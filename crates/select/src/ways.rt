@@ -9,12 +9,12 @@
 // kept. A state that only such states lead to is mended afterwards, in `follow`: no line has one after its second symbol.
 ghost use Rattle.std.specs.Prelude.{◌≡◌, ◌<◌, min};
 ghost use Rattle.select.specs.Select.{sixteen};
-ghost use Rattle.select.specs.Ways.{Summable, keyBy, key_at};
+ghost use Rattle.select.specs.Ways.{Summable, key_by, key_at};
 
 // The way into t from the k-th state before it.
 fn key_by(sums: &[u32; 16], costs: &[u32; 8], t: u32, k: u32) -> u32
     requires { Summable sums.now costs.now × (t < 16) × (k < 4) }
-    ensures { result ≡ keyBy sums.now costs.now t k }
+    ensures { result ≡ key_by sums.now costs.now t k }
 {
     let s = wei::state::before_state(t, k);
     let c = wei::state::subset_between(s, t);

@@ -7,18 +7,18 @@ use native.Mathlib.Omega.{arith}
 use borrow.Author.Tests.{le-leb, lt-leb}
 use lib.IntN.{ℤ}
 use lib.ListN.{length, drop, set}
-use Rattle.maps.specs.PointMap.{first_at, secondAt}
-use Rattle.wei.specs.State.{nextState}
-use Rattle.wei.specs.Symbol.{firstLabel}
-use Rattle.wei.specs.Word.{isWord}
+use Rattle.maps.specs.PointMap.{first_at, second_at}
+use Rattle.wei.specs.State.{next_state}
+use Rattle.wei.specs.Symbol.{first_label}
+use Rattle.wei.specs.Word.{is_word}
 use Rattle.word_symbol.specs.declared.Symbol.{Symbol as Made}
 use Rattle.points.specs.declared.Accord.{Accord}
-use Rattle.points.specs.Agreed.{isAccord}
+use Rattle.points.specs.Agreed.{is_accord}
 use Rattle.sender.specs.declared.Sender.{Sender}
 use Rattle.sender.specs.declared.Sent.{Sent}
 use Rattle.sender.specs.declared.Why.{Why}
 use Rattle.sender.specs.declared.Why.TheVariants.{Done, BadWidth, BadWord, NoRoom, Closed}
-use Rattle.sender.specs.Send.{number_of, sound, symbolFor, after, four, Given, fresh, shut, opening, sending, End, opened, called}
+use Rattle.sender.specs.Send.{number_of, sound, symbol_for, after, four, Given, fresh, shut, opening, sending, End, opened, called}
 use Rattle.sender.specs.Promise.{Opens, Sends}
 
 -- four stores are the first four places
@@ -36,11 +36,11 @@ opens k r g e n s =
     let t : r.sender ≡ (opening k).sender = s ∙ ap (λ (x : Given). x.sender) (sym e) in
     record { number = n ∙ ap (λ (x : Given). x.number) (sym e); sender = t; end = subst End (sym t) (opened k) }
 
-pub opens-done : (k : Accord) → isAccord k ≡ true → Opens k (record { sender = fresh k; why = Done })
+pub opens-done : (k : Accord) → is_accord k ≡ true → Opens k (record { sender = fresh k; why = Done })
 unfolding opening
 opens-done k h = opens k _ (record { number = 0; sender = fresh k; output = [] }) (rw h) refl refl
 
-pub opens-wide : (k : Accord) (s : Sender) → isAccord k ≡ false → s ≡ shut → Opens k (record { sender = s; why = BadWidth })
+pub opens-wide : (k : Accord) (s : Sender) → is_accord k ≡ false → s ≡ shut → Opens k (record { sender = s; why = BadWidth })
 unfolding opening
 opens-wide k s h e = opens k _ (record { number = 1; sender = shut; output = [] }) (rw h) refl e
 
@@ -65,24 +65,24 @@ module _ (s : Sender) (n : ℕ) (out : List ℤ) where
   unfolding sending
   sends-closed r e t = refused Closed 9 r refl (rw e) t
 
-  pub sends-bad : (r : Sent) → sound s ≡ true → isWord s.accord.u n ≡ false → r ≡ record { sender = s; why = BadWord } → Sends s n out r out
+  pub sends-bad : (r : Sent) → sound s ≡ true → is_word s.accord.u n ≡ false → r ≡ record { sender = s; why = BadWord } → Sends s n out r out
   unfolding sending
   sends-bad r e f t = refused BadWord 4 r refl (rw (e, f)) t
 
-  pub sends-short : (r : Sent) → sound s ≡ true → isWord s.accord.u n ≡ true → length out < 4 → r ≡ record { sender = s; why = NoRoom } → Sends s n out r out
+  pub sends-short : (r : Sent) → sound s ≡ true → is_word s.accord.u n ≡ true → length out < 4 → r ≡ record { sender = s; why = NoRoom } → Sends s n out r out
   unfolding sending
   sends-short r e f h t = refused NoRoom 8 r refl (rw (e, f, lt-leb 4 (length out) h)) t
 
   -- y is what `word_symbol::make` promises
-  pub sends-done : (y : Made) (o : List ℤ) → sound s ≡ true → isWord s.accord.u n ≡ true → 4 ≤ length out →
-      (let c = symbolFor s n in
-      y ≡ record { turn = firstLabel c; state = nextState s.state c.i1 c.i2; first = first_at s.accord c; second = secondAt s.accord c }) →
+  pub sends-done : (y : Made) (o : List ℤ) → sound s ≡ true → is_word s.accord.u n ≡ true → 4 ≤ length out →
+      (let c = symbol_for s n in
+      y ≡ record { turn = first_label c; state = next_state s.state c.i1 c.i2; first = first_at s.accord c; second = second_at s.accord c }) →
       o ≡ set (set (set (set out 0 y.first.x) 1 y.first.y) 2 y.second.x) 3 y.second.y →
       Sends s n out (record { sender = record { live = true; accord = s.accord; turn = y.turn; state = y.state }; why = Done }) o
   unfolding sending four after
   sends-done y o e f h m d =
       let now : Sender = record { live = true; accord = s.accord; turn = y.turn; state = y.state } in
-      sends (record { sender = now; why = Done }) o (record { number = 0; sender = after s n; output = four s.accord (symbolFor s n) ++ drop 4 out })
+      sends (record { sender = now; why = Done }) o (record { number = 0; sender = after s n; output = four s.accord (symbol_for s n) ++ drop 4 out })
       (rw (e, f, le-leb 4 (length out) h)) refl (λ i. record { live = true; accord = s.accord; turn = (m i).turn; state = (m i).state })
       (d ∙ stored out y.first.x y.first.y y.second.x y.second.y h
       ∙ ap (λ (z : Made). z.first.x ∷ z.first.y ∷ z.second.x ∷ z.second.y ∷ drop 4 out) m)

@@ -16,15 +16,15 @@ use Rattle.sender.specs.declared.SentList.{SentList}
 use Rattle.sender.specs.declared.Why.{Why}
 use Rattle.sender.specs.declared.Why.TheVariants.{Done, BadWidth, BadWord, NoRoom, Closed}
 use Rattle.sender.specs.Send.{number_of, Given, sending}
-use Rattle.sender.specs.SendList.{sendingAll, sendingList}
+use Rattle.sender.specs.SendList.{sending_all, sending_list}
 use Rattle.sender.proofs.Exactly.{Outcome, closed, bad-word, no_room, taken, outcome}
 use Rattle.sender.proofs.Lists.{onward-by, list-by, list-end}
 use Rattle.sender.specs.Promise.{Opens, Sends, SendsList}
 
-abbrev whyOf : ℕ → Why
-whyOf n = cond (eqb n 0) Done (cond (eqb n 1) BadWidth (cond (eqb n 4) BadWord (cond (eqb n 8) NoRoom Closed)))
+abbrev why_of : ℕ → Why
+why_of n = cond (eqb n 0) Done (cond (eqb n 1) BadWidth (cond (eqb n 4) BadWord (cond (eqb n 8) NoRoom Closed)))
 
-why-back : (w : Why) → whyOf (number_of w) ≡ w
+why-back : (w : Why) → why_of (number_of w) ≡ w
 why-back Done = refl
 why-back BadWidth = refl
 why-back BadWord = refl
@@ -32,7 +32,7 @@ why-back NoRoom = refl
 why-back Closed = refl
 
 pub number-tells : (v w : Why) → number_of v ≡ number_of w → v ≡ w
-number-tells v w e = sym (why-back v) ∙ ap whyOf e ∙ why-back w
+number-tells v w e = sym (why-back v) ∙ ap why_of e ∙ why-back w
 
 same_sent : (q r : Sent) → q.sender ≡ r.sender → number_of q.why ≡ number_of r.why → q ≡ r
 same_sent q r e f = let w = number-tells q.why r.why f in λ i. record { sender = e i; why = w i }
@@ -52,29 +52,29 @@ list-settled s ns out q r o p a b =
 -- ---- there is such a result
 
 Named : ℕ → Type 0
-Named n = number_of (whyOf n) ≡ n
+Named n = number_of (why_of n) ≡ n
 
 named-word : (s : Sender) (n : ℕ) (out : List ℤ) → Named (sending s n out).number
 unfolding Named
 named-word s n out = go (sending s n out) (outcome s n out)
   where
-    go : (g : Given) → Outcome s n out g → number_of (whyOf g.number) ≡ g.number
+    go : (g : Given) → Outcome s n out g → number_of (why_of g.number) ≡ g.number
     go g (closed e) = refl
     go g (bad-word e f) = refl
     go g (no_room e f l) = refl
     go g (taken e f l) = refl
 
-named-all : (s : Sender) (ns : List ℕ) (out : List ℤ) → Named (sendingAll s ns out).number
-unfolding sendingAll Named
+named-all : (s : Sender) (ns : List ℕ) (out : List ℤ) → Named (sending_all s ns out).number
+unfolding sending_all Named
 named-all s [] out = refl
 named-all s (n ∷ ns) out =
     let g = sending s n out in
-    onward-by (λ r. Named r.number) g (sendingAll g.sender ns (drop 4 g.output)) (λ _. named-all g.sender ns (drop 4 g.output)) (λ _. named-word s n out)
+    onward-by (λ r. Named r.number) g (sending_all g.sender ns (drop 4 g.output)) (λ _. named-all g.sender ns (drop 4 g.output)) (λ _. named-word s n out)
 
 abbrev pub listed : Sender → List ℕ → List ℤ → SentList
-listed s ns out = let g = sendingList s ns out in record { sender = g.sender; sent = g.sent; why = whyOf g.number }
+listed s ns out = let g = sending_list s ns out in record { sender = g.sender; sent = g.sent; why = why_of g.number }
 
-pub list-given : (s : Sender) (ns : List ℕ) (out : List ℤ) → SendsList s ns out (listed s ns out) (sendingList s ns out).output
+pub list-given : (s : Sender) (ns : List ℕ) (out : List ℤ) → SendsList s ns out (listed s ns out) (sending_list s ns out).output
 unfolding Named
 list-given s ns out =
     record { number = list-by (λ g. Named g.number) s ns out (named-all s ns out) refl; sent = refl; sender = refl; output = refl; again = list-end s ns out }

@@ -9,7 +9,7 @@ use Rattle.sender.specs.declared.Sender.{Sender}
 use Rattle.sender.specs.declared.Sent.{Sent}
 use Rattle.sender.specs.declared.SentList.{SentList}
 use Rattle.sender.specs.Send.{number_of, opening, sending, End}
-use Rattle.sender.specs.SendList.{sendingList}
+use Rattle.sender.specs.SendList.{sending_list}
 
 pub record Opens (k : Accord) (r : Sent) : Type 0 where
   pub number : number_of r.why ≡ (opening k).number
@@ -23,8 +23,8 @@ pub record Sends (s : Sender) (n : ℕ) (out : List ℤ) (r : Sent) (o : List �
   pub again : End s → End r.sender
 
 pub record SendsList (s : Sender) (ns : List ℕ) (out : List ℤ) (r : SentList) (o : List ℤ) : Type 0 where
-  pub number : number_of r.why ≡ (sendingList s ns out).number
-  pub sent : r.sent ≡ (sendingList s ns out).sent
-  pub sender : r.sender ≡ (sendingList s ns out).sender
-  pub output : o ≡ (sendingList s ns out).output
+  pub number : number_of r.why ≡ (sending_list s ns out).number
+  pub sent : r.sent ≡ (sending_list s ns out).sent
+  pub sender : r.sender ≡ (sending_list s ns out).sender
+  pub output : o ≡ (sending_list s ns out).output
   pub again : End s → End r.sender

@@ -8,7 +8,7 @@ ghost use Rattle.std.specs.Prelude.{◌≡◌, true};
 ghost use Rattle.points.specs.Points.{coordinates};
 ghost use Rattle.sender.specs.Send.{number_of, sound, shut};
 ghost use Rattle.sender.specs.Promise.{Opens, Sends, SendsList};
-ghost use Rattle.sender.specs.Loop.{senderAt, listBy};
+ghost use Rattle.sender.specs.Loop.{sender_at, list_by};
 
 use points::{Accord, Map};
 
@@ -155,7 +155,7 @@ struct Went {
 }
 
 fn sender_at(accord: Accord, turn: u32, state: u32) -> Sender
-    ensures { result ≡ senderAt accord turn state }
+    ensures { result ≡ sender_at accord turn state }
 {
     Sender {
         live: true,
@@ -168,8 +168,8 @@ fn sender_at(accord: Accord, turn: u32, state: u32) -> Sender
 // The words one after another, each into the rest of the output, up to the first that is refused. The table is made once. An open
 // sender goes in and comes back as numbers: so they stay in the processor's registers, and both doors can share the loop.
 fn send_words(accord: Accord, turn: u32, state: u32, words: &[u32], out: &mut [i32]) -> Went
-    requires { sound (senderAt accord turn state) ≡ true }
-    ensures { SendsList (senderAt accord turn state) words.now out.old (listBy accord result) out.new }
+    requires { sound (sender_at accord turn state) ≡ true }
+    ensures { SendsList (sender_at accord turn state) words.now out.old (list_by accord result) out.new }
 {
     let table = points::table::a_points();
     let mut sender = sender_at(accord, turn, state);

@@ -5,8 +5,8 @@ ghost use Rattle.page.specs.Page.{Puts};
 ghost use Rattle.text.specs.Bytes.{bytes};
 ghost use Rattle.phrases.specs.Phrase.{decimal, whole};
 ghost use Rattle.records.specs.Kinds.{kind_of};
-ghost use Rattle.records.specs.Values.{coordinateOf};
-ghost use Rattle.show_text.specs.Shown.{is_whole, startText, openHead, openText, symbolHead, symbolText, wordText, valuesText, recordLine, lineRoom};
+ghost use Rattle.records.specs.Values.{coordinate_of};
+ghost use Rattle.show_text.specs.Shown.{is_whole, start_text, open_head, open_text, symbol_head, symbol_text, word_text, values_text, record_line, line_room};
 
 use records::{Frame, Role, Stage};
 
@@ -39,7 +39,7 @@ fn put_named(page: &mut [u8], at: usize, name: &[u8], n: u64) -> usize
 
 fn put_start(page: &mut [u8], at: usize, start: u8) -> usize
     requires { at + 27 ≤ length page.old }
-    ensures puts { Puts page.old at (startText start) result page.new }
+    ensures puts { Puts page.old at (start_text start) result page.new }
     ensures upper_bound { result ≤ at + 27 }
 {
     if start == 16 {
@@ -51,7 +51,7 @@ fn put_start(page: &mut [u8], at: usize, start: u8) -> usize
 // An open's kind in words, and its width.
 fn put_width(page: &mut [u8], at: usize, kind: u8, body: &[u8; 9]) -> usize
     requires { at + 35 ≤ length page.old }
-    ensures puts { Puts page.old at (openHead kind body.now) result page.new }
+    ensures puts { Puts page.old at (open_head kind body.now) result page.new }
     ensures upper_bound { result ≤ at + 35 }
 {
     let u = wide(body[0]);
@@ -63,7 +63,7 @@ fn put_width(page: &mut [u8], at: usize, kind: u8, body: &[u8; 9]) -> usize
 
 fn put_open(page: &mut [u8], at: usize, kind: u8, body: &[u8; 9]) -> usize
     requires { at + 120 ≤ length page.old }
-    ensures puts { Puts page.old at (openText kind body.now) result page.new }
+    ensures puts { Puts page.old at (open_text kind body.now) result page.new }
     ensures upper_bound { result ≤ at + 120 }
 {
     let window = wide(body[1]);
@@ -75,7 +75,7 @@ fn put_open(page: &mut [u8], at: usize, kind: u8, body: &[u8; 9]) -> usize
 // A space and a coordinate.
 fn put_coordinate(page: &mut [u8], at: usize, lo: u8, hi: u8) -> usize
     requires { at + 22 ≤ length page.old }
-    ensures puts { Puts page.old at (bytes " " ++ whole (coordinateOf lo hi)) result page.new }
+    ensures puts { Puts page.old at (bytes " " ++ whole (coordinate_of lo hi)) result page.new }
     ensures upper_bound { result ≤ at + 22 }
 {
     phrases::next_whole(page, at, records::coordinate(lo, hi))
@@ -84,7 +84,7 @@ fn put_coordinate(page: &mut [u8], at: usize, lo: u8, hi: u8) -> usize
 // A symbol's kind in words, and its mark where points are missing.
 fn put_head(page: &mut [u8], at: usize, kind: u8, body: &[u8; 9]) -> usize
     requires { at + 28 ≤ length page.old }
-    ensures puts { Puts page.old at (symbolHead kind body.now) result page.new }
+    ensures puts { Puts page.old at (symbol_head kind body.now) result page.new }
     ensures upper_bound { result ≤ at + 28 }
 {
     if kind == 5 {
@@ -96,7 +96,7 @@ fn put_head(page: &mut [u8], at: usize, kind: u8, body: &[u8; 9]) -> usize
 
 fn put_symbol(page: &mut [u8], at: usize, kind: u8, body: &[u8; 9]) -> usize
     requires { at + 120 ≤ length page.old }
-    ensures puts { Puts page.old at (symbolText kind body.now) result page.new }
+    ensures puts { Puts page.old at (symbol_text kind body.now) result page.new }
     ensures upper_bound { result ≤ at + 120 }
 {
     let i = records::lead(kind);
@@ -110,7 +110,7 @@ fn put_symbol(page: &mut [u8], at: usize, kind: u8, body: &[u8; 9]) -> usize
 // Eight hexadecimal digits.
 fn put_word(page: &mut [u8], at: usize, body: &[u8; 9]) -> usize
     requires { at + 120 ≤ length page.old }
-    ensures puts { Puts page.old at (wordText body.now) result page.new }
+    ensures puts { Puts page.old at (word_text body.now) result page.new }
     ensures upper_bound { result ≤ at + 120 }
 {
     let p = page::put_text(page, at, b" word ");
@@ -123,7 +123,7 @@ fn put_word(page: &mut [u8], at: usize, body: &[u8; 9]) -> usize
 // What a record says. A kind that is added later is one arm more.
 fn put_values(page: &mut [u8], at: usize, kind: u8, body: &[u8; 9]) -> usize
     requires { at + 120 ≤ length page.old }
-    ensures puts { Puts page.old at (valuesText (kind_of kind).role kind body.now) result page.new }
+    ensures puts { Puts page.old at (values_text (kind_of kind).role kind body.now) result page.new }
     ensures upper_bound { result ≤ at + 120 }
 {
     let row = records::kind_of(kind);
@@ -139,9 +139,9 @@ fn put_values(page: &mut [u8], at: usize, kind: u8, body: &[u8; 9]) -> usize
 
 // The line of the record that has just become whole.
 pub fn put_record(page: &mut [u8], at: usize, frame: Frame, n: u64) -> usize
-    requires { at + lineRoom ≤ length page.old }
-    ensures puts { Puts page.old at (recordLine n frame) result page.new }
-    ensures upper_bound { result ≤ at + lineRoom }
+    requires { at + line_room ≤ length page.old }
+    ensures puts { Puts page.old at (record_line n frame) result page.new }
+    ensures upper_bound { result ≤ at + line_room }
 {
     let p = put_named(page, at, b"record ", n);
     let p = put_named(page, p, b" offset ", frame.at);

@@ -10,7 +10,7 @@ use native.Mathlib.Omega.{arith}
 use borrow.Author.Tests.{ltb-true, ltb-false, eqb-true, eqb-false}
 use lib.Dec.{ltb, eqb}
 use lib.Pow.{pow_pos}
-use Rattle.square_search.specs.Axis.{roundedOf, clampedOf, lowest, nearestPlace, field_at, far}
+use Rattle.square_search.specs.Axis.{rounded_of, clamped_of, lowest, nearest_place, field_at, far}
 use Rattle.square_search.proofs.Places.{field_is}
 
 -- how rounding went
@@ -18,8 +18,8 @@ data Rounded (g q : ℕ) : Type 0 where
   middle : g ≡ 8448 → q ≡ 17 → Rounded g q
   other : (g ≡ 8448 → ⊥) → 512 * q ≤ g + 255 → g + 255 < 512 * q + 512 → Rounded g q
 
-rounded-is : (g : ℕ) → Rounded g (roundedOf g)
-unfolding roundedOf
+rounded-is : (g : ℕ) → Rounded g (rounded_of g)
+unfolding rounded_of
 rounded-is g = go (eqb g 8448) refl
   where
     go : (b : Bool) → eqb g 8448 ≡ b → Rounded g (cond b 17 ((g + 255) / 512))
@@ -32,8 +32,8 @@ data Clamped (q lo hi t : ℕ) : Type 0 where
   over : lo ≤ q → hi < q → t ≡ hi → Clamped q lo hi t
   inside : lo ≤ q → q ≤ hi → t ≡ q → Clamped q lo hi t
 
-clamped-is : (q lo hi : ℕ) → Clamped q lo hi (clampedOf q lo hi)
-unfolding clampedOf
+clamped-is : (q lo hi : ℕ) → Clamped q lo hi (clamped_of q lo hi)
+unfolding clamped_of
 clamped-is q lo hi = go (ltb q lo) refl (ltb hi q) refl
   where
     go : (a : Bool) → ltb q lo ≡ a → (b : Bool) → ltb hi q ≡ b → Clamped q lo hi (cond a lo (cond b hi q))
@@ -113,23 +113,23 @@ module _ (m e g : ℕ) (a : m < 5) (b : e < 2) where
   ordered : lo ≤ hi
   ordered = omega arith
 
-  clamping : Clamped (roundedOf g) lo hi (nearestPlace m e g)
-  unfolding nearestPlace
-  clamping = clamped-is (roundedOf g) lo hi
+  clamping : Clamped (rounded_of g) lo hi (nearest_place m e g)
+  unfolding nearest_place
+  clamping = clamped-is (rounded_of g) lo hi
 
-  pub place_in : (lowest m e ≤ nearestPlace m e g) × (nearestPlace m e g < lowest m e + 2 ^ m)
+  pub place_in : (lowest m e ≤ nearest_place m e g) × (nearest_place m e g < lowest m e + 2 ^ m)
   place_in = let w = within ordered clamping in (w.0, omega (arith, w.1, pow_pos m))
 
   module _ (k : ℕ) (c : lowest m e ≤ k) (d : k < lowest m e + 2 ^ m) where
     top : k ≤ hi
     top = omega (arith, pow_pos m)
 
-    pub no-nearer : far g (nearestPlace m e g) ≤ far g k
+    pub no-nearer : far g (nearest_place m e g) ≤ far g k
     no-nearer = nearest k c top (rounded-is g) clamping
 
-    pub first-of-equals : far g (nearestPlace m e g) ≡ far g k → field_at m (nearestPlace m e g) ≤ field_at m k
+    pub first-of-equals : far g (nearest_place m e g) ≡ far g k → field_at m (nearest_place m e g) ≤ field_at m k
     first-of-equals z =
-        let t = nearestPlace m e g in
+        let t = nearest_place m e g in
         rising (half_is (2 ^ m) t (field_at m t) (field_is m e t a b place_in.0 place_in.1))
         (half_is (2 ^ m) k (field_at m k) (field_is m e k a b c d))
         (tie k c top (rounded-is g) clamping z)

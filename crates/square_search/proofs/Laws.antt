@@ -11,7 +11,7 @@ use lib.IntN.{ℤ, nat_abs}
 use lib.Pow.{pow-add, pow_pos, pow_mono}
 use Rattle.trellis.specs.Pick.{near, gap_of}
 use Rattle.trellis.proofs.Least.{IsLeast, least-is}
-use Rattle.maps.specs.SquareMap.{isWidth, low_bits, allBits}
+use Rattle.maps.specs.SquareMap.{is_width, low_bits, all_bits}
 use Rattle.maps.specs.SquareBits.{gathered, spread, woven, coordinate}
 use Rattle.maps.proofs.SquareTests.{woven-x, woven-y}
 use Rattle.maps.proofs.SquareLaws.{low_below, half-below, pairs_of, side-is, square-x, square-y, x_below, y-below, woven-of}
@@ -19,8 +19,8 @@ use Rattle.distance.specs.declared.Spot.{Spot}
 use Rattle.distance.specs.Distance.{SpotInRange, distance}
 use Rattle.square_search.specs.declared.Stop.{Stop}
 use Rattle.square_search.specs.declared.Candidate.{Candidate}
-use Rattle.square_search.specs.Found.{apart, squareDistance}
-use Rattle.square_search.specs.Axis.{origin_of, lowest, nearestPlace, field_at, far, farSquared, stopOf, SmallStop, joinedOf}
+use Rattle.square_search.specs.Found.{apart, square_distance}
+use Rattle.square_search.specs.Axis.{origin_of, lowest, nearest_place, field_at, far, far_squared, stop_of, SmallStop, joined_of}
 use Rattle.square_search.proofs.Places.{place_of, place-low, place-high, place-field, place-back, place-apart, field_below, spread-le, spread-small, spread-within, spread-step}
 use Rattle.square_search.proofs.Axis.{place_in, no-nearer, first-of-equals}
 
@@ -51,19 +51,19 @@ module _ (m e : ℕ) (r : ℤ) (a : m < 5) (b : e < 2) (i : nat_abs r ≤ 8192) 
   g = origin_of r - 256 * e
 
   abbrev best : ℕ
-  best = 2 * field_at m (nearestPlace m e g) + e
+  best = 2 * field_at m (nearest_place m e g) + e
 
   best-below : best < 2 ^ (m + 1)
-  best-below = omega (arith, field_below m (nearestPlace m e g), pow-add 2 m 1)
+  best-below = omega (arith, field_below m (nearest_place m e g), pow-add 2 m 1)
 
-  best-place : place_of m best ≡ nearestPlace m e g
-  best-place = place-back m e (nearestPlace m e g) a b (place_in m e g a b).0 (place_in m e g a b).1
+  best-place : place_of m best ≡ nearest_place m e g
+  best-place = place-back m e (nearest_place m e g) a b (place_in m e g a b).0 (place_in m e g a b).1
 
-  axis-apart : (k : ℕ) → k < 2 ^ (m + 1) → k % 2 ≡ e → apart r (coordinate m k) ≡ farSquared g (place_of m k)
-  axis-apart k h z = place-apart m k r a h i ∙ ap (λ (n : ℕ). farSquared (origin_of r - 256 * n) (place_of m k)) z
+  axis-apart : (k : ℕ) → k < 2 ^ (m + 1) → k % 2 ≡ e → apart r (coordinate m k) ≡ far_squared g (place_of m k)
+  axis-apart k h z = place-apart m k r a h i ∙ ap (λ (n : ℕ). far_squared (origin_of r - 256 * n) (place_of m k)) z
 
-  best-apart : apart r (coordinate m best) ≡ farSquared g (nearestPlace m e g)
-  best-apart = axis-apart best best-below (omega arith) ∙ ap (farSquared g) best-place
+  best-apart : apart r (coordinate m best) ≡ far_squared g (nearest_place m e g)
+  best-apart = axis-apart best best-below (omega arith) ∙ ap (far_squared g) best-place
 
   module _ (k : ℕ) (h : k < 2 ^ (m + 1)) (z : k % 2 ≡ e) where
     low : lowest m e ≤ place_of m k
@@ -72,28 +72,28 @@ module _ (m e : ℕ) (r : ℤ) (a : m < 5) (b : e < 2) (i : nat_abs r ≤ 8192) 
     high : place_of m k < lowest m e + 2 ^ m
     high = subst (λ (n : ℕ). place_of m k < lowest m n + 2 ^ m) z (place-high m k a h)
 
-    farther : far g (nearestPlace m e g) ≤ far g (place_of m k)
+    farther : far g (nearest_place m e g) ≤ far g (place_of m k)
     farther = no-nearer m e g a b (place_of m k) low high
 
     axis-nearest : apart r (coordinate m best) ≤ apart r (coordinate m k)
     axis-nearest = omega (arith, best-apart, axis-apart k h z, mul-le-mul farther farther)
 
-    axis-first : apart r (coordinate m best) ≡ apart r (coordinate m k) → field_at m (nearestPlace m e g) ≤ k / 2
+    axis-first : apart r (coordinate m best) ≡ apart r (coordinate m k) → field_at m (nearest_place m e g) ≤ k / 2
     axis-first q =
-        let s = square-root (far g (nearestPlace m e g)) (far g (place_of m k)) farther (sym best-apart ∙ q ∙ axis-apart k h z) in
+        let s = square-root (far g (nearest_place m e g)) (far g (place_of m k)) farther (sym best-apart ∙ q ∙ axis-apart k h z) in
         omega (arith, first-of-equals m e g a b (place_of m k) low high s, place-field m k a h)
 
 -- ---- both axes
 
 -- the nearest place to the received coordinate r of those with the bit e
-abbrev pub stopOn : ℕ → ℤ → ℕ → Stop
-stopOn m r e = stopOf m e (origin_of r - 256 * e)
+abbrev pub stop_on : ℕ → ℤ → ℕ → Stop
+stop_on m r e = stop_of m e (origin_of r - 256 * e)
 
 -- which is small
-pub stop-small : (m e g : ℕ) → m < 5 → e < 2 → g ≤ 16768 → SmallStop (stopOf m e g)
-unfolding stopOf
+pub stop-small : (m e g : ℕ) → m < 5 → e < 2 → g ≤ 16768 → SmallStop (stop_of m e g)
+unfolding stop_of
 stop-small m e g a b h =
-    let t = nearestPlace m e g in
+    let t = nearest_place m e g in
     let s : 2 ^ m ≤ 16 = pow_mono (let z : m ≤ 4 = omega arith in z) in
     let p = place_in m e g a b in
     let f : far g t ≤ 16768 = omega (arith, p.1) in
@@ -103,7 +103,7 @@ gathered-low : (n : ℕ) → gathered n % 2 ≡ n % 2
 unfolding gathered
 gathered-low n = omega arith
 
-module _ (u : ℕ) (ok : isWidth u ≡ true) (h : Spot) (i : SpotInRange h) (l : ℕ) where
+module _ (u : ℕ) (ok : is_width u ≡ true) (h : Spot) (i : SpotInRange h) (l : ℕ) where
   abbrev x : ℤ
   x = h.x
 
@@ -131,26 +131,26 @@ module _ (u : ℕ) (ok : isWidth u ≡ true) (h : Spot) (i : SpotInRange h) (l :
 
   -- the fields of the nearest places
   abbrev px : ℕ
-  px = field_at m (nearestPlace m ex (origin_of x - 256 * ex))
+  px = field_at m (nearest_place m ex (origin_of x - 256 * ex))
 
   abbrev py : ℕ
-  py = field_at m (nearestPlace m ey (origin_of y - 256 * ey))
+  py = field_at m (nearest_place m ey (origin_of y - 256 * ey))
 
   abbrev found : ℕ
   found = 2 * spread px + spread py
 
   module _ (w : ℕ) (b : w < 2 ^ u) where
     abbrev kx : ℕ
-    kx = gathered (allBits l w / 2)
+    kx = gathered (all_bits l w / 2)
 
     abbrev ky : ℕ
-    ky = gathered (allBits l w)
+    ky = gathered (all_bits l w)
 
     kx-bit : kx % 2 ≡ ex
-    kx-bit = gathered-low (allBits l w / 2) ∙ omega (arith, low_below l)
+    kx-bit = gathered-low (all_bits l w / 2) ∙ omega (arith, low_below l)
 
     ky-bit : ky % 2 ≡ ey
-    ky-bit = gathered-low (allBits l w) ∙ omega (arith, low_below l)
+    ky-bit = gathered-low (all_bits l w) ∙ omega (arith, low_below l)
 
     kx-below : kx < 2 ^ (m + 1)
     kx-below = x_below u ok l w b
@@ -158,8 +158,8 @@ module _ (u : ℕ) (ok : isWidth u ≡ true) (h : Spot) (i : SpotInRange h) (l :
     ky-below : ky < 2 ^ (m + 1)
     ky-below = y-below u ok l w b
 
-    apart-is : squareDistance u h l w ≡ apart x (coordinate m kx) + apart y (coordinate m ky)
-    unfolding squareDistance distance
+    apart-is : square_distance u h l w ≡ apart x (coordinate m kx) + apart y (coordinate m ky)
+    unfolding square_distance distance
     apart-is = ap₂ (λ (a b : ℤ). apart x a + apart y b) (square-x u ok l w b) (square-y u ok l w b)
 
     number_is : w ≡ 2 * spread (kx / 2) + spread (ky / 2)
@@ -181,7 +181,7 @@ module _ (u : ℕ) (ok : isWidth u ≡ true) (h : Spot) (i : SpotInRange h) (l :
   by-low : 2 * py + ey < 32
   by-low = omega (arith, by-below, side-is u ok)
 
-  found-bits : allBits l found ≡ woven (2 * px + ex) (2 * py + ey)
+  found-bits : all_bits l found ≡ woven (2 * px + ex) (2 * py + ey)
   found-bits =
       omega (
         arith,
@@ -192,10 +192,10 @@ module _ (u : ℕ) (ok : isWidth u ≡ true) (h : Spot) (i : SpotInRange h) (l :
         low_below l,
       )
 
-  found-x : gathered (allBits l found / 2) ≡ 2 * px + ex
+  found-x : gathered (all_bits l found / 2) ≡ 2 * px + ex
   found-x = ap (λ (v : ℕ). gathered (v / 2)) found-bits ∙ woven-x (2 * px + ex) (2 * py + ey) bx-low by-low
 
-  found-y : gathered (allBits l found) ≡ 2 * py + ey
+  found-y : gathered (all_bits l found) ≡ 2 * py + ey
   found-y = ap gathered found-bits ∙ woven-y (2 * px + ex) (2 * py + ey) bx-low by-low
 
   found_below : found < 2 ^ u
@@ -203,11 +203,11 @@ module _ (u : ℕ) (ok : isWidth u ≡ true) (h : Spot) (i : SpotInRange h) (l :
       omega (
         arith,
         pairs_of u ok,
-        spread-within m px m-below (field_below m (nearestPlace m ex (origin_of x - 256 * ex))),
-        spread-within m py m-below (field_below m (nearestPlace m ey (origin_of y - 256 * ey))),
+        spread-within m px m-below (field_below m (nearest_place m ex (origin_of x - 256 * ex))),
+        spread-within m py m-below (field_below m (nearest_place m ey (origin_of y - 256 * ey))),
       )
 
-  found-apart : squareDistance u h l found ≡ apart x (coordinate m (2 * px + ex)) + apart y (coordinate m (2 * py + ey))
+  found-apart : square_distance u h l found ≡ apart x (coordinate m (2 * px + ex)) + apart y (coordinate m (2 * py + ey))
   found-apart = apart-is found found_below ∙ ap₂ (λ (a b : ℕ). apart x (coordinate m a) + apart y (coordinate m b)) found-x found-y
 
   module _ (w : ℕ) (b : w < 2 ^ u) where
@@ -217,11 +217,11 @@ module _ (u : ℕ) (ok : isWidth u ≡ true) (h : Spot) (i : SpotInRange h) (l :
     near-y : apart y (coordinate m (2 * py + ey)) ≤ apart y (coordinate m (ky w b))
     near-y = axis-nearest m ey y m-below ey-below i.y-in (ky w b) (ky-below w b) (ky-bit w b)
 
-    found-nearest : squareDistance u h l found ≤ squareDistance u h l w
+    found-nearest : square_distance u h l found ≤ square_distance u h l w
     found-nearest = omega (arith, found-apart, apart-is w b, near-x, near-y)
 
     -- as near on both axes, so with no smaller field on either
-    found_first : squareDistance u h l found ≡ squareDistance u h l w → found ≤ w
+    found_first : square_distance u h l found ≡ square_distance u h l w → found ≤ w
     found_first e =
         let ax : apart x (coordinate m (2 * px + ex)) ≡ apart x (coordinate m (kx w b)) = omega (arith, found-apart, apart-is w b, near-x, near-y) in
         let ay : apart y (coordinate m (2 * py + ey)) ≡ apart y (coordinate m (ky w b)) = omega (arith, found-apart, apart-is w b, near-x, near-y) in
@@ -234,7 +234,7 @@ module _ (u : ℕ) (ok : isWidth u ≡ true) (h : Spot) (i : SpotInRange h) (l :
           spread-le py (ky w b / 2) fy (omega (arith, ky-below w b, side-is u ok)),
         )
 
-  found-least : IsLeast (squareDistance u h l) (2 ^ u - 1) found
+  found-least : IsLeast (square_distance u h l) (2 ^ u - 1) found
   found-least =
       record {
         low = omega (arith, found_below);
@@ -242,17 +242,17 @@ module _ (u : ℕ) (ok : isWidth u ≡ true) (h : Spot) (i : SpotInRange h) (l :
         is-first = λ w b e. found_first w (omega (arith, pow_pos u)) e;
       }
 
-  nearest-is : near u (squareDistance u) h l ≡ found
+  nearest-is : near u (square_distance u) h l ≡ found
   unfolding near
-  nearest-is = one-least (squareDistance u h l) (2 ^ u - 1) _ found (least-is (squareDistance u h l) (2 ^ u - 1)) found-least
+  nearest-is = one-least (square_distance u h l) (2 ^ u - 1) _ found (least-is (square_distance u h l) (2 ^ u - 1)) found-least
 
-  distance_is : gap_of u (squareDistance u) h l ≡ (stopOn m x ex).d + (stopOn m y ey).d
-  unfolding gap_of stopOf
+  distance_is : gap_of u (square_distance u) h l ≡ (stop_on m x ex).d + (stop_on m y ey).d
+  unfolding gap_of stop_of
   distance_is =
-      ap (squareDistance u h l) nearest-is
+      ap (square_distance u h l) nearest-is
       ∙ found-apart
       ∙ ap₂ (λ (a b : ℕ). a + b) (best-apart m ex x m-below ex-below i.x-in) (best-apart m ey y m-below ey-below i.y-in)
 
-  pub candidate-is : joinedOf (stopOn m x ex) (stopOn m y ey) ≡ record { w = near u (squareDistance u) h l; d = gap_of u (squareDistance u) h l }
-  unfolding stopOf
+  pub candidate-is : joined_of (stop_on m x ex) (stop_on m y ey) ≡ record { w = near u (square_distance u) h l; d = gap_of u (square_distance u) h l }
+  unfolding stop_of
   candidate-is = ap₂ {C = Candidate} (λ (w d : ℕ). record { w = w; d = d }) (sym nearest-is) (sym distance_is)

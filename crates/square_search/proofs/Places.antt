@@ -16,9 +16,9 @@ use lib.IntN.{ℤ, pos, nat_abs, ◌-ℤ◌}
 use lib.Pow.{pow_pos}
 use Rattle.wei.proofs.Finite.{upto, at, equal1}
 use Rattle.maps.specs.SquareBits.{spread, coordinate}
-use Rattle.maps.proofs.SquareTests.{equal, less, sameZ, equalZ}
+use Rattle.maps.proofs.SquareTests.{equal, less, same_z, equal_z}
 use Rattle.square_search.specs.Found.{apart}
-use Rattle.square_search.specs.Axis.{origin_of, betweenOf, lowest, field_at, far, farSquared}
+use Rattle.square_search.specs.Axis.{origin_of, between_of, lowest, field_at, far, far_squared}
 use Rattle.square_search.proofs.Signed.{moved, origin-in}
 
 abbrev side : ℕ → ℕ
@@ -41,14 +41,14 @@ unfolding place_of
 place-field = equal side (λ m k. field_at m (place_of m k)) (λ m k. k / 2) tt
 
 place_is : (m k : ℕ) → m < 5 → k < 2 ^ (m + 1) → coordinate m k ≡ pos (4 * place_of m k + 2 * (k % 2)) -ℤ pos 67
-unfolding place_of coordinate sameZ
-place_is = equalZ side coordinate (λ m k. pos (4 * place_of m k + 2 * (k % 2)) -ℤ pos 67) tt
+unfolding place_of coordinate same_z
+place_is = equal_z side coordinate (λ m k. pos (4 * place_of m k + 2 * (k % 2)) -ℤ pos 67) tt
 
-pub place-apart : (m k : ℕ) (r : ℤ) → m < 5 → k < 2 ^ (m + 1) → nat_abs r ≤ 8192 → apart r (coordinate m k) ≡ farSquared (origin_of r - 256 * (k % 2)) (place_of m k)
+pub place-apart : (m k : ℕ) (r : ℤ) → m < 5 → k < 2 ^ (m + 1) → nat_abs r ≤ 8192 → apart r (coordinate m k) ≡ far_squared (origin_of r - 256 * (k % 2)) (place_of m k)
 place-apart m k r g h i =
     let t = place_of m k in
     let o = origin-in r i in
-    let e : betweenOf (origin_of r) (128 * (4 * t + 2 * (k % 2))) ≡ far (origin_of r - 256 * (k % 2)) t = omega (arith, o.0) in
+    let e : between_of (origin_of r) (128 * (4 * t + 2 * (k % 2))) ≡ far (origin_of r - 256 * (k % 2)) t = omega (arith, o.0) in
     ap (apart r) (place_is m k g h) ∙ ap (λ (n : ℕ). n * n) (moved r (4 * t + 2 * (k % 2)) i ∙ e)
 
 -- ---- over all places of a label

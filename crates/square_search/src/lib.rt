@@ -7,11 +7,11 @@
 //
 // The contract of `search` is an equation of the result with one definition, so any two results that it allows are equal.
 ghost use Rattle.std.specs.Prelude.{◌≡◌, true, ◌≤◌, ◌<◌, nat_abs};
-ghost use Rattle.maps.specs.SquareMap.{isWidth};
+ghost use Rattle.maps.specs.SquareMap.{is_width};
 ghost use Rattle.distance.specs.Distance.{SpotInRange};
-ghost use Rattle.distance.specs.Found.{foundBy};
-ghost use Rattle.square_search.specs.Found.{squareDistance};
-ghost use Rattle.square_search.specs.Axis.{origin_of, betweenOf, roundedOf, clampedOf, stopOf, stopsOf, SmallStop, joinedOf};
+ghost use Rattle.distance.specs.Found.{found_by};
+ghost use Rattle.square_search.specs.Found.{square_distance};
+ghost use Rattle.square_search.specs.Axis.{origin_of, between_of, rounded_of, clamped_of, stop_of, stops_of, SmallStop, joined_of};
 
 use distance::{Found, Spot};
 
@@ -45,7 +45,7 @@ fn origin(r: i32) -> u32
 }
 
 fn between(a: u32, b: u32) -> u32
-    ensures { result ≡ betweenOf a b }
+    ensures { result ≡ between_of a b }
 {
     if a < b { b - a } else { a - b }
 }
@@ -53,13 +53,13 @@ fn between(a: u32, b: u32) -> u32
 // The nearest place, where place t stands at 512·t: halves go down, but between 16 and 17 up.
 fn rounded(g: u32) -> u32
     requires { g ≤ 16768 }
-    ensures { result ≡ roundedOf g }
+    ensures { result ≡ rounded_of g }
 {
     if g == 8448 { 17 } else { (g + 255) >> 9 }
 }
 
 fn clamped(q: u32, lo: u32, hi: u32) -> u32
-    ensures { result ≡ clampedOf q lo hi }
+    ensures { result ≡ clamped_of q lo hi }
 {
     if q < lo {
         lo
@@ -73,7 +73,7 @@ fn clamped(q: u32, lo: u32, hi: u32) -> u32
 // The nearest place of a label with the bit e on this axis, of 2^m places, to what lies g from its place 0.
 fn nearest_stop(m: u32, e: u32, g: u32) -> Stop
     requires { (m < 5) × (e < 2) × (g ≤ 16768) }
-    ensures { result ≡ stopOf m e g }
+    ensures { result ≡ stop_of m e g }
 {
     let side = 1u32 << m;
     let lo = 17 - ((side + e) >> 1);
@@ -86,7 +86,7 @@ fn nearest_stop(m: u32, e: u32, g: u32) -> Stop
 // The nearest places to the received coordinate r.
 fn both_stops(m: u32, r: i32) -> Stops
     requires { (m < 5) × (nat_abs r ≤ 8192) }
-    ensures { result ≡ stopsOf m r }
+    ensures { result ≡ stops_of m r }
 {
     let g = origin(r);
     let zero = nearest_stop(m, 0, g);
@@ -100,7 +100,7 @@ fn both_stops(m: u32, r: i32) -> Stops
 // The point with these two places.
 fn joined(x: Stop, y: Stop) -> Candidate
     requires { SmallStop x × SmallStop y }
-    ensures { result ≡ joinedOf x y }
+    ensures { result ≡ joined_of x y }
 {
     Candidate {
         w: ((x.s << 1) + y.s) as u8,
@@ -110,8 +110,8 @@ fn joined(x: Stop, y: Stop) -> Candidate
 
 // The nearest number of each label, and its squared distance: A has the bits 0 and 0 on the axes, C 0 and 1, B 1 and 1, D 1 and 0.
 pub fn search(u: u32, h: Spot) -> Found
-    requires { (isWidth u ≡ true) × SpotInRange h }
-    ensures { result ≡ foundBy u (squareDistance u) h }
+    requires { (is_width u ≡ true) × SpotInRange h }
+    ensures { result ≡ found_by u (square_distance u) h }
 {
     let m = u >> 1;
     let xs = both_stops(m, h.x);

@@ -10,16 +10,16 @@ use borrow.Author.Tests.{eqb-true, eq-eqb, ne_eqb}
 use lib.Dec.{eqb}
 use lib.ListN.{length, take, drop, length-append, length-drop}
 use lib.Seq.{take_at, take-add, take-take, length-take-le}
-use Rattle.text.specs.Token.{lengthBefore, Cuts}
+use Rattle.text.specs.Token.{length_before, Cuts}
 use Rattle.text.proofs.Digits.{to_end}
 use Rattle.desk.specs.declared.Desk.{Desk}
 use Rattle.line_reply.specs.declared.Lab.{Lab}
 use Rattle.line_buffer.specs.declared.Part.{Part}
-use Rattle.desk.specs.Desk.{Result, closedDesk}
+use Rattle.desk.specs.Desk.{Result, closed_desk}
 use Rattle.line_buffer.specs.Part.{Gathered, no_part}
 use Rattle.line_reply.specs.Line.{answering, Replies}
 use Rattle.stream.specs.declared.Progress.{Progress}
-use Rattle.stream.specs.Stream.{Course, grown, ended, streaming, lastLine, Holds, Stands, heard, passed, Handed, bytes_of, text_of, Follow}
+use Rattle.stream.specs.Stream.{Course, grown, ended, streaming, last_line, Holds, Stands, heard, passed, Handed, bytes_of, text_of, Follow}
 use Rattle.line_buffer.proofs.Gathering.{none-gathered}
 
 -- ---- bytes
@@ -30,30 +30,30 @@ cut-anywhere most c [] ys = refl
 cut-anywhere most c (x ∷ xs) ys = cut-anywhere most (cond (eqb x 10) (ended most c) (grown c (x ∷ []))) xs ys
 
 -- bytes before the first newline
-run : (most : ℕ) (c : Course) (ds : List ℕ) → streaming most c (take (lengthBefore 10 ds) ds) ≡ grown c (take (lengthBefore 10 ds) ds)
+run : (most : ℕ) (c : Course) (ds : List ℕ) → streaming most c (take (length_before 10 ds) ds) ≡ grown c (take (length_before 10 ds) ds)
 run most c [] = λ i. record { desk = c.desk; line = sym (append-nil c.line) i; text = c.text }
 run most c (d ∷ ds) = by (eqb d 10) refl (λ c'. run most c' ds) where
-  by : (b : Bool) → eqb d 10 ≡ b → ((c' : Course) → streaming most c' (take (lengthBefore 10 ds) ds) ≡ grown c' (take (lengthBefore 10 ds) ds))
-      → streaming most c (take (cond b 0 (suc (lengthBefore 10 ds))) (d ∷ ds)) ≡ grown c (take (cond b 0 (suc (lengthBefore 10 ds))) (d ∷ ds))
+  by : (b : Bool) → eqb d 10 ≡ b → ((c' : Course) → streaming most c' (take (length_before 10 ds) ds) ≡ grown c' (take (length_before 10 ds) ds))
+      → streaming most c (take (cond b 0 (suc (length_before 10 ds))) (d ∷ ds)) ≡ grown c (take (cond b 0 (suc (length_before 10 ds))) (d ∷ ds))
   by true e h = λ i. record { desk = c.desk; line = sym (append-nil c.line) i; text = c.text }
   by false e h =
-      ap (λ (x : Bool). streaming most (cond x (ended most c) (grown c (d ∷ []))) (take (lengthBefore 10 ds) ds)) e
+      ap (λ (x : Bool). streaming most (cond x (ended most c) (grown c (d ∷ []))) (take (length_before 10 ds) ds)) e
       ∙ h (grown c (d ∷ []))
-      ∙ (λ i. record { desk = c.desk; line = append_assoc c.line (d ∷ []) (take (lengthBefore 10 ds) ds) i; text = c.text })
+      ∙ (λ i. record { desk = c.desk; line = append_assoc c.line (d ∷ []) (take (length_before 10 ds) ds) i; text = c.text })
 
 -- the byte after them
-newline : (ds : List ℕ) → lengthBefore 10 ds < length ds → take (suc (lengthBefore 10 ds)) ds ≡ take (lengthBefore 10 ds) ds ++ 10 ∷ []
+newline : (ds : List ℕ) → length_before 10 ds < length ds → take (suc (length_before 10 ds)) ds ≡ take (length_before 10 ds) ds ++ 10 ∷ []
 newline [] h = absurd (omega arith)
 newline (d ∷ ds) h = by (eqb d 10) refl h (λ k. newline ds k) where
-  by : (b : Bool) → eqb d 10 ≡ b → cond b 0 (suc (lengthBefore 10 ds)) < length (d ∷ ds) →
-      (lengthBefore 10 ds < length ds → take (suc (lengthBefore 10 ds)) ds ≡ take (lengthBefore 10 ds) ds ++ 10 ∷ [])
-      → take (suc (cond b 0 (suc (lengthBefore 10 ds)))) (d ∷ ds) ≡ take (cond b 0 (suc (lengthBefore 10 ds))) (d ∷ ds) ++ 10 ∷ []
+  by : (b : Bool) → eqb d 10 ≡ b → cond b 0 (suc (length_before 10 ds)) < length (d ∷ ds) →
+      (length_before 10 ds < length ds → take (suc (length_before 10 ds)) ds ≡ take (length_before 10 ds) ds ++ 10 ∷ [])
+      → take (suc (cond b 0 (suc (length_before 10 ds)))) (d ∷ ds) ≡ take (cond b 0 (suc (length_before 10 ds))) (d ∷ ds) ++ 10 ∷ []
   by true e k f = ap (λ (x : ℕ). x ∷ []) (eqb-true d 10 e)
   by false e k f = ap (λ (l : List ℕ). d ∷ l) (f (omega arith))
 
 -- n is the count of bytes from `from` on that stand before a newline
 module _ (most : ℕ) (c : Course) (chunk : List ℕ) (from n : ℕ) (cut : Cuts 10 (take (length chunk - from) (drop from chunk)) n) where
-  is : n ≡ lengthBefore 10 (drop from chunk)
+  is : n ≡ length_before 10 (drop from chunk)
   is = cut.is ∙ rw (to_end from chunk)
 
   grows : grown (streaming most c (take from chunk)) (take (from + n - from) (drop from chunk)) ≡ streaming most (streaming most c (take from chunk)) (take n (drop from chunk))
@@ -72,9 +72,9 @@ module _ (most : ℕ) (c : Course) (chunk : List ℕ) (from n : ℕ) (cut : Cuts
       ended room (grown (streaming most c (take from chunk)) (take (from + n - from) (drop from chunk))) ≡ streaming most c (take (from + n + 1) chunk)
   to-the-newline same h =
       let ds : List ℕ = drop from chunk in
-      let some : lengthBefore 10 ds < length ds = omega (arith, is, length-drop from chunk) in
-      let next : from + n + 1 ≡ from + suc (lengthBefore 10 ds) = omega (arith, is) in
-      let bytes : take (from + n + 1) chunk ≡ take from chunk ++ (take n ds ++ 10 ∷ []) = rw (next, take-add from (suc (lengthBefore 10 ds)) chunk, newline ds some, ← is) in
+      let some : length_before 10 ds < length ds = omega (arith, is, length-drop from chunk) in
+      let next : from + n + 1 ≡ from + suc (length_before 10 ds) = omega (arith, is) in
+      let bytes : take (from + n + 1) chunk ≡ take from chunk ++ (take n ds ++ 10 ∷ []) = rw (next, take-add from (suc (length_before 10 ds)) chunk, newline ds some, ← is) in
       ap (λ (k : ℕ). ended k (grown (streaming most c (take from chunk)) (take (from + n - from) ds))) same
       ∙ ap (ended most) grows
       ∙ sym (cut-anywhere most (streaming most c (take from chunk)) (take n ds) (10 ∷ []))
@@ -140,11 +140,11 @@ pub lent-part : (last : Progress) (chunk : List ℕ) → last.from ≤ last.to �
 lent-part last chunk h k = length-take-le (last.to - last.from) (drop last.from chunk) (omega (arith, length-drop last.from chunk))
 
 module _ (most : ℕ) (c : Course) (last : Progress) (chunk : List ℕ) where
-  pub the_end : (next : ℕ) → last.ends ≡ true → lastLine most c ≡ passed most c last chunk next
-  the_end next e = sym (ap (λ (b : Bool). cond b (lastLine most c) (streaming most c (heard last chunk next))) e)
+  pub the_end : (next : ℕ) → last.ends ≡ true → last_line most c ≡ passed most c last chunk next
+  the_end next e = sym (ap (λ (b : Bool). cond b (last_line most c) (streaming most c (heard last chunk next))) e)
 
   pub no_end : (next : ℕ) → last.ends ≡ false → passed most c last chunk next ≡ streaming most c (heard last chunk next)
-  no_end next e = ap (λ (b : Bool). cond b (lastLine most c) (streaming most c (heard last chunk next))) e
+  no_end next e = ap (λ (b : Bool). cond b (last_line most c) (streaming most c (heard last chunk next))) e
 
   pub some_bytes : {n : ℕ} → n ≤ last.to - last.from → last.ends ≡ false
       → streaming most c (take n (take (last.to - last.from) (drop last.from chunk))) ≡ passed most c last chunk (last.from + n)
@@ -154,7 +154,7 @@ module _ (most : ℕ) (c : Course) (last : Progress) (chunk : List ℕ) where
 
 -- where the program begins
 abbrev begin : Course
-begin = record { desk = closedDesk; line = []; text = [] }
+begin = record { desk = closed_desk; line = []; text = [] }
 
 -- passes that have brought the program to where it is; each handed on what its page held
 pub record Served (most : ℕ) (line : List ℕ) (lab : Lab) : Type 0 where
@@ -162,7 +162,7 @@ pub record Served (most : ℕ) (line : List ℕ) (lab : Lab) : Type 0 where
   pub follow : Follow most begin passes
   pub holds : Holds (streaming most begin (bytes_of passes)) line lab
 
-pub none-served : (most : ℕ) {line : List ℕ} {lab : Lab} → lab.desk ≡ closedDesk → lab.part ≡ no_part → Served most line lab
+pub none-served : (most : ℕ) {line : List ℕ} {lab : Lab} → lab.desk ≡ closed_desk → lab.part ≡ no_part → Served most line lab
 none-served most {line} d e =
     record { passes = []; follow = tt; holds = record { desk = d; part = subst (λ (p : Part). Gathered line p []) (sym e) (none-gathered line) } }
 
@@ -191,13 +191,13 @@ some-heard (suc n) h k = omega arith
 
 -- ---- the input's end
 
-pub no_last : (most : ℕ) (c : Course) {line : List ℕ} {part : Part} → Gathered line part c.line → part.held ≡ 0 → part.long ≡ false → c ≡ lastLine most c
+pub no_last : (most : ℕ) (c : Course) {line : List ℕ} {part : Part} → Gathered line part c.line → part.held ≡ 0 → part.long ≡ false → c ≡ last_line most c
 no_last most c {line} g e f =
     let none : length c.line ≡ 0 = ap length (sym (g.kept f)) ∙ ap (λ (n : ℕ). length (take n line)) e in
     sym (ap (λ (b : Bool). cond b c (ended most c)) (eq-eqb (length c.line) 0 none))
 
 pub some-last : (most : ℕ) (c : Course) {line : List ℕ} {part : Part} → Gathered line part c.line → part.held ≤ length line →
-    (part.held ≡ 0 → part.long ≡ false → ⊥) → ended most c ≡ lastLine most c
+    (part.held ≡ 0 → part.long ≡ false → ⊥) → ended most c ≡ last_line most c
 some-last most c {line} {part} g h some = sym (ap (λ (b : Bool). cond b c (ended most c)) (ne_eqb (length c.line) 0 (by part.long refl))) where
   by : (b : Bool) → part.long ≡ b → length c.line ≡ 0 → ⊥
   by true e z = omega (arith, g.too_long e)

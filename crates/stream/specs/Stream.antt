@@ -4,7 +4,7 @@
 --   grown c bs         some bytes more, none of them a newline
 --   ended most c       the line has come to its end
 --   streaming most c bs   after the bytes bs; a newline, 10, ends a line
---   lastLine most c    after the input's end: "A last line without a newline counts as a line"
+--   last_line most c    after the input's end: "A last line without a newline counts as a line"
 --   Holds c line lab   the program's state is that of c: its desk, and the line in its buffer
 --   Stands c before line lab page   besides, the answers so far are those before, and then what the page holds: none is lost, and none
 --                                   is there twice
@@ -41,8 +41,8 @@ abbrev pub streaming : ℕ → Course → List ℕ → Course
 streaming most c [] = c
 streaming most c (b ∷ bs) = streaming most (cond (eqb b 10) (ended most c) (grown c (b ∷ []))) bs
 
-abbrev pub lastLine : ℕ → Course → Course
-lastLine most c = cond (eqb (length c.line) 0) c (ended most c)
+abbrev pub last_line : ℕ → Course → Course
+last_line most c = cond (eqb (length c.line) 0) c (ended most c)
 
 pub record Holds (c : Course) (line : List ℕ) (lab : Lab) : Type 0 where
   pub desk : lab.desk ≡ c.desk
@@ -56,7 +56,7 @@ abbrev pub heard : Progress → List ℕ → ℕ → List ℕ
 heard now chunk next = take (next - now.from) (drop now.from chunk)
 
 abbrev pub passed : ℕ → Course → Progress → List ℕ → ℕ → Course
-passed most c now chunk next = cond now.ends (lastLine most c) (streaming most c (heard now chunk next))
+passed most c now chunk next = cond now.ends (last_line most c) (streaming most c (heard now chunk next))
 
 abbrev pub Moves : (Course → Course) → List ℕ → Lab → List ℕ → List ℕ → Lab → List ℕ → Type 0
 Moves go line lab page line' lab' page' = (c : Course) (b : List ℕ) → Stands c b line lab page → Stands (go c) b line' lab' page'

@@ -2,7 +2,7 @@
 // so `line_buffer` gathers it. Answers are gathered in a page. A pass hears what was read, or as much of it as fills the page well,
 // and hands the page to `write`: a person at a terminal sees each answer at once, and a file of many lines costs few writes.
 ghost use Rattle.std.specs.Prelude.{◌≡◌, false, ◌≤◌, ◌<◌, length, take};
-ghost use Rattle.stream.specs.Stream.{streaming, lastLine, Moves, Passes, Reads, took as Stream·took};
+ghost use Rattle.stream.specs.Stream.{streaming, last_line, Moves, Passes, Reads, took as Stream·took};
 
 use libc::{STDIN_FILENO, STDOUT_FILENO};
 use line_reply::Lab;
@@ -79,7 +79,7 @@ fn hear_end(lab: Lab, line: &[u8], page: &mut [u8]) -> Lab
     requires page_len { length page.old ≡ 131072 }
     requires at_bound { (lab.at ≤ 32768) × (lab.part.held ≤ length line.now) }
     ensures at_bound_2 { (result.at ≤ 131072) × (result.part.held ≤ length line.now) }
-    ensures moves { Moves (lastLine (length line.now)) line.now lab page.old line.now result page.new }
+    ensures moves { Moves (last_line (length line.now)) line.now lab page.old line.now result page.new }
 {
     let part = lab.part;
     if part.held == 0 && !part.long {

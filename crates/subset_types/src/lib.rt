@@ -4,7 +4,7 @@
 // it has two types, with the turns q and q + 2, and both are weighed. Each contract is an equation of the result with one
 // definition of specs/Types, so any two results that it allows are equal.
 ghost use Rattle.std.specs.Prelude.{◌≡◌, ◌<◌};
-ghost use Rattle.subset_types.specs.Types.{Summable, sum_of, nearerOf, choicesOf};
+ghost use Rattle.subset_types.specs.Types.{Summable, sum_of, nearer_of, choices_of};
 
 // What the nearer type counts for, and its I3'.
 #[derive(Drop)]
@@ -34,7 +34,7 @@ fn type_sum(d1: [u32; 4], d2: [u32; 4], y0: u32, i1: u32, i2: u32, i3: u32) -> u
 // The nearer type of the subset Y0, I1, I2'; of equals that with I3' = 0.
 fn nearer_type(d1: [u32; 4], d2: [u32; 4], y0: u32, i1: u32, i2: u32) -> Nearer
     requires { Summable d1 d2 × ((y0 < 2) × (i1 < 2) × (i2 < 2)) }
-    ensures { result ≡ nearerOf (sum_of d1 d2 y0 i1 i2) }
+    ensures { result ≡ nearer_of (sum_of d1 d2 y0 i1 i2) }
 {
     let one = type_sum(d1, d2, y0, i1, i2, 0);
     let other = type_sum(d1, d2, y0, i1, i2, 1);
@@ -47,7 +47,7 @@ fn nearer_type(d1: [u32; 4], d2: [u32; 4], y0: u32, i1: u32, i2: u32) -> Nearer
 
 pub fn nearer_types(d1: [u32; 4], d2: [u32; 4]) -> Choices
     requires { Summable d1 d2 }
-    ensures { result ≡ choicesOf (λ y0 i1 i2. nearerOf (sum_of d1 d2 y0 i1 i2)) }
+    ensures { result ≡ choices_of (λ y0 i1 i2. nearer_of (sum_of d1 d2 y0 i1 i2)) }
 {
     let s0 = nearer_type(d1, d2, 0, 0, 0);
     let s1 = nearer_type(d1, d2, 0, 0, 1);

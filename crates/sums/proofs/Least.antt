@@ -8,13 +8,13 @@ use mathlib.Core.List.{List}
 use lib.Dec.{ltb}
 use lib.ListN.{get_or}
 use borrow.Author.Tests.{lt-ltb, le-ltb}
-use Rattle.trellis.specs.Pick.{keepN, least}
+use Rattle.trellis.specs.Pick.{keep_n, least}
 use Rattle.trellis.proofs.Least.{least-is}
 use Rattle.sums.specs.Sums.{end_of, lowest}
 
 -- one number more, at which f is less or is not
 module _ (f : ℕ → ℕ) (s b : ℕ) (some : 1 ≤ s) (so_far : b ≡ least f (s - 1)) where
-  next-least : least f (s + 1 - 1) ≡ keepN (ltb (f s) (f b)) b s
+  next-least : least f (s + 1 - 1) ≡ keep_n (ltb (f s) (f b)) b s
   unfolding least
   next-least =
       let up : s + 1 - 1 ≡ suc (s - 1) = omega arith in

@@ -12,7 +12,7 @@ use lib.Dec.{leb, ltb}
 use lib.ListN.{length, get_or, drop, drop_of_length-le}
 use lib.Seq.{drop-cons}
 use borrow.Author.Tests.{lt-ltb, le-ltb, ltb-true, ltb-false, leb-true, leb-false}
-use Rattle.lists.specs.UpTo.{allUpTo}
+use Rattle.lists.specs.UpTo.{all_up_to}
 
 abbrev pub high : ℕ
 high = 268435456
@@ -30,16 +30,16 @@ or-below a b = go (ltb a high) (leb b (high - 1)) refl refl
     go false y p q = le-ltb (bit_or a b) high (omega (arith, ltb-false a high p, or_add_and a b, and_le_r a b))
 
 module _ (l : List ℕ) (i d : ℕ) where
-  pub together : i < length l → (ltb d high && allUpTo (high - 1) (drop i l)) ≡ (ltb (bit_or d (get_or l i 0)) high && allUpTo (high - 1) (drop (i + 1) l))
-  unfolding allUpTo
+  pub together : i < length l → (ltb d high && all_up_to (high - 1) (drop i l)) ≡ (ltb (bit_or d (get_or l i 0)) high && all_up_to (high - 1) (drop (i + 1) l))
+  unfolding all_up_to
   together h =
-      ap (λ (m : List ℕ). ltb d high && allUpTo (high - 1) m) (drop-cons l i 0 h)
-      ∙ sym (and-swap (ltb d high) (leb (get_or l i 0) (high - 1)) (allUpTo (high - 1) (drop (suc i) l)))
-      ∙ ap₂ (λ (x : Bool) (n : ℕ). x && allUpTo (high - 1) (drop n l)) (sym (or-below d (get_or l i 0))) (sym (add-one i))
+      ap (λ (m : List ℕ). ltb d high && all_up_to (high - 1) m) (drop-cons l i 0 h)
+      ∙ sym (and-swap (ltb d high) (leb (get_or l i 0) (high - 1)) (all_up_to (high - 1) (drop (suc i) l)))
+      ∙ ap₂ (λ (x : Bool) (n : ℕ). x && all_up_to (high - 1) (drop n l)) (sym (or-below d (get_or l i 0))) (sym (add-one i))
 
-  pub together-ends : length l ≤ i → (ltb d high && allUpTo (high - 1) (drop i l)) ≡ ltb d high
-  unfolding allUpTo
-  together-ends h = ap (λ (m : List ℕ). ltb d high && allUpTo (high - 1) m) (drop_of_length-le l {i = i} h) ∙ and-true (ltb d high)
+  pub together-ends : length l ≤ i → (ltb d high && all_up_to (high - 1) (drop i l)) ≡ ltb d high
+  unfolding all_up_to
+  together-ends h = ap (λ (m : List ℕ). ltb d high && all_up_to (high - 1) m) (drop_of_length-le l {i = i} h) ∙ and-true (ltb d high)
     where
       and-true : (x : Bool) → (x && true) ≡ x
       and-true true = refl

@@ -2,7 +2,7 @@
 // all are small enough. One symbol asks for the least and whether all states are reached, finish asks for the end state, and a receiver
 // that is handed in is asked for its sums. Each answer equals a definition of specs/Sums.
 ghost use Rattle.std.specs.Prelude.{◌≡◌, ◌<◌};
-ghost use Rattle.lists.specs.UpTo.{allUpTo};
+ghost use Rattle.lists.specs.UpTo.{all_up_to};
 ghost use Rattle.sums.specs.Sums.{end_of, lowest};
 
 // What a state keeps that nothing reaches: 2^21. The sums of reached states, and these with one more cost, stay below.
@@ -40,7 +40,7 @@ pub fn lowest(numbers: &[u32; 16]) -> u32
 
 // Whether no sum is above `top`.
 pub fn all_up_to(sums: &[u32; 16], top: u32) -> bool
-    ensures { result ≡ allUpTo top sums.now }
+    ensures { result ≡ all_up_to top sums.now }
 {
     // as a slice the array shows its length
     let all: &[u32] = sums;
@@ -57,7 +57,7 @@ pub fn all_up_to(sums: &[u32; 16], top: u32) -> bool
 // Whether all states are reached, by the keys of select: 128 times a sum and a step. The key of a state that nothing reaches has bit 28 or a
 // higher one set, so one comparison does for all sixteen.
 pub fn all_reached(keys: &[u32; 16]) -> bool
-    ensures { result ≡ allUpTo 268435455 keys.now }
+    ensures { result ≡ all_up_to 268435455 keys.now }
 {
     // as a slice the array shows its length
     let all: &[u32] = keys;

@@ -9,7 +9,7 @@ use mathlib.Core.List.{List, [], ◌∷◌}
 use native.Mathlib.Omega.{arith}
 use native.Mathlib.Numerals.{add-one}
 use lib.ListN.{length, take, drop}
-use Rattle.text.specs.Token.{tokens, lengthBefore, Cuts}
+use Rattle.text.specs.Token.{tokens, length_before, Cuts}
 use Rattle.text.proofs.Digits.{to_end}
 use Rattle.text.proofs.Tokens.{last-token, more-tokens, first-token}
 
@@ -22,7 +22,7 @@ module _ {s : List ℕ} {n : ℕ} (cut : Cuts 32 s n) where
 
   pub cut_off : (n ≡ length s → ⊥) → tokens s ≡ take n s ∷ tokens (after n s)
   cut_off h =
-      let less : lengthBefore 32 s < length s = omega (arith, cut.is, cut.within) in
+      let less : length_before 32 s < length s = omega (arith, cut.is, cut.within) in
       rw (more-tokens s less, ← cut.is, to_end (n + 1) s, ← add-one n)
 
   pub no_more : n ≡ length s → drop 1 (tokens s) ≡ []

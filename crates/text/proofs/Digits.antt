@@ -11,7 +11,7 @@ use lib.Dec.{leb}
 use lib.IntN.{pos, neg_ℤ}
 use lib.ListN.{length, get_or, take, drop, length-drop, drop_of_length-le}
 use lib.Seq.{drop-cons, take_all}
-use Rattle.text.specs.Number.{between, digitOf, onlyDigits, value, number_of, hexOf, whole_of, signed}
+use Rattle.text.specs.Number.{between, digit_of, only_digits, value, number_of, hex_of, whole_of, signed}
 use Rattle.text.specs.declared.number.Number.TheVariants as number
 use Rattle.text.specs.declared.number.Whole.TheVariants as whole
 
@@ -28,20 +28,20 @@ outside low high first other {b} h = by (leb low b) (leb b high) refl refl where
 above : (low high first other : ℕ) {b : ℕ} → high < b → between low high first b other ≡ other
 above low high first other h = outside low high first other (λ p q. omega arith)
 
-pub figure : (b : ℕ) → 48 ≤ b → b < 58 → b - 48 ≡ digitOf b
-unfolding digitOf
+pub figure : (b : ℕ) → 48 ≤ b → b < 58 → b - 48 ≡ digit_of b
+unfolding digit_of
 figure b h k = rw (inside 48 57 0 _ h (omega arith)) (omega arith)
 
-pub large-letter : (b : ℕ) → 65 ≤ b → b < 71 → b - 65 + 10 ≡ digitOf b
-unfolding digitOf
+pub large-letter : (b : ℕ) → 65 ≤ b → b < 71 → b - 65 + 10 ≡ digit_of b
+unfolding digit_of
 large-letter b h k = rw (above 48 57 0 _ {b = b} (omega arith), inside 65 70 10 _ {b = b} h (omega arith))
 
-pub small-letter : (b : ℕ) → 97 ≤ b → b < 103 → b - 97 + 10 ≡ digitOf b
-unfolding digitOf
+pub small-letter : (b : ℕ) → 97 ≤ b → b < 103 → b - 97 + 10 ≡ digit_of b
+unfolding digit_of
 small-letter b h k = rw (above 48 57 0 _ {b = b} (omega arith), above 65 70 10 _ {b = b} (omega arith), inside 97 102 10 _ {b = b} h (omega arith))
 
-pub no_digit : (b : ℕ) → (48 ≤ b → b ≤ 57 → ⊥) → (65 ≤ b → b ≤ 70 → ⊥) → (97 ≤ b → b ≤ 102 → ⊥) → 16 ≡ digitOf b
-unfolding digitOf
+pub no_digit : (b : ℕ) → (48 ≤ b → b ≤ 57 → ⊥) → (65 ≤ b → b ≤ 70 → ⊥) → (97 ≤ b → b ≤ 102 → ⊥) → 16 ≡ digit_of b
+unfolding digit_of
 no_digit b h k l = rw (outside 48 57 0 _ h, outside 65 70 10 _ k, outside 97 102 10 _ l)
 
 -- the part from n to the end
@@ -55,46 +55,46 @@ both false x = refl
 
 -- n, and the bytes of s from i on, write what all of s writes
 pub record Reads (base : ℕ) (s : List ℕ) (n i : ℕ) : Type 0 where
-  pub only : onlyDigits base (drop i s) ≡ onlyDigits base s
+  pub only : only_digits base (drop i s) ≡ only_digits base s
   pub value-is : value base n (drop i s) ≡ value base 0 s
 
 pub started : (base : ℕ) (s : List ℕ) → Reads base s 0 0
 started base s = record { only = refl; value-is = refl }
 
-pub further : {base : ℕ} {s : List ℕ} {n i d : ℕ} → Reads base s n i → i < length s → d ≡ digitOf (get_or s i 0) → d < base → Reads base s (n * base + d) (i + 1)
+pub further : {base : ℕ} {s : List ℕ} {n i d : ℕ} → Reads base s n i → i < length s → d ≡ digit_of (get_or s i 0) → d < base → Reads base s (n * base + d) (i + 1)
 further {base} {s} {n} {i} {d} r h is k = record { only = on ∙ r.only; value-is = grown ∙ r.value-is } where
-  on : onlyDigits base (drop (i + 1) s) ≡ onlyDigits base (drop i s)
-  on = rw (add-one, drop-cons s i 0 h) (simp (lt-ltb (digitOf (get_or s i 0)) base (omega arith)))
+  on : only_digits base (drop (i + 1) s) ≡ only_digits base (drop i s)
+  on = rw (add-one, drop-cons s i 0 h) (simp (lt-ltb (digit_of (get_or s i 0)) base (omega arith)))
 
   grown : value base (n * base + d) (drop (i + 1) s) ≡ value base n (drop i s)
   grown = rw (add-one, drop-cons s i 0 h, is)
 
 value_grows : (base n : ℕ) (s : List ℕ) → 1 ≤ base → n ≤ value base n s
 value_grows base n [] h = omega arith
-value_grows base n (b ∷ s) h = omega (arith, value_grows base (n * base + digitOf b) s h, le-mul_of_pos_right {m = base} n h)
+value_grows base n (b ∷ s) h = omega (arith, value_grows base (n * base + digit_of b) s h, le-mul_of_pos_right {m = base} n h)
 
-pub bad-bytes : (base most : ℕ) (s : List ℕ) → onlyDigits base s ≡ false → number.Bad ≡ number_of base most s
+pub bad-bytes : (base most : ℕ) (s : List ℕ) → only_digits base s ≡ false → number.Bad ≡ number_of base most s
 unfolding number_of
 bad-bytes base most s h = simp h (both (leb 1 (length s)) number.Bad)
 
 module _ {base : ℕ} {s : List ℕ} {n i : ℕ} (r : Reads base s n i) (most : ℕ) where
-  pub other_byte : (d : ℕ) → i < length s → d ≡ digitOf (get_or s i 0) → base ≤ d → number.Bad ≡ number_of base most s
+  pub other_byte : (d : ℕ) → i < length s → d ≡ digit_of (get_or s i 0) → base ≤ d → number.Bad ≡ number_of base most s
   other_byte d h is k =
       bad-bytes base most s
-      (sym r.only ∙ rw (drop-cons s i 0 h) (simp (le-ltb (digitOf (get_or s i 0)) base (omega arith))))
+      (sym r.only ∙ rw (drop-cons s i 0 h) (simp (le-ltb (digit_of (get_or s i 0)) base (omega arith))))
 
   pub too_large : 1 ≤ base → most < n → number.Bad ≡ number_of base most s
   unfolding number_of
   too_large h k =
       let over : most < value base 0 s = omega (arith, r.value-is, value_grows base n (drop i s) h) in
       simp (lt-leb (value base 0 s) most over)
-      (rw (← both (onlyDigits base s) number.Bad) (both (leb 1 (length s)) number.Bad))
+      (rw (← both (only_digits base s) number.Bad) (both (leb 1 (length s)) number.Bad))
 
   pub all_read : length s ≤ i → 1 ≤ length s → n ≤ most → number.Got n ≡ number_of base most s
   unfolding number_of
   all_read h k l =
       let none : drop i s ≡ [] = drop_of_length-le s h in
-      let only : onlyDigits base s ≡ true = sym r.only ∙ rw none in
+      let only : only_digits base s ≡ true = sym r.only ∙ rw none in
       let is : value base 0 s ≡ n = sym r.value-is ∙ rw none in
       simp (le-leb 1 (length s) k, only, is, le-leb n most l)
 
@@ -104,7 +104,7 @@ no_bytes base most s h = simp (lt-leb 1 (length s) (omega arith))
 
 pub got-most : (base most : ℕ) (s : List ℕ) {n : ℕ} → number.Got n ≡ number_of base most s → n ≤ most
 unfolding number_of
-got-most base most s {n} = by (leb 1 (length s)) (onlyDigits base s) (leb (value base 0 s) most) refl where
+got-most base most s {n} = by (leb 1 (length s)) (only_digits base s) (leb (value base 0 s) most) refl where
   by : (x y z : Bool) → leb (value base 0 s) most ≡ z
       → number.Got n ≡ cond x (cond y (cond z (number.Got (value base 0 s)) number.Bad) number.Bad) number.Bad → n ≤ most
   by true true true e h =
@@ -114,12 +114,12 @@ got-most base most s {n} = by (leb 1 (length s)) (onlyDigits base s) (leb (value
   by true false z e h = let z : ◌≡◌ {A = ℕ} 0 1 = cc in omega arith
   by false y z e h = let z : ◌≡◌ {A = ℕ} 0 1 = cc in omega arith
 
-pub eight : (s : List ℕ) → length s ≡ 8 → number_of 16 4294967295 s ≡ hexOf s
-unfolding hexOf
+pub eight : (s : List ℕ) → length s ≡ 8 → number_of 16 4294967295 s ≡ hex_of s
+unfolding hex_of
 eight s h = simp (eq-eqb (length s) 8 h)
 
-pub not_eight : (s : List ℕ) → (length s ≡ 8 → ⊥) → number.Bad ≡ hexOf s
-unfolding hexOf
+pub not_eight : (s : List ℕ) → (length s ≡ 8 → ⊥) → number.Bad ≡ hex_of s
+unfolding hex_of
 not_eight s h = simp (ne_eqb (length s) 8 h)
 
 pub no_whole : (s : List ℕ) → length s ≡ 0 → whole.Bad ≡ whole_of s

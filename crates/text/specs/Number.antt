@@ -1,10 +1,10 @@
 -- The numbers that a token writes. Definitions only; they speak of unbounded numbers, and say where a token is refused.
---   digitOf b            the worth of a byte as a digit, 0 to 15, small and large letters alike; 16 if it is none
---   onlyDigits base s    whether every byte of s is a digit of this base
+--   digit_of b            the worth of a byte as a digit, 0 to 15, small and large letters alike; 16 if it is none
+--   only_digits base s    whether every byte of s is a digit of this base
 --   value base n s       the number written by n and then the digits s
 --   number_of base most s the number that s writes, if s is digits only, one or more, and the number is at most most
 --   whole_of s            the whole number from -2147483648 to 2147483647 that s writes, one `-` before it or none
---   hexOf s              the number that s writes in exactly eight hexadecimal digits
+--   hex_of s              the number that s writes in exactly eight hexadecimal digits
 use Rattle.std.specs.Prelude.{ℕ, ◌+◌, ◌-◌, ◌*◌, Bool, true, false, cond, List, [], ◌∷◌, leb, ltb, eqb, length, ℤ, pos, neg_ℤ}
 use Rattle.text.specs.declared.number.Number.{Number}
 use Rattle.text.specs.declared.number.Number.TheVariants as number
@@ -16,26 +16,26 @@ abbrev pub between : ℕ → ℕ → ℕ → ℕ → ℕ → ℕ
 between low high first b other = cond (leb low b) (cond (leb b high) (b - low + first) other) other
 
 -- '0' is 48, '9' 57; 'A' 65, 'F' 70; 'a' 97, 'f' 102
-unfoldable pub digitOf : ℕ → ℕ
-digitOf b = between 48 57 0 b (between 65 70 10 b (between 97 102 10 b 16))
+unfoldable pub digit_of : ℕ → ℕ
+digit_of b = between 48 57 0 b (between 65 70 10 b (between 97 102 10 b 16))
 
-abbrev pub onlyDigits : ℕ → List ℕ → Bool
-onlyDigits base [] = true
-onlyDigits base (b ∷ s) = cond (ltb (digitOf b) base) (onlyDigits base s) false
+abbrev pub only_digits : ℕ → List ℕ → Bool
+only_digits base [] = true
+only_digits base (b ∷ s) = cond (ltb (digit_of b) base) (only_digits base s) false
 
 abbrev pub value : ℕ → ℕ → List ℕ → ℕ
 value base n [] = n
-value base n (b ∷ s) = value base (n * base + digitOf b) s
+value base n (b ∷ s) = value base (n * base + digit_of b) s
 
 unfoldable pub number_of : ℕ → ℕ → List ℕ → Number
 number_of base most s =
     cond (leb 1 (length s))
-    (cond (onlyDigits base s) (cond (leb (value base 0 s) most) (number.Got (value base 0 s)) number.Bad) number.Bad)
+    (cond (only_digits base s) (cond (leb (value base 0 s) most) (number.Got (value base 0 s)) number.Bad) number.Bad)
     number.Bad
 
-unfoldable pub hexOf : List ℕ → Number
+unfoldable pub hex_of : List ℕ → Number
 unfolding number_of
-hexOf s = cond (eqb (length s) 8) (number_of 16 4294967295 s) number.Bad
+hex_of s = cond (eqb (length s) 8) (number_of 16 4294967295 s) number.Bad
 
 abbrev pub signed : (ℕ → ℤ) → Number → Whole
 signed f (number.Got n) = whole.Got (f n)

@@ -1,6 +1,6 @@
 // Numbers as a token writes them: digits and nothing else, before a whole number one minus.
 ghost use Rattle.std.specs.Prelude.{◌≡◌, ◌≤◌, pos, neg_ℤ};
-ghost use Rattle.text.specs.Number.{digitOf, number_of, whole_of, hexOf};
+ghost use Rattle.text.specs.Number.{digit_of, number_of, whole_of, hex_of};
 
 // What a token writes: a number, or none that is wanted.
 #[derive(Drop)]
@@ -17,7 +17,7 @@ pub enum Whole {
 
 // The worth of a digit, 0 to 15, or 16 for any other byte.
 pub fn digit(b: u8) -> u64
-    ensures { result ≡ digitOf b }
+    ensures { result ≡ digit_of b }
 {
     match b {
         b'0'..=b'9' => (b - b'0') as u64,
@@ -60,7 +60,7 @@ pub fn decimal(s: &[u8], most: u32) -> Number
 
 // Exactly eight digits.
 pub fn hex(s: &[u8]) -> Number
-    ensures { result ≡ hexOf s.now }
+    ensures { result ≡ hex_of s.now }
 {
     if s.len() != 8 {
         return Number::Bad;

@@ -1,6 +1,6 @@
 // Tokens: the parts of a line that stand between single spaces.
 ghost use Rattle.std.specs.Prelude.{◌≡◌};
-ghost use Rattle.text.specs.Token.{Cuts, sameBytes};
+ghost use Rattle.text.specs.Token.{Cuts, same_bytes};
 
 // How many bytes stand before the first that is b, or all of them where there is none.
 pub fn before(s: &[u8], b: u8) -> usize
@@ -18,7 +18,7 @@ pub fn before(s: &[u8], b: u8) -> usize
 
 // Whether the two are the same bytes.
 pub fn same(a: &[u8], b: &[u8]) -> bool
-    ensures { result ≡ sameBytes a.now b.now }
+    ensures { result ≡ same_bytes a.now b.now }
 {
     if a.len() != b.len() {
         return false;

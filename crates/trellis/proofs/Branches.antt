@@ -10,7 +10,7 @@ use native.Mathlib.Omega.{arith}
 use Rattle.trellis.specs.Lists.{In}
 use Rattle.trellis.specs.Search.{Sorted}
 use Rattle.trellis.specs.Pick.{befores}
-use Rattle.wei.specs.State.{nextState, before, carryI1, carryI2}
+use Rattle.wei.specs.State.{next_state, before, carry_i1, carry_i2}
 use Rattle.wei.specs.Symbol.{Symbol, Carries}
 use Rattle.wei.proofs.States.{before-below, before-rises, leads, comes-from, only-i1, only-i2}
 
@@ -59,10 +59,10 @@ pub before-low : (s t : ℕ) → t < 16 → In s (befores t) → s % 4 ≡ t / 4
 before-low s t h m = let (k, l, e) = in-before s t m in ap (λ (x : ℕ). x % 4) e ∙ before-mod t k h
 
 -- the two bits that the states fix lead there
-pub befores-lead : (s t : ℕ) → t < 16 → In s (befores t) → nextState s (carryI1 s t) (carryI2 s t) ≡ t
+pub befores-lead : (s t : ℕ) → t < 16 → In s (befores t) → next_state s (carry_i1 s t) (carry_i2 s t) ≡ t
 befores-lead s t h m =
     let (k, l, e) = in-before s t m in
-    subst (λ (x : ℕ). nextState x (carryI1 x t) (carryI2 x t) ≡ t) (sym e) (leads t k h l)
+    subst (λ (x : ℕ). next_state x (carry_i1 x t) (carry_i2 x t) ≡ t) (sym e) (leads t k h l)
 
 module _ (u s t : ℕ) (c : Symbol) (h : s < 16) (b : Carries u s t c) where
   pub branch_in : In s (befores t)
@@ -70,8 +70,8 @@ module _ (u s t : ℕ) (c : Symbol) (h : s < 16) (b : Carries u s t c) where
       let e : before t (s / 4) ≡ s = ap (λ (x : ℕ). before x (s / 4)) (sym b.leads) ∙ comes-from s c.i1 c.i2 h b.valid.i1-below b.valid.i2-below in
       subst (λ (x : ℕ). In x (befores t)) e (before-in t (s / 4) (omega arith))
 
-  pub bit-i1 : c.i1 ≡ carryI1 s t
-  bit-i1 = sym (only-i1 s c.i1 c.i2 h b.valid.i1-below b.valid.i2-below) ∙ ap (carryI1 s) b.leads
+  pub bit-i1 : c.i1 ≡ carry_i1 s t
+  bit-i1 = sym (only-i1 s c.i1 c.i2 h b.valid.i1-below b.valid.i2-below) ∙ ap (carry_i1 s) b.leads
 
-  pub bit-i2 : c.i2 ≡ carryI2 s t
-  bit-i2 = sym (only-i2 s c.i1 c.i2 h b.valid.i1-below b.valid.i2-below) ∙ ap (carryI2 s) b.leads
+  pub bit-i2 : c.i2 ≡ carry_i2 s t
+  bit-i2 = sym (only-i2 s c.i1 c.i2 h b.valid.i1-below b.valid.i2-below) ∙ ap (carry_i2 s) b.leads

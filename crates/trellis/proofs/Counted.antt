@@ -11,7 +11,7 @@ use mathlib.Core.List.{List, [], ◌∷◌, ◌++◌}
 use Prim.Native.Nat.{ℕ, ◌+◌, ◌≤◌}
 use native.Mathlib.Omega.{arith}
 use Rattle.trellis.specs.Code.{Path, begin, step, cost}
-use Rattle.trellis.specs.Measure.{Start, Two, cap, counted, firstFar, secondFar, farOf, pairs, weiCode}
+use Rattle.trellis.specs.Measure.{Start, Two, cap, counted, first_far, second_far, far_of, pairs, wei_code}
 use Rattle.trellis.proofs.Pairs.{Rises}
 use Rattle.wei.specs.Symbol.{Symbol}
 
@@ -24,20 +24,20 @@ unfolding counted
 counted-most n = omega arith
 
 module _ {P : Type 0} (d : P → ℕ → ℕ → ℕ) where
-  pub most : (y : Two P) (c : Symbol) → farOf P d counted y c ≤ 524288
-  unfolding farOf
-  most y c = omega (arith, counted-most (firstFar P d y c), counted-most (secondFar P d y c))
+  pub most : (y : Two P) (c : Symbol) → far_of P d counted y c ≤ 524288
+  unfolding far_of
+  most y c = omega (arith, counted-most (first_far P d y c), counted-most (second_far P d y c))
 
-  pub as_before : (y : Two P) (c : Symbol) → firstFar P d y c ≤ cap → secondFar P d y c ≤ cap → farOf P d counted y c ≡ firstFar P d y c + secondFar P d y c
-  unfolding farOf counted
+  pub as_before : (y : Two P) (c : Symbol) → first_far P d y c ≤ cap → second_far P d y c ≤ cap → far_of P d counted y c ≡ first_far P d y c + second_far P d y c
+  unfolding far_of counted
   as_before y c h k = omega arith
 
-  pub outweighs : (y : Two P) (b c : Symbol) → farOf P d counted y b ≤ farOf P d counted y c + 524288
+  pub outweighs : (y : Two P) (b c : Symbol) → far_of P d counted y b ≤ far_of P d counted y c + 524288
   outweighs y b c = omega (arith, most y b)
 
   module _ (u : ℕ) (b : Start) where
     pub one-spark : (xs zs : List (Two P)) (x y : Two P) (p : Path Symbol) →
-        cost (weiCode u (pairs P d counted) b) (zs ++ (x ∷ xs)) p ≤ cost (weiCode u (pairs P d counted) b) (zs ++ (y ∷ xs)) p + 524288
+        cost (wei_code u (pairs P d counted) b) (zs ++ (x ∷ xs)) p ≤ cost (wei_code u (pairs P d counted) b) (zs ++ (y ∷ xs)) p + 524288
     one-spark xs [] x y (begin s) = omega arith
     one-spark xs [] x y (step p c s) = omega (arith, most x c)
     one-spark xs (z ∷ zs) x y (begin s) = omega arith

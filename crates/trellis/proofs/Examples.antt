@@ -8,7 +8,7 @@ use Prim.Native.Nat.{ℕ}
 use Rattle.trellis.specs.Lists.{Every}
 use Rattle.trellis.specs.Measure.{Start, free}
 use Rattle.trellis.specs.Allowed.{Allows}
-use Rattle.trellis.specs.IvEight.{Meets, bits_of, labelBits}
+use Rattle.trellis.specs.IvEight.{Meets, bits_of, label_bits}
 use Rattle.trellis.specs.Examples.{HasLabels}
 use Rattle.trellis.proofs.IvEight.{allowed-fives, fives-allowed}
 use Rattle.trellis.proofs.IvPoints.{label-bits}
@@ -16,19 +16,19 @@ use Rattle.wei.specs.Symbol.{Symbol, Valid}
 
 -- "Five symbols (A,A) are allowed; four (A,A) then (A,C) are not"
 module _ (u : ℕ) (a b c d e : Symbol) (v : Every (Valid u) (a ∷ b ∷ c ∷ d ∷ e ∷ [])) (h : Every (HasLabels 0 0) (a ∷ b ∷ c ∷ d ∷ [])) where
-  bits : (l m : ℕ) (x : Symbol) → Valid u x → HasLabels l m x → bits_of x ≡ labelBits l m
-  bits l m x w (p, q) = sym (label-bits u x w) ∙ ap₂ labelBits p q
+  bits : (l m : ℕ) (x : Symbol) → Valid u x → HasLabels l m x → bits_of x ≡ label_bits l m
+  bits l m x w (p, q) = sym (label-bits u x w) ∙ ap₂ label_bits p q
 
-  ba : bits_of a ≡ labelBits 0 0
+  ba : bits_of a ≡ label_bits 0 0
   ba = bits 0 0 a v.0 h.0
 
-  bb : bits_of b ≡ labelBits 0 0
+  bb : bits_of b ≡ label_bits 0 0
   bb = bits 0 0 b v.1.0 h.1.0
 
-  bc : bits_of c ≡ labelBits 0 0
+  bc : bits_of c ≡ label_bits 0 0
   bc = bits 0 0 c v.1.1.0 h.1.1.0
 
-  bd : bits_of d ≡ labelBits 0 0
+  bd : bits_of d ≡ label_bits 0 0
   bd = bits 0 0 d v.1.1.1.0 h.1.1.1.0
 
   pub five-AA : HasLabels 0 0 e → Allows u free (a ∷ b ∷ c ∷ d ∷ e ∷ [])

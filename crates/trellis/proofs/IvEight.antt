@@ -15,26 +15,26 @@ use Rattle.trellis.specs.Lists.{Every}
 use Rattle.trellis.specs.Measure.{free}
 use Rattle.trellis.specs.IvEight.{Bits, Meets, MeetsFirst, Fives, bits_of}
 use Rattle.trellis.specs.Allowed.{Allows}
-use Rattle.wei.specs.State.{state_of, bitW1, bitW2, bitW3, bitW4, nextState, before}
+use Rattle.wei.specs.State.{state_of, bit_w1, bit_w2, bit_w3, bit_w4, next_state, before}
 use Rattle.wei.specs.Symbol.{Symbol, Valid, AllowedFrom}
 use Rattle.wei.proofs.Finite.{equal3}
 use Rattle.wei.proofs.States.{before-below}
 
 -- ── the bits of the next state ──
-next-w4 : (s i j : ℕ) → bitW4 (nextState s i j) ≡ (bitW1 s + bitW3 s + i) % 2
-unfolding nextState
+next-w4 : (s i j : ℕ) → bit_w4 (next_state s i j) ≡ (bit_w1 s + bit_w3 s + i) % 2
+unfolding next_state
 next-w4 s i j = omega arith
 
-next-w3 : (s i j : ℕ) → bitW3 (nextState s i j) ≡ (bitW2 s + j) % 2
-unfolding nextState
+next-w3 : (s i j : ℕ) → bit_w3 (next_state s i j) ≡ (bit_w2 s + j) % 2
+unfolding next_state
 next-w3 s i j = omega arith
 
-next-w2 : (s i j : ℕ) → bitW2 (nextState s i j) ≡ bitW4 s
-unfolding nextState
+next-w2 : (s i j : ℕ) → bit_w2 (next_state s i j) ≡ bit_w4 s
+unfolding next_state
 next-w2 s i j = omega arith
 
-next-w1 : (s i j : ℕ) → bitW1 (nextState s i j) ≡ bitW3 s
-unfolding nextState
+next-w1 : (s i j : ℕ) → bit_w1 (next_state s i j) ≡ bit_w3 s
+unfolding next_state
 next-w1 s i j = omega arith
 
 -- sums modulo 2
@@ -45,24 +45,24 @@ twice : (x y : ℕ) → x < 2 → ((x + y) % 2 + y) % 2 ≡ x
 twice x y h = omega arith
 
 -- W4 three steps on, from W2 and W4
-three : (s b₁ b₂ c₁ c₂ d₁ d₂ : ℕ) → bitW4 (nextState (nextState (nextState s b₁ b₂) c₁ c₂) d₁ d₂) ≡ (bitW4 s + c₂ + bitW2 s + b₂ + d₁) % 2
+three : (s b₁ b₂ c₁ c₂ d₁ d₂ : ℕ) → bit_w4 (next_state (next_state (next_state s b₁ b₂) c₁ c₂) d₁ d₂) ≡ (bit_w4 s + c₂ + bit_w2 s + b₂ + d₁) % 2
 three s b₁ b₂ c₁ c₂ d₁ d₂ =
-    let s₂ = nextState s b₁ b₂ in
-    let s₃ = nextState s₂ c₁ c₂ in
-    let w₁ : bitW1 s₃ ≡ (bitW2 s + b₂) % 2 = next-w1 s₂ c₁ c₂ ∙ next-w3 s b₁ b₂ in
-    let w₃ : bitW3 s₃ ≡ (bitW4 s + c₂) % 2 = next-w3 s₂ c₁ c₂ ∙ ap (λ (x : ℕ). (x + c₂) % 2) (next-w2 s b₁ b₂) in
-    let e : bitW2 s + b₂ + (bitW4 s + c₂) + d₁ ≡ bitW4 s + c₂ + bitW2 s + b₂ + d₁ = omega arith in
-    next-w4 s₃ d₁ d₂ ∙ rw (w₁, w₃) (mod-sum (bitW2 s + b₂) (bitW4 s + c₂) d₁) ∙ ap (λ (n : ℕ). n % 2) e
+    let s₂ = next_state s b₁ b₂ in
+    let s₃ = next_state s₂ c₁ c₂ in
+    let w₁ : bit_w1 s₃ ≡ (bit_w2 s + b₂) % 2 = next-w1 s₂ c₁ c₂ ∙ next-w3 s b₁ b₂ in
+    let w₃ : bit_w3 s₃ ≡ (bit_w4 s + c₂) % 2 = next-w3 s₂ c₁ c₂ ∙ ap (λ (x : ℕ). (x + c₂) % 2) (next-w2 s b₁ b₂) in
+    let e : bit_w2 s + b₂ + (bit_w4 s + c₂) + d₁ ≡ bit_w4 s + c₂ + bit_w2 s + b₂ + d₁ = omega arith in
+    next-w4 s₃ d₁ d₂ ∙ rw (w₁, w₃) (mod-sum (bit_w2 s + b₂) (bit_w4 s + c₂) d₁) ∙ ap (λ (n : ℕ). n % 2) e
 
 -- ── allowed, so IV-8 ──
 module _ (u : ℕ) where
   -- one symbol and those behind it
-  allowed-cons : (s : ℕ) (c : Symbol) (cs : List Symbol) → Valid u c → c.y0 ≡ bitW4 s → AllowedFrom u (nextState s c.i1 c.i2) cs → AllowedFrom u s (c ∷ cs)
+  allowed-cons : (s : ℕ) (c : Symbol) (cs : List Symbol) → Valid u c → c.y0 ≡ bit_w4 s → AllowedFrom u (next_state s c.i1 c.i2) cs → AllowedFrom u s (c ∷ cs)
   allowed-cons s c cs v e a = (record { valid = v; parity = e; leads = refl }, a)
 
   pub allowed-valid : (s : ℕ) (cs : List Symbol) → AllowedFrom u s cs → Every (Valid u) cs
   allowed-valid s [] a = tt
-  allowed-valid s (c ∷ cs) a = (a.0.valid, allowed-valid (nextState s c.i1 c.i2) cs a.1)
+  allowed-valid s (c ∷ cs) a = (a.0.valid, allowed-valid (next_state s c.i1 c.i2) cs a.1)
 
   allowed-first : (s : ℕ) (cs : List Symbol) → AllowedFrom u s cs → MeetsFirst (map bits_of cs)
   allowed-first s [] r = tt
@@ -71,35 +71,35 @@ module _ (u : ℕ) where
   allowed-first s (a ∷ b ∷ c ∷ []) r = tt
   allowed-first s (a ∷ b ∷ c ∷ d ∷ []) r = tt
   allowed-first s (a ∷ b ∷ c ∷ d ∷ e ∷ l) r =
-      let s₂ = nextState s a.i1 a.i2 in
-      let z₂ : bitW2 s₂ ≡ a.y0 = next-w2 s a.i1 a.i2 ∙ sym r.0.parity in
-      let z₄ : bitW4 s₂ ≡ b.y0 = sym r.1.0.parity in
+      let s₂ = next_state s a.i1 a.i2 in
+      let z₂ : bit_w2 s₂ ≡ a.y0 = next-w2 s a.i1 a.i2 ∙ sym r.0.parity in
+      let z₄ : bit_w4 s₂ ≡ b.y0 = sym r.1.0.parity in
       r.1.1.1.1.0.parity ∙ three s₂ b.i1 b.i2 c.i1 c.i2 d.i1 d.i2 ∙ rw (z₂, z₄)
 
   pub allowed-fives : (s : ℕ) (cs : List Symbol) → AllowedFrom u s cs → Fives (map bits_of cs)
   allowed-fives s [] r = tt
-  allowed-fives s (a ∷ l) r = (allowed-first s (a ∷ l) r, allowed-fives (nextState s a.i1 a.i2) l r.1)
+  allowed-fives s (a ∷ l) r = (allowed-first s (a ∷ l) r, allowed-fives (next_state s a.i1 a.i2) l r.1)
 
 -- ── four symbols fix a first state ──
 -- W4 is a's Y0; W2, W3 and W1 give d, c and b theirs
-abbrev firstW2 : Symbol → Symbol → Symbol → Symbol → ℕ
-firstW2 a b c d = (d.y0 + (a.y0 + b.i2 + a.i2 + c.i1)) % 2
+abbrev first_w2 : Symbol → Symbol → Symbol → Symbol → ℕ
+first_w2 a b c d = (d.y0 + (a.y0 + b.i2 + a.i2 + c.i1)) % 2
 
-abbrev firstW3 : Symbol → Symbol → Symbol → Symbol → ℕ
-firstW3 a b c d = (c.y0 + (firstW2 a b c d + a.i2 + b.i1)) % 2
+abbrev first_w3 : Symbol → Symbol → Symbol → Symbol → ℕ
+first_w3 a b c d = (c.y0 + (first_w2 a b c d + a.i2 + b.i1)) % 2
 
-abbrev firstW1 : Symbol → Symbol → Symbol → Symbol → ℕ
-firstW1 a b c d = (b.y0 + (firstW3 a b c d + a.i1)) % 2
+abbrev first_w1 : Symbol → Symbol → Symbol → Symbol → ℕ
+first_w1 a b c d = (b.y0 + (first_w3 a b c d + a.i1)) % 2
 
-firstState : Symbol → Symbol → Symbol → Symbol → ℕ
-firstState a b c d = state_of (firstW1 a b c d) (firstW2 a b c d) (firstW3 a b c d) a.y0
+first_state : Symbol → Symbol → Symbol → Symbol → ℕ
+first_state a b c d = state_of (first_w1 a b c d) (first_w2 a b c d) (first_w3 a b c d) a.y0
 
 record HasBits (s w x y z : ℕ) : Type 0 where
   below : s < 16
-  w1-is : bitW1 s ≡ w
-  w2-is : bitW2 s ≡ x
-  w3-is : bitW3 s ≡ y
-  w4-is : bitW4 s ≡ z
+  w1-is : bit_w1 s ≡ w
+  w2-is : bit_w2 s ≡ x
+  w3-is : bit_w3 s ≡ y
+  w4-is : bit_w4 s ≡ z
 
 made : (w x y z : ℕ) → w < 2 → x < 2 → y < 2 → z < 2 → HasBits (state_of w x y z) w x y z
 made w x y z hw hx hy hz = omega arith
@@ -110,35 +110,35 @@ bit n = omega arith
 module _ (u : ℕ) where
   module _ (a b c d : Symbol) (va : Valid u a) (vb : Valid u b) (vc : Valid u c) (vd : Valid u d) where
     abbrev s : ℕ
-    s = firstState a b c d
+    s = first_state a b c d
 
     abbrev s₂ : ℕ
-    s₂ = nextState s a.i1 a.i2
+    s₂ = next_state s a.i1 a.i2
 
     abbrev s₃ : ℕ
-    s₃ = nextState s₂ b.i1 b.i2
+    s₃ = next_state s₂ b.i1 b.i2
 
-    bits : HasBits (firstState a b c d) (firstW1 a b c d) (firstW2 a b c d) (firstW3 a b c d) a.y0
-    unfolding firstState
-    bits = made (firstW1 a b c d) (firstW2 a b c d) (firstW3 a b c d) a.y0 (bit _) (bit _) (bit _) va.y0-below
+    bits : HasBits (first_state a b c d) (first_w1 a b c d) (first_w2 a b c d) (first_w3 a b c d) a.y0
+    unfolding first_state
+    bits = made (first_w1 a b c d) (first_w2 a b c d) (first_w3 a b c d) a.y0 (bit _) (bit _) (bit _) va.y0-below
 
-    at_b : bitW4 s₂ ≡ b.y0
+    at_b : bit_w4 s₂ ≡ b.y0
     at_b =
-        let e : firstW1 a b c d + firstW3 a b c d + a.i1 ≡ firstW1 a b c d + (firstW3 a b c d + a.i1) = omega arith in
-        next-w4 s a.i1 a.i2 ∙ rw (bits.w1-is, bits.w3-is, e) (twice b.y0 (firstW3 a b c d + a.i1) vb.y0-below)
+        let e : first_w1 a b c d + first_w3 a b c d + a.i1 ≡ first_w1 a b c d + (first_w3 a b c d + a.i1) = omega arith in
+        next-w4 s a.i1 a.i2 ∙ rw (bits.w1-is, bits.w3-is, e) (twice b.y0 (first_w3 a b c d + a.i1) vb.y0-below)
 
-    at_c : bitW4 s₃ ≡ c.y0
+    at_c : bit_w4 s₃ ≡ c.y0
     at_c =
-        let w₁ : bitW1 s₂ ≡ firstW3 a b c d = next-w1 s a.i1 a.i2 ∙ bits.w3-is in
-        let w₃ : bitW3 s₂ ≡ (firstW2 a b c d + a.i2) % 2 = next-w3 s a.i1 a.i2 ∙ rw bits.w2-is in
-        next-w4 s₂ b.i1 b.i2 ∙ rw (w₁, w₃) (folded c.y0 (firstW2 a b c d + a.i2) b.i1 vc.y0-below)
+        let w₁ : bit_w1 s₂ ≡ first_w3 a b c d = next-w1 s a.i1 a.i2 ∙ bits.w3-is in
+        let w₃ : bit_w3 s₂ ≡ (first_w2 a b c d + a.i2) % 2 = next-w3 s a.i1 a.i2 ∙ rw bits.w2-is in
+        next-w4 s₂ b.i1 b.i2 ∙ rw (w₁, w₃) (folded c.y0 (first_w2 a b c d + a.i2) b.i1 vc.y0-below)
       where
         folded : (x y z : ℕ) → x < 2 → ((x + (y + z)) % 2 + y % 2 + z) % 2 ≡ x
         folded x y z h = omega arith
 
-    at-d : bitW4 (nextState s₃ c.i1 c.i2) ≡ d.y0
+    at-d : bit_w4 (next_state s₃ c.i1 c.i2) ≡ d.y0
     at-d =
-        let e : a.y0 + b.i2 + firstW2 a b c d + a.i2 + c.i1 ≡ firstW2 a b c d + (a.y0 + b.i2 + a.i2 + c.i1) = omega arith in
+        let e : a.y0 + b.i2 + first_w2 a b c d + a.i2 + c.i1 ≡ first_w2 a b c d + (a.y0 + b.i2 + a.i2 + c.i1) = omega arith in
         three s a.i1 a.i2 b.i1 b.i2 c.i1 c.i2 ∙ rw (bits.w2-is, bits.w4-is, e) (twice d.y0 (a.y0 + b.i2 + a.i2 + c.i1) vd.y0-below)
 
     four : Allows u free (a ∷ b ∷ c ∷ d ∷ [])
@@ -150,7 +150,7 @@ module _ (u : ℕ) where
           allowed =
               allowed-cons u s a (b ∷ c ∷ d ∷ []) va (sym bits.w4-is) (
               allowed-cons u s₂ b (c ∷ d ∷ []) vb (sym at_b) (
-              allowed-cons u s₃ c (d ∷ []) vc (sym at_c) (allowed-cons u (nextState s₃ c.i1 c.i2) d [] vd (sym at-d) tt)
+              allowed-cons u s₃ c (d ∷ []) vc (sym at_c) (allowed-cons u (next_state s₃ c.i1 c.i2) d [] vd (sym at-d) tt)
               )
               );
         }
@@ -158,7 +158,7 @@ module _ (u : ℕ) where
   -- fewer than four: fill up with any
   front-allowed : (s : ℕ) (l m : List Symbol) → AllowedFrom u s (l ++ m) → AllowedFrom u s l
   front-allowed s [] m r = tt
-  front-allowed s (a ∷ l) m r = (r.0, front-allowed (nextState s a.i1 a.i2) l m r.1)
+  front-allowed s (a ∷ l) m r = (r.0, front-allowed (next_state s a.i1 a.i2) l m r.1)
 
   fewer : (l m : List Symbol) → Allows u free (l ++ m) → Allows u free l
   fewer l m k = record { from = k.from; from-below = k.from-below; from_start = tt; allowed = front-allowed k.from l m k.allowed }
@@ -173,13 +173,13 @@ module _ (u : ℕ) where
   -- ── one more symbol in front of four or more ──
   -- the state before t with these bits, and its W4
   earlier : ℕ → ℕ → ℕ → ℕ
-  earlier t i j = before t (2 * ((bitW4 t + bitW1 t + i) % 2) + (bitW3 t + j) % 2)
+  earlier t i j = before t (2 * ((bit_w4 t + bit_w1 t + i) % 2) + (bit_w3 t + j) % 2)
 
-  earlier-leads : (t i j : ℕ) → t < 16 → i < 2 → j < 2 → nextState (earlier t i j) i j ≡ t
-  unfolding earlier nextState before
-  earlier-leads = equal3 16 2 2 (λ t i j. nextState (earlier t i j) i j) (λ t i j. t) tt
+  earlier-leads : (t i j : ℕ) → t < 16 → i < 2 → j < 2 → next_state (earlier t i j) i j ≡ t
+  unfolding earlier next_state before
+  earlier-leads = equal3 16 2 2 (λ t i j. next_state (earlier t i j) i j) (λ t i j. t) tt
 
-  earlier-w4 : (t i j : ℕ) → bitW4 (earlier t i j) ≡ bitW2 t
+  earlier-w4 : (t i j : ℕ) → bit_w4 (earlier t i j) ≡ bit_w2 t
   unfolding earlier before
   earlier-w4 t i j = omega arith
 
@@ -195,9 +195,9 @@ module _ (u : ℕ) where
   in-front a b c d e l va m r =
       let t = r.from in
       let k = b.y0 + c.i2 + b.i2 + d.i1 in
-      let p₁ : e.y0 ≡ (bitW2 t + k) % 2 = r.allowed.1.1.1.0.parity ∙ three t b.i1 b.i2 c.i1 c.i2 d.i1 d.i2 ∙ rw (← r.allowed.0.parity) (regroup (bitW2 t)) in
+      let p₁ : e.y0 ≡ (bit_w2 t + k) % 2 = r.allowed.1.1.1.0.parity ∙ three t b.i1 b.i2 c.i1 c.i2 d.i1 d.i2 ∙ rw (← r.allowed.0.parity) (regroup (bit_w2 t)) in
       let p₂ : e.y0 ≡ (a.y0 + k) % 2 = m ∙ regroup a.y0 in
-      let w : a.y0 ≡ bitW2 t = same_bit a.y0 (bitW2 t) k va.y0-below (bit _) (sym p₂ ∙ p₁) in
+      let w : a.y0 ≡ bit_w2 t = same_bit a.y0 (bit_w2 t) k va.y0-below (bit _) (sym p₂ ∙ p₁) in
       let back = earlier-leads t a.i1 a.i2 r.from-below va.i1-below va.i2-below in
       record {
         from = earlier t a.i1 a.i2;

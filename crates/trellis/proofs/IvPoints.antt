@@ -16,20 +16,20 @@ use lib.ListN.{length, length-map}
 use lib.Pow.{pow_mono}
 use Rattle.trellis.specs.Lists.{Every}
 use Rattle.trellis.specs.Measure.{free, Two}
-use Rattle.trellis.specs.IvEight.{Bits, Fives, bits_of, labelBy, label_of, labelBits, pointBits, points_of, IsPair, AllowsPoints}
+use Rattle.trellis.specs.IvEight.{Bits, Fives, bits_of, label_by, label_of, label_bits, point_bits, points_of, IsPair, AllowsPoints}
 use Rattle.trellis.proofs.IvEight.{iv-eight, four-allowed}
-use Rattle.wei.specs.Label.{turn_of, turnFrom, secondLabel}
-use Rattle.wei.specs.Symbol.{Symbol, firstLabel, lastLabel, Valid}
+use Rattle.wei.specs.Label.{turn_of, turn_from, second_label}
+use Rattle.wei.specs.Symbol.{Symbol, first_label, last_label, Valid}
 use Rattle.wei.proofs.Finite.{equal2, equal4}
 use Rattle.wei.proofs.Labels.{second_below}
 use Rattle.points.specs.declared.Point.{Point}
-use Rattle.points.specs.Turn.{point_of, remainderX, remainderY}
-use Rattle.points.specs.Pair.{firstPoint, secondPoint}
+use Rattle.points.specs.Turn.{point_of, remainder_x, remainder_y}
+use Rattle.points.specs.Pair.{first_point, second_point}
 use Rattle.points.proofs.Turns.{labelled}
 use Rattle.points.proofs.Apart.{symbols-apart}
 
 -- ── labels ──
-label-back : (l : ℕ) → l < 4 → labelBy (eqb (remainderX l) 3) (eqb (remainderY l) 3) ≡ l
+label-back : (l : ℕ) → l < 4 → label_by (eqb (remainder_x l) 3) (eqb (remainder_y l) 3) ≡ l
 label-back zero h = refl
 label-back (suc zero) h = refl
 label-back (suc (suc zero)) h = refl
@@ -41,45 +41,45 @@ unfolding label_of
 label_is l w h k = let a = labelled l w h k in rw (a.x-is, a.y-is) (label-back l h)
 
 -- the bits of the labels that bits have; the labels of the bits that labels have
-bits-y0 : (y0 i1 i2 i3 : ℕ) → y0 < 2 → i1 < 2 → i2 < 2 → i3 < 2 → turnFrom (turn_of i2 i3) (secondLabel (turn_of i2 i3) y0 i1) % 2 ≡ y0
-unfolding secondLabel
-bits-y0 = equal4 2 2 2 2 (λ a b c d. turnFrom (turn_of c d) (secondLabel (turn_of c d) a b) % 2) (λ a b c d. a) tt
+bits-y0 : (y0 i1 i2 i3 : ℕ) → y0 < 2 → i1 < 2 → i2 < 2 → i3 < 2 → turn_from (turn_of i2 i3) (second_label (turn_of i2 i3) y0 i1) % 2 ≡ y0
+unfolding second_label
+bits-y0 = equal4 2 2 2 2 (λ a b c d. turn_from (turn_of c d) (second_label (turn_of c d) a b) % 2) (λ a b c d. a) tt
 
-bits-i1 : (y0 i1 i2 i3 : ℕ) → y0 < 2 → i1 < 2 → i2 < 2 → i3 < 2 → turnFrom (turn_of i2 i3) (secondLabel (turn_of i2 i3) y0 i1) / 2 ≡ i1
-unfolding secondLabel
-bits-i1 = equal4 2 2 2 2 (λ a b c d. turnFrom (turn_of c d) (secondLabel (turn_of c d) a b) / 2) (λ a b c d. b) tt
+bits-i1 : (y0 i1 i2 i3 : ℕ) → y0 < 2 → i1 < 2 → i2 < 2 → i3 < 2 → turn_from (turn_of i2 i3) (second_label (turn_of i2 i3) y0 i1) / 2 ≡ i1
+unfolding second_label
+bits-i1 = equal4 2 2 2 2 (λ a b c d. turn_from (turn_of c d) (second_label (turn_of c d) a b) / 2) (λ a b c d. b) tt
 
-labels-last : (l m : ℕ) → l < 4 → m < 4 → secondLabel (turn_of (l % 2) (l / 2)) (turnFrom l m % 2) (turnFrom l m / 2) ≡ m
-unfolding secondLabel
-labels-last = equal2 4 4 (λ l m. secondLabel (turn_of (l % 2) (l / 2)) (turnFrom l m % 2) (turnFrom l m / 2)) (λ l m. m) tt
+labels-last : (l m : ℕ) → l < 4 → m < 4 → second_label (turn_of (l % 2) (l / 2)) (turn_from l m % 2) (turn_from l m / 2) ≡ m
+unfolding second_label
+labels-last = equal2 4 4 (λ l m. second_label (turn_of (l % 2) (l / 2)) (turn_from l m % 2) (turn_from l m / 2)) (λ l m. m) tt
 
 -- the labels of a valid symbol give its bits
-pub label-bits : (u : ℕ) (c : Symbol) → Valid u c → labelBits (firstLabel c) (lastLabel c) ≡ bits_of c
-unfolding lastLabel
+pub label-bits : (u : ℕ) (c : Symbol) → Valid u c → label_bits (first_label c) (last_label c) ≡ bits_of c
+unfolding last_label
 label-bits u c v =
     let z₀ = bits-y0 c.y0 c.i1 c.i2 c.i3 v.y0-below v.i1-below v.i2-below v.i3-below in
     let z₁ = bits-i1 c.y0 c.i1 c.i2 c.i3 v.y0-below v.i1-below v.i2-below v.i3-below in
-    let z₂ : firstLabel c % 2 ≡ c.i2 = omega (arith, v.i2-below) in
+    let z₂ : first_label c % 2 ≡ c.i2 = omega (arith, v.i2-below) in
     λ i. record { y0 = z₀ i; i1 = z₁ i; i2 = z₂ i }
 
 module _ (u : ℕ) (small : u ≤ 8) where
   below : (w : ℕ) → w < 2 ^ u → w < 256
   below w h = let k : 2 ^ u ≤ 256 = pow_mono small in omega arith
 
-  pub point-bits : (c : Symbol) → Valid u c → pointBits (points_of c) ≡ bits_of c
-  unfolding firstPoint secondPoint lastLabel
+  pub point-bits : (c : Symbol) → Valid u c → point_bits (points_of c) ≡ bits_of c
+  unfolding first_point second_point last_label
   point-bits c v =
-      let e₁ : label_of (firstPoint c) ≡ firstLabel c = label_is (firstLabel c) c.w1 (omega (arith, v.i2-below, v.i3-below)) (below c.w1 v.w1-below) in
-      let e₂ : label_of (secondPoint c) ≡ lastLabel c = label_is (lastLabel c) c.w2 (second_below (firstLabel c) c.y0 c.i1) (below c.w2 v.w2-below) in
-      ap₂ labelBits e₁ e₂ ∙ label-bits u c v
+      let e₁ : label_of (first_point c) ≡ first_label c = label_is (first_label c) c.w1 (omega (arith, v.i2-below, v.i3-below)) (below c.w1 v.w1-below) in
+      let e₂ : label_of (second_point c) ≡ last_label c = label_is (last_label c) c.w2 (second_below (first_label c) c.y0 c.i1) (below c.w2 v.w2-below) in
+      ap₂ label_bits e₁ e₂ ∙ label-bits u c v
 
-  all-bits : (cs : List Symbol) → Every (Valid u) cs → map pointBits (map points_of cs) ≡ map bits_of cs
+  all-bits : (cs : List Symbol) → Every (Valid u) cs → map point_bits (map points_of cs) ≡ map bits_of cs
   all-bits [] v = refl
   all-bits (c ∷ cs) v = ap₂ (λ (b : Bits) (bs : List Bits). b ∷ bs) (point-bits c v.0) (all-bits cs v.1)
 
   -- ── the symbol of two points ──
   abbrev at : ℕ → ℕ → ℕ → ℕ → Symbol
-  at l m w v = record { y0 = turnFrom l m % 2; i1 = turnFrom l m / 2; i2 = l % 2; i3 = l / 2; w1 = w; w2 = v }
+  at l m w v = record { y0 = turn_from l m % 2; i1 = turn_from l m / 2; i2 = l % 2; i3 = l / 2; w1 = w; w2 = v }
 
   record Stands (pq : Two Point) : Type 0 where
     symbol : Symbol
@@ -87,7 +87,7 @@ module _ (u : ℕ) (small : u ≤ 8) where
     are : points_of symbol ≡ pq
 
   stands : (pq : Two Point) → IsPair u pq → Stands pq
-  unfolding firstPoint secondPoint lastLabel
+  unfolding first_point second_point last_label
   stands pq (p, q) =
       let l = p.label in
       let m = q.label in
@@ -133,29 +133,29 @@ module _ (u : ℕ) (small : u ≤ 8) where
 
   -- the points of valid symbols are points of the map
   are-pairs : (cs : List Symbol) → Every (Valid u) cs → Every (IsPair u) (map points_of cs)
-  unfolding firstPoint secondPoint lastLabel
+  unfolding first_point second_point last_label
   are-pairs [] v = tt
   are-pairs (c ∷ cs) v = (
     (
-      record { label = firstLabel c; number = c.w1; label-below = omega (arith, v.0.i2-below, v.0.i3-below); number-below = v.0.w1-below; is = refl },
-      record { label = lastLabel c; number = c.w2; label-below = second_below (firstLabel c) c.y0 c.i1; number-below = v.0.w2-below; is = refl },
+      record { label = first_label c; number = c.w1; label-below = omega (arith, v.0.i2-below, v.0.i3-below); number-below = v.0.w1-below; is = refl },
+      record { label = last_label c; number = c.w2; label-below = second_below (first_label c) c.y0 c.i1; number-below = v.0.w2-below; is = refl },
     ),
     are-pairs cs v.1,
   )
 
   -- ── T5 over pairs of points ──
-  points-fives : (ps : List (Two Point)) → AllowsPoints u free ps → Every (IsPair u) ps × Fives (map pointBits ps)
+  points-fives : (ps : List (Two Point)) → AllowsPoints u free ps → Every (IsPair u) ps × Fives (map point_bits ps)
   points-fives ps k =
       let (v, f) = (iv-eight u k.symbols).0 k.allowed in
-      subst (λ (xs : List (Two Point)). Every (IsPair u) xs × Fives (map pointBits xs)) k.are (are-pairs k.symbols v, subst Fives (sym (all-bits k.symbols v)) f)
+      subst (λ (xs : List (Two Point)). Every (IsPair u) xs × Fives (map point_bits xs)) k.are (are-pairs k.symbols v, subst Fives (sym (all-bits k.symbols v)) f)
 
-  fives-points : (ps : List (Two Point)) → Every (IsPair u) ps × Fives (map pointBits ps) → AllowsPoints u free ps
+  fives-points : (ps : List (Two Point)) → Every (IsPair u) ps × Fives (map point_bits ps) → AllowsPoints u free ps
   fives-points ps (h, f) =
       let s = symbols-of ps h in
-      let g : Fives (map bits_of s.symbols) = subst Fives (ap (map pointBits) (sym s.are) ∙ all-bits s.symbols s.valid) f in
+      let g : Fives (map bits_of s.symbols) = subst Fives (ap (map point_bits) (sym s.are) ∙ all-bits s.symbols s.valid) f in
       record { symbols = s.symbols; are = s.are; allowed = (iv-eight u s.symbols).1 (s.valid, g) }
 
-  pub points-iv-eight : (ps : List (Two Point)) → AllowsPoints u free ps ↔ (Every (IsPair u) ps × Fives (map pointBits ps))
+  pub points-iv-eight : (ps : List (Two Point)) → AllowsPoints u free ps ↔ (Every (IsPair u) ps × Fives (map point_bits ps))
   points-iv-eight ps = (points-fives ps, fives-points ps)
 
   pub points-four : (ps : List (Two Point)) → Every (IsPair u) ps → length ps ≤ 4 → AllowsPoints u free ps

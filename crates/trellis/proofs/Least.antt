@@ -8,7 +8,7 @@ use native.Mathlib.Omega.{arith}
 use native.Mathlib.Decide.{ℕ_discrete}
 use lib.Dec.{ltb}
 use borrow.Author.Tests.{ltb-true, ltb-false}
-use Rattle.trellis.specs.Pick.{keepN, least}
+use Rattle.trellis.specs.Pick.{keep_n, least}
 
 pub record IsLeast (f : ℕ → ℕ) (n m : ℕ) : Type 0 where
   pub low : m ≤ n
@@ -43,7 +43,7 @@ module _ (f : ℕ → ℕ) where
         first w h z (yes e) = omega (arith, k.low)
         first w h z (no e) = k.is-first w (omega arith) z
 
-    more : (b : Bool) → ltb (f (suc n)) (f m) ≡ b → IsLeast f (suc n) (keepN b m (suc n))
+    more : (b : Bool) → ltb (f (suc n)) (f m) ≡ b → IsLeast f (suc n) (keep_n b m (suc n))
     more true e = new (ltb-true (f (suc n)) (f m) e)
     more false e = old (ltb-false (f (suc n)) (f m) e)
 

@@ -19,8 +19,8 @@ use Rattle.trellis.specs.Code.{Code, Path, begin, step, last, symbols, Allowed, 
 use Rattle.trellis.specs.Best.{Best}
 use Rattle.trellis.specs.Search.{Search, Laws}
 use Rattle.trellis.specs.Common.{common, reach}
-use Rattle.trellis.specs.Measure.{Start, free, named, GoodStart, Measure, weiCode}
-use Rattle.trellis.specs.Pick.{Choice, Chooses, befores, weiSearch}
+use Rattle.trellis.specs.Measure.{Start, free, named, GoodStart, Measure, wei_code}
+use Rattle.trellis.specs.Pick.{Choice, Chooses, befores, wei_search}
 use Rattle.trellis.proofs.Lists.{prefix-take, beyond-snoc}
 use Rattle.trellis.proofs.Optimal.{allowed-below}
 use Rattle.trellis.proofs.Answer.{reached-best}
@@ -30,9 +30,9 @@ use Rattle.trellis.proofs.Onward.{some-reached}
 use Rattle.trellis.proofs.Branches.{befores-lead, low-before, before-low}
 use Rattle.trellis.proofs.WeiLaws.{wei-laws, wei-onward}
 use Rattle.trellis.proofs.Subsets.{step-bits, picks-same}
-use Rattle.wei.specs.State.{bitW4, nextState, carryI1, carryI2, between}
+use Rattle.wei.specs.State.{bit_w4, next_state, carry_i1, carry_i2, between}
 use Rattle.wei.specs.Symbol.{Symbol, Carries}
-use Rattle.wei.proofs.States.{carryI1-below, carryI2-below}
+use Rattle.wei.proofs.States.{carry_i1-below, carry_i2-below}
 
 -- ── two best sequences that end in different symbols ──
 pub record Apart {K : Code} (S : Search K) (y : K.Y) (ys : List K.Y) : Type 0 where
@@ -79,39 +79,39 @@ module _ (u : ℕ) (M : Measure) where
   -- some symbol carries a state to each state that it stands before
   between-symbol : (s t : ℕ) → t < 16 → In s (befores t) → (c : Symbol) × Carries u s t c
   between-symbol s t h m = (
-    record { y0 = bitW4 s; i1 = carryI1 s t; i2 = carryI2 s t; i3 = 0; w1 = 0; w2 = 0 },
+    record { y0 = bit_w4 s; i1 = carry_i1 s t; i2 = carry_i2 s t; i3 = 0; w1 = 0; w2 = 0 },
     record {
-      valid = record { y0-below = omega arith; i1-below = carryI1-below s t; i2-below = carryI2-below s t; i3-below = omega arith; w1-below = pow_pos u; w2-below = pow_pos u };
+      valid = record { y0-below = omega arith; i1-below = carry_i1-below s t; i2-below = carry_i2-below s t; i3-below = omega arith; w1-below = pow_pos u; w2-below = pow_pos u };
       parity = refl;
       leads = befores-lead s t h m;
     },
   )
 
-  onward : (b : Start) (y : Heard) (ys : List Heard) (s t : ℕ) → t < 16 → In s (befores t) → Reached (weiCode u M b) ys s → Reached (weiCode u M b) (y ∷ ys) t
+  onward : (b : Start) (y : Heard) (ys : List Heard) (s t : ℕ) → t < 16 → In s (befores t) → Reached (wei_code u M b) ys s → Reached (wei_code u M b) (y ∷ ys) t
   onward b y ys s t h m r =
       let (c, k) = between-symbol s t h m in
       record { by = step r.by c t; allowed = (h, subst (λ (x : ℕ). Carries u x t c) (sym r.ends) k, r.allowed); ends = refl }
 
-  pub all-free : (ys : List Heard) (t : ℕ) → t < 16 → Reached (weiCode u M free) ys t
+  pub all-free : (ys : List Heard) (t : ℕ) → t < 16 → Reached (wei_code u M free) ys t
   all-free [] t h = record { by = begin t; allowed = (h, tt); ends = refl }
   all-free (y ∷ ys) t h = onward free y ys (t / 4) t h (low-before (t / 4) t (omega arith) (omega arith)) (all-free ys (t / 4) (omega arith))
 
   -- two steps lead anywhere
-  pub all-later : (b : Start) → GoodStart b → (y x : Heard) (ys : List Heard) (t : ℕ) → t < 16 → Reached (weiCode u M b) (y ∷ x ∷ ys) t
+  pub all-later : (b : Start) → GoodStart b → (y x : Heard) (ys : List Heard) (t : ℕ) → t < 16 → Reached (wei_code u M b) (y ∷ x ∷ ys) t
   all-later b g y x ys t h =
-      let (s, r) = some-reached (weiCode u M b) (wei-onward u M b g) ys in
-      let k : s < 16 = omega (arith, allowed-below (weiCode u M b) ys r.by r.allowed, r.ends) in
+      let (s, r) = some-reached (wei_code u M b) (wei-onward u M b g) ys in
+      let k : s < 16 = omega (arith, allowed-below (wei_code u M b) ys r.by r.allowed, r.ends) in
       let m = 4 * (s % 4) + t / 4 in
       onward b y (x ∷ ys) m t h (low-before m t (omega arith) (omega arith)) (onward b x ys s m (omega arith) (low-before s m k (omega arith)) r)
 
   module _ (n : ℕ) (h : n < 16) where
-    from_named : (y : Heard) (s : ℕ) → s < 16 → s / 4 ≡ n % 4 → Reached (weiCode u M (named n)) (y ∷ []) s
+    from_named : (y : Heard) (s : ℕ) → s < 16 → s / 4 ≡ n % 4 → Reached (wei_code u M (named n)) (y ∷ []) s
     from_named y s k e = onward (named n) y [] n s k (low-before n s h (sym e)) (record { by = begin n; allowed = (h, eqb_refl n); ends = refl })
 
-    only-named : (s : ℕ) (p : Path Symbol) → Best (weiCode u M (named n)) [] s p → s ≡ n
+    only-named : (s : ℕ) (p : Path Symbol) → Best (wei_code u M (named n)) [] s p → s ≡ n
     only-named s p b = go p b.allowed b.ends
       where
-        go : (p : Path Symbol) → Allowed (weiCode u M (named n)) [] p → last p ≡ s → s ≡ n
+        go : (p : Path Symbol) → Allowed (wei_code u M (named n)) [] p → last p ≡ s → s ≡ n
         go (begin t) a e = sym e ∙ eqb→eq t n a.1
         go (step p c t) a e = absurd a
 
@@ -119,7 +119,7 @@ module _ (u : ℕ) (M : Measure) where
 one-subset : (n s t : ℕ) → s < 16 → t < 16 → In n (befores s) → In n (befores t) → between n s ≡ between n t → s ≡ t
 one-subset n s t hs ht ms mt e =
     let (z₀, z₁, z₂) = step-bits n s n t e in
-    let z : nextState n (carryI1 n s) (carryI2 n s) ≡ nextState n (carryI1 n t) (carryI2 n t) = cc in
+    let z : next_state n (carry_i1 n s) (carry_i2 n s) ≡ next_state n (carry_i1 n t) (carry_i2 n t) = cc in
     sym (befores-lead n s hs ms) ∙ z ∙ befores-lead n t ht mt
 
 -- ── the symbols at the ends ──
@@ -127,11 +127,11 @@ module _ (u : ℕ) (M : Measure) (H : Choice M) (C : Chooses u M H) (same : (c d
   open M use {Heard}
 
   -- two reached states, whose last steps have different subsets
-  ends : (b : Start) (y : Heard) (ys : List Heard) (s t : ℕ) → Reached (weiCode u M b) (y ∷ ys) s → Reached (weiCode u M b) (y ∷ ys) t →
-      ((s' t' : ℕ) → In s' (befores s) → In t' (befores t) → (p q : Path Symbol) → Best (weiCode u M b) ys s' p → Best (weiCode u M b) ys t' q → between s' s ≡ between t' t → ⊥) →
-      Apart (weiSearch u M H same b) y ys
+  ends : (b : Start) (y : Heard) (ys : List Heard) (s t : ℕ) → Reached (wei_code u M b) (y ∷ ys) s → Reached (wei_code u M b) (y ∷ ys) t →
+      ((s' t' : ℕ) → In s' (befores s) → In t' (befores t) → (p q : Path Symbol) → Best (wei_code u M b) ys s' p → Best (wei_code u M b) ys t' q → between s' s ≡ between t' t → ⊥) →
+      Apart (wei_search u M H same b) y ys
   ends b y ys s t r q n =
-      let S = weiSearch u M H same b in
+      let S = wei_search u M H same b in
       let laws = wei-laws u M H C same b in
       let (p₁, b₁) = reached-best S laws (y ∷ ys) s r in
       let (p₂, b₂) = reached-best S laws (y ∷ ys) t q in
@@ -150,14 +150,14 @@ module _ (u : ℕ) (M : Measure) (H : Choice M) (C : Chooses u M H) (same : (c d
       }
 
   -- states 0 and 4 are entered with different Y0
-  zero-four : (b : Start) (y : Heard) (ys : List Heard) → Reached (weiCode u M b) (y ∷ ys) 0 → Reached (weiCode u M b) (y ∷ ys) 4 → Apart (weiSearch u M H same b) y ys
+  zero-four : (b : Start) (y : Heard) (ys : List Heard) → Reached (wei_code u M b) (y ∷ ys) 0 → Reached (wei_code u M b) (y ∷ ys) 4 → Apart (wei_search u M H same b) y ys
   zero-four b y ys r q = ends b y ys 0 4 r q (λ s t m l p₁ p₂ b₁ b₂ e. differ s t (before-low s 0 (omega arith) m) (before-low t 4 (omega arith) l) (step-bits s 0 t 4 e).0)
     where
-      differ : (s t : ℕ) → s % 4 ≡ 0 → t % 4 ≡ 1 → bitW4 s ≡ bitW4 t → ⊥
+      differ : (s t : ℕ) → s % 4 ≡ 0 → t % 4 ≡ 1 → bit_w4 s ≡ bit_w4 t → ⊥
       differ s t h k e = omega arith
 
   -- from a named start the two are entered from one state
-  named-two : (n : ℕ) → n < 16 → (y : Heard) → Apart (weiSearch u M H same (named n)) y []
+  named-two : (n : ℕ) → n < 16 → (y : Heard) → Apart (wei_search u M H same (named n)) y []
   named-two n h y =
       let hs : s < 16 = omega arith in
       let ht : t < 16 = omega arith in
@@ -176,10 +176,10 @@ module _ (u : ℕ) (M : Measure) (H : Choice M) (C : Chooses u M H) (same : (c d
           one-subset n s t hs ht (subst (λ (x : ℕ). In x (befores s)) e m) (subst (λ (x : ℕ). In x (befores t)) f l) (ap (λ (x : ℕ). between x s) (sym e) ∙ k ∙ ap (λ (x : ℕ). between x t) f) in
           omega arith
 
-  pub newest-apart : (b : Start) → GoodStart b → (y : Heard) (ys : List Heard) → Apart (weiSearch u M H same b) y ys
+  pub newest-apart : (b : Start) → GoodStart b → (y : Heard) (ys : List Heard) → Apart (wei_search u M H same b) y ys
   newest-apart free g y ys = zero-four free y ys (all-free u M (y ∷ ys) 0 (omega arith)) (all-free u M (y ∷ ys) 4 (omega arith))
   newest-apart (named n) g y [] = named-two n g y
   newest-apart (named n) g y (x ∷ ys) = zero-four (named n) y (x ∷ ys) (all-later u M (named n) g y x ys 0 (omega arith)) (all-later u M (named n) g y x ys 4 (omega arith))
 
-  pub newest-kept : (b : Start) → GoodStart b → (y : Heard) (ys : List Heard) → reach (weiSearch u M H same b) (y ∷ ys) ≤ length ys
-  newest-kept b g y ys = apart-short (weiSearch u M H same b) (wei-laws u M H C same b) y ys (newest-apart b g y ys)
+  pub newest-kept : (b : Start) → GoodStart b → (y : Heard) (ys : List Heard) → reach (wei_search u M H same b) (y ∷ ys) ≤ length ys
+  newest-kept b g y ys = apart-short (wei_search u M H same b) (wei-laws u M H C same b) y ys (newest-apart b g y ys)

@@ -10,7 +10,7 @@ use lib.Dec.{ltb}
 use borrow.Author.Tests.{ltb-true, ltb-false, lt-ltb, le-ltb}
 use Rattle.trellis.specs.Code.{Code, step}
 use Rattle.trellis.specs.Best.{Surv, absent, alive}
-use Rattle.trellis.specs.Choose.{keep, better, choose, mapS, raise, tag, bare, up, state_of}
+use Rattle.trellis.specs.Choose.{keep, better, choose, map_s, raise, tag, bare, up, state_of}
 use Rattle.trellis.specs.Search.{Search, Laws, range, extend, surv}
 use Rattle.trellis.specs.Cells.{acs, cell, end-state, Off}
 use Rattle.trellis.proofs.Lists.{state-below}
@@ -66,7 +66,7 @@ module _ {P : Type 0} where
   tag-bare t absent = refl
   tag-bare t (alive w p) = refl
 
-  tag-map : {Q : Type 0} (d t : ℕ) (g : P → Q) (o : Surv P) → tag t (raise d (mapS g o)) ≡ tag t (raise d o)
+  tag-map : {Q : Type 0} (d t : ℕ) (g : P → Q) (o : Surv P) → tag t (raise d (map_s g o)) ≡ tag t (raise d o)
   tag-map d t g absent = refl
   tag-map d t g (alive w p) = refl
 

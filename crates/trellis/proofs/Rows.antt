@@ -16,11 +16,11 @@ use Rattle.trellis.specs.Common.{lcps, live, common}
 use Rattle.trellis.proofs.Lists.{state-below}
 use Rattle.trellis.proofs.Select.{choose-ext}
 
-getD-range : {X : Type 0} (f : ℕ → X) (d : X) (a n i : ℕ) → i < n → get_or (map f (range a n)) i d ≡ f (a + i)
+get_or-range : {X : Type 0} (f : ℕ → X) (d : X) (a n i : ℕ) → i < n → get_or (map f (range a n)) i d ≡ f (a + i)
 unfolding range
-getD-range f d a zero i h = absurd (omega arith)
-getD-range f d a (suc n) zero h = ap f (let z : a ≡ a + 0 = omega arith in z)
-getD-range f d a (suc n) (suc i) h = getD-range f d (suc a) n i (omega arith) ∙ ap f (let z : suc a + i ≡ a + suc i = omega arith in z)
+get_or-range f d a zero i h = absurd (omega arith)
+get_or-range f d a (suc n) zero h = ap f (let z : a ≡ a + 0 = omega arith in z)
+get_or-range f d a (suc n) (suc i) h = get_or-range f d (suc a) n i (omega arith) ∙ ap f (let z : suc a + i ≡ a + suc i = omega arith in z)
 
 live-ext : {C : Type 0} (f g : ℕ → Surv (Path C)) (xs : List ℕ) → ((t : ℕ) → In t xs → f t ≡ g t) → live f xs ≡ live g xs
 unfolding live
@@ -40,7 +40,7 @@ module _ {K : Code} (S : Search K) where
 
   module _ (L : Laws S) where
     at-state : {X : Type 0} (f : ℕ → X) (d : X) (s : ℕ) → s < N → get_or (map f (range zero N)) s d ≡ f s
-    at-state f d s h = getD-range f d zero N s h ∙ ap f (let z : zero + s ≡ s = omega arith in z)
+    at-state f d s h = get_or-range f d zero N s h ∙ ap f (let z : zero + s ≡ s = omega arith in z)
 
     row_is : (ys : List Y) (s : ℕ) → s < N → get_or (row ys) s absent ≡ surv S ys s
     unfolding row surv

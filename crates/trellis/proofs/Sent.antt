@@ -13,7 +13,7 @@ use lib.ListN.{length, length-reverse}
 use Rattle.wei.specs.Symbol.{Symbol, AllowedFrom}
 use Rattle.trellis.specs.Lists.{Every}
 use Rattle.trellis.specs.Code.{Path, begin, step, symbols, Allowed}
-use Rattle.trellis.specs.Measure.{Start, mayStart, Measure, weiCode}
+use Rattle.trellis.specs.Measure.{Start, may_start, Measure, wei_code}
 use Rattle.trellis.proofs.Common.{path-length}
 use Rattle.trellis.proofs.Paths.{from-drawn}
 use Rattle.trellis.specs.Along.{Along}
@@ -52,21 +52,21 @@ along-valid Q R S f (x ∷ xs) (c ∷ cs) v h = (f x c v.0 h.0, along-valid Q R 
 module _ (u : ℕ) (M : Measure) (b : Start) (R : M.Heard → Symbol → Type 0) where
   open M use {Heard}
 
-  along-path : (ys : List Heard) (p : Path Symbol) → Allowed (weiCode u M b) ys p → Along R (reverse ys) (symbols p) → AlongPath R ys p
+  along-path : (ys : List Heard) (p : Path Symbol) → Allowed (wei_code u M b) ys p → Along R (reverse ys) (symbols p) → AlongPath R ys p
   along-path [] p a h = tt
   along-path (y ∷ ys) (begin s) a h = absurd a
   along-path (y ∷ ys) (step p c s) a h =
-      let l : length (reverse ys) ≡ length (symbols p) = length-reverse ys ∙ sym (path-length (weiCode u M b) ys p a.2) in
+      let l : length (reverse ys) ≡ length (symbols p) = length-reverse ys ∙ sym (path-length (wei_code u M b) ys p a.2) in
       let (r, z) = along-last R (reverse ys) (symbols p) y c l (rw (reverse-cons y ys) at h) in
       (z, along-path ys p a.2 r)
 
   pub record SentPath (xs : List Heard) (cs : List Symbol) : Type 0 where
     pub path : Path Symbol
-    pub allowed : Allowed (weiCode u M b) (reverse xs) path
+    pub allowed : Allowed (wei_code u M b) (reverse xs) path
     pub along : AlongPath R (reverse xs) path
     pub symbols-are : symbols path ≡ cs
 
-  pub sent-path : (s : ℕ) → s < 16 → T (mayStart b s) → (xs : List Heard) (cs : List Symbol) → Along R xs cs → AllowedFrom u s cs → SentPath xs cs
+  pub sent-path : (s : ℕ) → s < 16 → T (may_start b s) → (xs : List Heard) (cs : List Symbol) → Along R xs cs → AllowedFrom u s cs → SentPath xs cs
   sent-path s h t xs cs k a =
       let d = from-drawn u M b s cs h t a (reverse xs) (length-reverse xs ∙ along-length R xs cs k) in
       record {

@@ -9,7 +9,7 @@ use Rattle.trellis.specs.Code.{Code, Path, symbols, Onward}
 use Rattle.trellis.specs.Best.{Surv, Answer}
 use Rattle.trellis.specs.Search.{Search, Laws}
 use Rattle.trellis.specs.Common.{common, reach}
-use Rattle.trellis.specs.Speak.{speak, after, symbolsIn, spoken, carried, answered}
+use Rattle.trellis.specs.Speak.{speak, after, symbols_in, spoken, carried, answered}
 use Rattle.trellis.proofs.Answer.{answer-found}
 use Rattle.trellis.proofs.Final.{common-final}
 use Rattle.trellis.proofs.Common.{common-common, common-grows}
@@ -52,7 +52,7 @@ module _ {K : Code} (S : Search K) (L : Laws S) {B W : Type 0} (say : B → K.C 
 
   pub answered-is : (ys : List Y) (p : Path C) → Answer K ys p → answered S say on b ys ≡ speak say on b (symbols p)
   unfolding answered
-  answered-is ys p a = ap (λ (o : Surv (Path C)). speak say on b (symbolsIn o)) (answer-found S L ys p a)
+  answered-is ys p a = ap (λ (o : Surv (Path C)). speak say on b (symbols_in o)) (answer-found S L ys p a)
 
   -- zs are the symbols after ys, newest first
   pub spoken-grows : Onward K → (zs ys : List Y) → IsPrefix (spoken S say on b ys) (spoken S say on b (zs ++ ys))

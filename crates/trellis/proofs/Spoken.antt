@@ -17,11 +17,11 @@ use Rattle.trellis.specs.Best.{Answer, Longest}
 use Rattle.trellis.specs.Search.{Search, Laws}
 use Rattle.trellis.specs.Common.{reach}
 use Rattle.trellis.specs.Speak.{spoken}
-use Rattle.trellis.specs.Measure.{Start, GoodStart, Measure, weiCode}
-use Rattle.trellis.specs.Same.{sameSymbol}
-use Rattle.trellis.specs.Pick.{Choice, Chooses, weiSearch}
-use Rattle.trellis.specs.Words.{word, turnAfter, firstTurn, words}
-use Rattle.trellis.specs.Said.{spokenWords, answerWords}
+use Rattle.trellis.specs.Measure.{Start, GoodStart, Measure, wei_code}
+use Rattle.trellis.specs.Same.{same_symbol}
+use Rattle.trellis.specs.Pick.{Choice, Chooses, wei_search}
+use Rattle.trellis.specs.Words.{word, turn_after, first_turn, words}
+use Rattle.trellis.specs.Said.{spoken_words, answer_words}
 use Rattle.trellis.proofs.Common.{reach-le}
 use Rattle.trellis.proofs.Onward.{some-answer}
 use Rattle.trellis.proofs.Speak.{spoken-length, answered-is, spoken-grows, spoken-final}
@@ -31,7 +31,7 @@ use Rattle.trellis.proofs.IvEight.{allowed-valid}
 use Rattle.trellis.proofs.Paths.{allowed-runs}
 use Rattle.trellis.proofs.Newest.{newest-kept}
 use Rattle.trellis.proofs.Words.{words_are, every-word}
-use Rattle.wei.specs.Word.{isWord}
+use Rattle.wei.specs.Word.{is_word}
 use Rattle.wei.specs.Symbol.{Symbol, Valid}
 
 every-prefix : {A : Type 0} (P : A → Type 0) (l m : List A) → IsPrefix l m → Every P m → Every P l
@@ -45,49 +45,49 @@ module _ (u : ℕ) (M : Measure) (H : Choice M) (C : Chooses u M H) (b : Start) 
   open M use {Heard}
 
   abbrev K : Code
-  K = weiCode u M b
+  K = wei_code u M b
 
-  abbrev S : Search (weiCode u M b)
-  S = weiSearch u M H sameSymbol b
+  abbrev S : Search (wei_code u M b)
+  S = wei_search u M H same_symbol b
 
-  laws : Laws (weiSearch u M H sameSymbol b)
-  laws = wei-laws u M H C sameSymbol b
+  laws : Laws (wei_search u M H same_symbol b)
+  laws = wei-laws u M H C same_symbol b
 
-  on : Onward (weiCode u M b)
+  on : Onward (wei_code u M b)
   on = wei-onward u M b g
 
   -- ── what the words are ──
-  pub spoken-longest : (xs : List Heard) (l : List Symbol) → Longest (weiCode u M b) (reverse xs) l → spokenWords u M H b (reverse xs) ≡ words u b l
-  unfolding spokenWords spoken
+  pub spoken-longest : (xs : List Heard) (l : List Symbol) → Longest (wei_code u M b) (reverse xs) l → spoken_words u M H b (reverse xs) ≡ words u b l
+  unfolding spoken_words spoken
   spoken-longest xs l h = ap (words u b) (sym (T4-only S laws on xs l h))
 
-  pub answer-words : (xs : List Heard) (p : Path Symbol) → Answer (weiCode u M b) (reverse xs) p → answerWords u M H b (reverse xs) ≡ words u b (symbols p)
-  unfolding answerWords
-  answer-words xs p a = answered-is S laws (word u) turnAfter (firstTurn b) (reverse xs) p a
+  pub answer-words : (xs : List Heard) (p : Path Symbol) → Answer (wei_code u M b) (reverse xs) p → answer_words u M H b (reverse xs) ≡ words u b (symbols p)
+  unfolding answer_words
+  answer-words xs p a = answered-is S laws (word u) turn_after (first_turn b) (reverse xs) p a
 
   -- ── newest first ──
-  pub grows : (zs ys : List Heard) → IsPrefix (spokenWords u M H b ys) (spokenWords u M H b (zs ++ ys))
-  unfolding spokenWords
-  grows zs ys = spoken-grows S laws (word u) turnAfter (firstTurn b) on zs ys
+  pub grows : (zs ys : List Heard) → IsPrefix (spoken_words u M H b ys) (spoken_words u M H b (zs ++ ys))
+  unfolding spoken_words
+  grows zs ys = spoken-grows S laws (word u) turn_after (first_turn b) on zs ys
 
-  pub final : (zs ys : List Heard) → IsPrefix (spokenWords u M H b ys) (answerWords u M H b (zs ++ ys))
-  unfolding spokenWords answerWords
-  final zs ys = spoken-final S laws (word u) turnAfter (firstTurn b) on zs ys
+  pub final : (zs ys : List Heard) → IsPrefix (spoken_words u M H b ys) (answer_words u M H b (zs ++ ys))
+  unfolding spoken_words answer_words
+  final zs ys = spoken-final S laws (word u) turn_after (first_turn b) on zs ys
 
   -- ── in the order of time ──
-  pub spoken-answer : (xs zs : List Heard) → IsPrefix (spokenWords u M H b (reverse xs)) (answerWords u M H b (reverse (xs ++ zs)))
-  spoken-answer xs zs = subst (λ (ys : List Heard). IsPrefix (spokenWords u M H b (reverse xs)) (answerWords u M H b ys)) (sym (reverse-append xs zs)) (final (reverse zs) (reverse xs))
+  pub spoken-answer : (xs zs : List Heard) → IsPrefix (spoken_words u M H b (reverse xs)) (answer_words u M H b (reverse (xs ++ zs)))
+  spoken-answer xs zs = subst (λ (ys : List Heard). IsPrefix (spoken_words u M H b (reverse xs)) (answer_words u M H b ys)) (sym (reverse-append xs zs)) (final (reverse zs) (reverse xs))
 
   -- ── how many ──
-  pub spoken-reach : (ys : List Heard) → length (spokenWords u M H b ys) ≡ reach (weiSearch u M H sameSymbol b) ys
-  unfolding spokenWords
-  spoken-reach ys = spoken-length S laws (word u) turnAfter (firstTurn b) ys
+  pub spoken-reach : (ys : List Heard) → length (spoken_words u M H b ys) ≡ reach (wei_search u M H same_symbol b) ys
+  unfolding spoken_words
+  spoken-reach ys = spoken-length S laws (word u) turn_after (first_turn b) ys
 
-  pub spoken-pending : (y : Heard) (ys : List Heard) → length (spokenWords u M H b (y ∷ ys)) ≤ length ys
-  spoken-pending y ys = omega (arith, spoken-reach (y ∷ ys), newest-kept u M H C sameSymbol b g y ys)
+  pub spoken-pending : (y : Heard) (ys : List Heard) → length (spoken_words u M H b (y ∷ ys)) ≤ length ys
+  spoken-pending y ys = omega (arith, spoken-reach (y ∷ ys), newest-kept u M H C same_symbol b g y ys)
 
-  pub spoken-none : spokenWords u M H b [] ≡ []
-  spoken-none = none (spokenWords u M H b []) (omega (arith, spoken-reach [], reach-le S laws []))
+  pub spoken-none : spoken_words u M H b [] ≡ []
+  spoken-none = none (spoken_words u M H b []) (omega (arith, spoken-reach [], reach-le S laws []))
     where
       none : (l : List ℕ) → length l ≤ 0 → l ≡ []
       none [] h = refl
@@ -97,17 +97,17 @@ module _ (u : ℕ) (M : Measure) (H : Choice M) (C : Chooses u M H) (b : Start) 
   answer-valid : (ys : List Heard) (p : Path Symbol) → Answer K ys p → Every (Valid u) (symbols p)
   answer-valid ys p a = let r = allowed-runs u M b ys p a.allowed in allowed-valid u r.from (symbols p) r.allowed
 
-  pub answer-are : (ys : List Heard) → Every (λ n. isWord u n ≡ true) (answerWords u M H b ys)
-  unfolding answerWords
+  pub answer-are : (ys : List Heard) → Every (λ n. is_word u n ≡ true) (answer_words u M H b ys)
+  unfolding answer_words
   answer-are ys =
       let (p, a) = some-answer S laws on ys in
-      subst (Every (λ n. isWord u n ≡ true)) (sym (answered-is S laws (word u) turnAfter (firstTurn b) ys p a)) (words_are u (firstTurn b) (symbols p) (answer-valid ys p a))
+      subst (Every (λ n. is_word u n ≡ true)) (sym (answered-is S laws (word u) turn_after (first_turn b) ys p a)) (words_are u (first_turn b) (symbols p) (answer-valid ys p a))
 
-  pub spoken-are : (ys : List Heard) → Every (λ n. isWord u n ≡ true) (spokenWords u M H b ys)
-  spoken-are ys = every-prefix (λ n. isWord u n ≡ true) (spokenWords u M H b ys) (answerWords u M H b ys) (final [] ys) (answer-are ys)
+  pub spoken-are : (ys : List Heard) → Every (λ n. is_word u n ≡ true) (spoken_words u M H b ys)
+  spoken-are ys = every-prefix (λ n. is_word u n ≡ true) (spoken_words u M H b ys) (answer_words u M H b ys) (final [] ys) (answer-are ys)
 
-  pub answer-below : (ys : List Heard) → Every (λ n. n < 2 ^ (3 + 2 * u)) (answerWords u M H b ys)
-  answer-below ys = every-word u (answerWords u M H b ys) (answer-are ys)
+  pub answer-below : (ys : List Heard) → Every (λ n. n < 2 ^ (3 + 2 * u)) (answer_words u M H b ys)
+  answer-below ys = every-word u (answer_words u M H b ys) (answer-are ys)
 
-  pub spoken-below : (ys : List Heard) → Every (λ n. n < 2 ^ (3 + 2 * u)) (spokenWords u M H b ys)
-  spoken-below ys = every-word u (spokenWords u M H b ys) (spoken-are ys)
+  pub spoken-below : (ys : List Heard) → Every (λ n. n < 2 ^ (3 + 2 * u)) (spoken_words u M H b ys)
+  spoken-below ys = every-word u (spoken_words u M H b ys) (spoken-are ys)

@@ -17,13 +17,13 @@ use Rattle.trellis.specs.Best.{Surv, absent, alive, Best, Answer}
 use Rattle.trellis.specs.Choose.{raise, bare}
 use Rattle.trellis.specs.Search.{Search, Laws, surv}
 use Rattle.trellis.specs.Cells.{Off}
-use Rattle.trellis.specs.Measure.{Start, Measure, weiCode}
+use Rattle.trellis.specs.Measure.{Start, Measure, wei_code}
 use Rattle.trellis.proofs.Optimal.{allowed-below, best-below}
 use Rattle.trellis.proofs.Answer.{surv-best, best-surv, answer-best}
 use Rattle.trellis.proofs.Branches.{low-before, befores-lead}
-use Rattle.wei.specs.State.{bitW4, carryI1, carryI2}
+use Rattle.wei.specs.State.{bit_w4, carry_i1, carry_i2}
 use Rattle.wei.specs.Symbol.{Symbol, Carries}
-use Rattle.wei.proofs.States.{carryI1-below, carryI2-below}
+use Rattle.wei.proofs.States.{carry_i1-below, carry_i2-below}
 
 pub record Mixes (K : Code) : Type 0 where
   pub via : ℕ → ℕ → ℕ
@@ -96,17 +96,17 @@ abbrev mid : ℕ → ℕ → ℕ
 mid s t = 4 * (s % 4) + t / 4
 
 abbrev symbol : ℕ → ℕ → Symbol
-symbol s t = record { y0 = bitW4 s; i1 = carryI1 s t; i2 = carryI2 s t; i3 = 0; w1 = 0; w2 = 0 }
+symbol s t = record { y0 = bit_w4 s; i1 = carry_i1 s t; i2 = carry_i2 s t; i3 = 0; w1 = 0; w2 = 0 }
 
 symbol-carries : (u s t : ℕ) → s < 16 → t < 16 → s % 4 ≡ t / 4 → Carries u s t (symbol s t)
 symbol-carries u s t h k e =
     record {
-      valid = record { y0-below = omega arith; i1-below = carryI1-below s t; i2-below = carryI2-below s t; i3-below = omega arith; w1-below = pow_pos u; w2-below = pow_pos u };
+      valid = record { y0-below = omega arith; i1-below = carry_i1-below s t; i2-below = carry_i2-below s t; i3-below = omega arith; w1-below = pow_pos u; w2-below = pow_pos u };
       parity = refl;
       leads = befores-lead s t k (low-before s t h e);
     }
 
-pub wei-mixes : (u : ℕ) (M : Measure) (b : Start) → Mixes (weiCode u M b)
+pub wei-mixes : (u : ℕ) (M : Measure) (b : Start) → Mixes (wei_code u M b)
 wei-mixes u M b =
     record {
       via = mid;

@@ -2,7 +2,7 @@
 -- reached has nothing, never a sum of 0. Whatever stands beside the sums (sequences, states or nothing), the choice is one.
 --   better a b    the one with the smaller sum; a where the sums are equal
 --   choose f l    the best of f at the listed states, the first of equals
---   mapS g o      g of what stands beside the sum
+--   map_s g o      g of what stands beside the sum
 --   raise d o     the sum more by d
 --   tag s o       the state s beside the sum
 --   bare o        the sum alone
@@ -25,19 +25,19 @@ module _ {P : Type 0} where
   choose f [] = absent
   choose f (x ∷ xs) = better (f x) (choose f xs)
 
-  abbrev pub mapS : {Q : Type 0} → (P → Q) → Surv P → Surv Q
-  mapS g absent = absent
-  mapS g (alive w p) = alive w (g p)
+  abbrev pub map_s : {Q : Type 0} → (P → Q) → Surv P → Surv Q
+  map_s g absent = absent
+  map_s g (alive w p) = alive w (g p)
 
   abbrev pub raise : ℕ → Surv P → Surv P
   raise d absent = absent
   raise d (alive w p) = alive (w + d) p
 
   abbrev pub tag : ℕ → Surv P → Surv ℕ
-  tag s o = mapS (λ p. s) o
+  tag s o = map_s (λ p. s) o
 
   abbrev pub bare : Surv P → Surv (Unit {0})
-  bare o = mapS (λ p. tt) o
+  bare o = map_s (λ p. tt) o
 
   abbrev pub up : Surv P → Bool
   up absent = false

@@ -7,20 +7,20 @@
 --   Fives bs              for each five in a row
 --   bits_of c              the bits of a symbol
 --   label_of p             the label of a point, from its coordinates modulo 4
---   labelBits l m         the bits that two labels give
---   pointBits pq          the bits that the labels of two points give
+--   label_bits l m         the bits that two labels give
+--   point_bits pq          the bits that the labels of two points give
 --   points_of c            the two points of a symbol
 --   IsPoint u p           p is a point of the map at width u; IsPair: both of a pair are
 --   AllowsPoints u b ps   ps are the points of symbols that the start b allows
 use Rattle.std.specs.Prelude.{◌≡◌, Bool, true, false, List, [], ◌∷◌, map, ℕ, ◌+◌, ◌/◌, ◌%◌, ◌^◌, ◌<◌, eqb}
 use Rattle.trellis.specs.Measure.{Start, Two}
 use Rattle.trellis.specs.Allowed.{Allows}
-use Rattle.wei.specs.Label.{turnFrom}
+use Rattle.wei.specs.Label.{turn_from}
 use Rattle.wei.specs.Symbol.{Symbol}
 use Rattle.points.specs.declared.Point.{Point}
 use Rattle.points.specs.Points.{mod4}
 use Rattle.points.specs.Turn.{point_of}
-use Rattle.points.specs.Pair.{firstPoint, secondPoint}
+use Rattle.points.specs.Pair.{first_point, second_point}
 
 pub record Bits : Type 0 where
   pub y0 : ℕ
@@ -51,24 +51,24 @@ bits_of c = record { y0 = c.y0; i1 = c.i1; i2 = c.i2 }
 
 -- ── pairs of points ──
 -- "Modulo 4 the pair (x, y) is (1,1) in A, (1,3) in C, (3,3) in B, (3,1) in D"
-abbrev pub labelBy : Bool → Bool → ℕ
-labelBy false false = 0
-labelBy false true = 1
-labelBy true true = 2
-labelBy true false = 3
+abbrev pub label_by : Bool → Bool → ℕ
+label_by false false = 0
+label_by false true = 1
+label_by true true = 2
+label_by true false = 3
 
 unfoldable pub label_of : Point → ℕ
-label_of p = labelBy (eqb (mod4 p.x) 3) (eqb (mod4 p.y) 3)
+label_of p = label_by (eqb (mod4 p.x) 3) (eqb (mod4 p.y) 3)
 
 -- "first q, second q + Y0 + 2·I1 modulo 4": the difference of the labels is Y0 + 2·I1, and I2' is the low bit of q
-abbrev pub labelBits : ℕ → ℕ → Bits
-labelBits l m = record { y0 = turnFrom l m % 2; i1 = turnFrom l m / 2; i2 = l % 2 }
+abbrev pub label_bits : ℕ → ℕ → Bits
+label_bits l m = record { y0 = turn_from l m % 2; i1 = turn_from l m / 2; i2 = l % 2 }
 
-abbrev pub pointBits : Two Point → Bits
-pointBits pq = labelBits (label_of pq.first) (label_of pq.second)
+abbrev pub point_bits : Two Point → Bits
+point_bits pq = label_bits (label_of pq.first) (label_of pq.second)
 
 abbrev pub points_of : Symbol → Two Point
-points_of c = record { first = firstPoint c; second = secondPoint c }
+points_of c = record { first = first_point c; second = second_point c }
 
 pub record IsPoint (u : ℕ) (p : Point) : Type 0 where
   pub label : ℕ

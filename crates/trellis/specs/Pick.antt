@@ -4,28 +4,28 @@
 --   Choice M            a symbol of each subset Y0, I1, I2', for what was heard
 --   Chooses u M H       that choice is the first of its subset, by distance and then by the order of ties
 --   befores t           the four states before t, rising
---   weiSearch u M H same b   the search
+--   wei_search u M H same b   the search
 --   near u d p l        the nearest number of label l to the received point p, the smaller of equals
 --   gap_of u d p l       its true distance
---   typeSum u d n y y0 i1 i2 i3   what the nearest symbol with these bits counts for, by n
---   bestI3 u d n y y0 i1 i2       the nearer of the two types of a subset, the smaller I3' of equals
---   bestOf u d n y y0 i1 i2       the best symbol of a subset: the choice for the measure of two points
---   pairSearch u d n b  the search with that choice
+--   type_sum u d n y y0 i1 i2 i3   what the nearest symbol with these bits counts for, by n
+--   best_i3 u d n y y0 i1 i2       the nearer of the two types of a subset, the smaller I3' of equals
+--   best_of u d n y y0 i1 i2       the best symbol of a subset: the choice for the measure of two points
+--   pair_search u d n b  the search with that choice
 use Rattle.std.specs.Prelude.{ℕ, zero, suc, ◌+◌, ◌-◌, ◌^◌, ◌<◌, ◌≡◌, Bool, true, false, List, [], ◌∷◌, ltb}
 use Rattle.trellis.specs.Search.{Search}
-use Rattle.trellis.specs.Measure.{Start, Measure, First, weiCode, Two, pairs}
-use Rattle.trellis.specs.Same.{sameSymbol}
-use Rattle.wei.specs.State.{bitW4, before, carryI1, carryI2}
-use Rattle.wei.specs.Label.{turn_of, secondLabel}
+use Rattle.trellis.specs.Measure.{Start, Measure, First, wei_code, Two, pairs}
+use Rattle.trellis.specs.Same.{same_symbol}
+use Rattle.wei.specs.State.{bit_w4, before, carry_i1, carry_i2}
+use Rattle.wei.specs.Label.{turn_of, second_label}
 use Rattle.wei.specs.Symbol.{Symbol}
 
-abbrev pub keepN : Bool → ℕ → ℕ → ℕ
-keepN true a b = b
-keepN false a b = a
+abbrev pub keep_n : Bool → ℕ → ℕ → ℕ
+keep_n true a b = b
+keep_n false a b = a
 
 unfoldable pub least : (ℕ → ℕ) → ℕ → ℕ
 least f zero = zero
-least f (suc n) = keepN (ltb (f (suc n)) (f (least f n))) (least f n) (suc n)
+least f (suc n) = keep_n (ltb (f (suc n)) (f (least f n))) (least f n) (suc n)
 
 abbrev pub Choice : Measure → Type 0
 Choice M = M.Heard → ℕ → ℕ → ℕ → Symbol
@@ -43,8 +43,8 @@ pub record Chooses (u : ℕ) (M : Measure) (H : Choice M) : Type 0 where
 abbrev pub befores : ℕ → List ℕ
 befores t = before t 0 ∷ before t 1 ∷ before t 2 ∷ before t 3 ∷ []
 
-abbrev pub weiSearch : (u : ℕ) (M : Measure) (H : Choice M) (same : (c d : Symbol) → Dec (c ≡ d)) (b : Start) → Search (weiCode u M b)
-weiSearch u M H same b = record { preds = befores; pick = λ y s t. H y (bitW4 s) (carryI1 s t) (carryI2 s t); same = same }
+abbrev pub wei_search : (u : ℕ) (M : Measure) (H : Choice M) (same : (c d : Symbol) → Dec (c ≡ d)) (b : Start) → Search (wei_code u M b)
+wei_search u M H same b = record { preds = befores; pick = λ y s t. H y (bit_w4 s) (carry_i1 s t) (carry_i2 s t); same = same }
 
 module _ {P : Type 0} (u : ℕ) (d : P → ℕ → ℕ → ℕ) where
   unfoldable pub near : P → ℕ → ℕ
@@ -54,16 +54,16 @@ module _ {P : Type 0} (u : ℕ) (d : P → ℕ → ℕ → ℕ) where
   gap_of p l = d p l (near p l)
 
   module _ (count : ℕ → ℕ) where
-    unfoldable pub typeSum : Two P → ℕ → ℕ → ℕ → ℕ → ℕ
-    typeSum y y0 i1 i2 i3 = count (gap_of y.first (turn_of i2 i3)) + count (gap_of y.second (secondLabel (turn_of i2 i3) y0 i1))
+    unfoldable pub type_sum : Two P → ℕ → ℕ → ℕ → ℕ → ℕ
+    type_sum y y0 i1 i2 i3 = count (gap_of y.first (turn_of i2 i3)) + count (gap_of y.second (second_label (turn_of i2 i3) y0 i1))
 
-    unfoldable pub bestI3 : Two P → ℕ → ℕ → ℕ → ℕ
-    bestI3 y y0 i1 i2 = least (typeSum y y0 i1 i2) 1
+    unfoldable pub best_i3 : Two P → ℕ → ℕ → ℕ → ℕ
+    best_i3 y y0 i1 i2 = least (type_sum y y0 i1 i2) 1
 
-    unfoldable pub bestOf : Two P → ℕ → ℕ → ℕ → Symbol
-    bestOf y y0 i1 i2 =
-        let i3 = bestI3 y y0 i1 i2 in
-        record { y0 = y0; i1 = i1; i2 = i2; i3 = i3; w1 = near y.first (turn_of i2 i3); w2 = near y.second (secondLabel (turn_of i2 i3) y0 i1) }
+    unfoldable pub best_of : Two P → ℕ → ℕ → ℕ → Symbol
+    best_of y y0 i1 i2 =
+        let i3 = best_i3 y y0 i1 i2 in
+        record { y0 = y0; i1 = i1; i2 = i2; i3 = i3; w1 = near y.first (turn_of i2 i3); w2 = near y.second (second_label (turn_of i2 i3) y0 i1) }
 
-abbrev pub pairSearch : {P : Type 0} (u : ℕ) (d : P → ℕ → ℕ → ℕ) (count : ℕ → ℕ) (b : Start) → Search (weiCode u (pairs P d count) b)
-pairSearch {P} u d count b = weiSearch u (pairs P d count) (bestOf u d count) sameSymbol b
+abbrev pub pair_search : {P : Type 0} (u : ℕ) (d : P → ℕ → ℕ → ℕ) (count : ℕ → ℕ) (b : Start) → Search (wei_code u (pairs P d count) b)
+pair_search {P} u d count b = wei_search u (pairs P d count) (best_of u d count) same_symbol b

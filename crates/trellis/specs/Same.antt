@@ -1,7 +1,7 @@
 -- Whether two symbols are one, decided number by number.
 --   numbers c        the six numbers of a symbol
 --   same_list l m     two lists of numbers are one, or are not
---   sameSymbol c d   two symbols are one, or are not
+--   same_symbol c d   two symbols are one, or are not
 use Rattle.std.specs.Prelude.{◌≡◌, refl, List, [], ◌∷◌, ℕ}
 use Rattle.std.proofs.Common.{ap, arith}
 use Rattle.std.proofs.Math.Decide.{ℕ_discrete}
@@ -32,9 +32,9 @@ same_list (a ∷ l) (b ∷ m) = go (ℕ_discrete a b) (same_list l m)
     go (yes e) (no f) = no (λ z. f (cc))
     go (no e) d = no (λ z. e (cc))
 
-unfoldable pub sameSymbol : (c d : Symbol) → Dec (c ≡ d)
+unfoldable pub same_symbol : (c d : Symbol) → Dec (c ≡ d)
 unfolding same_list
-sameSymbol c d = go (same_list (numbers c) (numbers d))
+same_symbol c d = go (same_list (numbers c) (numbers d))
   where
     go : Dec (numbers c ≡ numbers d) → Dec (c ≡ d)
     go (yes e) = yes (numbers-fix c d e)

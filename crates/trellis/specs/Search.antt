@@ -14,7 +14,7 @@ use Rattle.trellis.specs.Lists.{In}
 use Rattle.trellis.specs.Code.{Code, Path, begin, step}
 use Rattle.trellis.specs.Order.{Antisym}
 use Rattle.trellis.specs.Best.{Surv, absent, alive}
-use Rattle.trellis.specs.Choose.{choose, mapS, raise}
+use Rattle.trellis.specs.Choose.{choose, map_s, raise}
 
 abbrev pub Sorted : List ℕ → Type 0
 Sorted [] = Unit {0}
@@ -54,7 +54,7 @@ module _ {K : Code} (S : Search K) where
   open S use {preds, pick}
 
   abbrev pub extend : Y → ℕ → ℕ → Surv (Path C) → Surv (Path C)
-  extend y s t o = raise (dist y (pick y t s)) (mapS (λ p. step p (pick y t s) s) o)
+  extend y s t o = raise (dist y (pick y t s)) (map_s (λ p. step p (pick y t s) s) o)
 
   unfoldable pub surv : List Y → ℕ → Surv (Path C)
   surv [] s = first (start s) s

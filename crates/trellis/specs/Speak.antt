@@ -21,9 +21,9 @@ module _ {B C : Type 0} where
   after on b (c ∷ cs) = after on (on b c) cs
 
 -- the symbols of what was found
-abbrev pub symbolsIn : {C : Type 0} → Surv (Path C) → List C
-symbolsIn absent = []
-symbolsIn (alive w p) = symbols p
+abbrev pub symbols_in : {C : Type 0} → Surv (Path C) → List C
+symbols_in absent = []
+symbols_in (alive w p) = symbols p
 
 module _ {K : Code} (S : Search K) {B : Type 0} where
   unfoldable pub spoken : {W : Type 0} → (B → K.C → W) → (B → K.C → B) → B → List K.Y → List W
@@ -33,4 +33,4 @@ module _ {K : Code} (S : Search K) {B : Type 0} where
   carried on b ys = after on b (common S ys)
 
   unfoldable pub answered : {W : Type 0} → (B → K.C → W) → (B → K.C → B) → B → List K.Y → List W
-  answered say on b ys = speak say on b (symbolsIn (answer S ys))
+  answered say on b ys = speak say on b (symbols_in (answer S ys))

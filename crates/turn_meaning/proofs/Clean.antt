@@ -7,17 +7,17 @@ use mathlib.Core.List.{List, reverse}
 use lib.Dec.{T}
 use Rattle.wei.specs.Symbol.{Symbol, AllowedFrom}
 use Rattle.trellis.specs.Lists.{Every}
-use Rattle.trellis.specs.Measure.{Start, mayStart, Measure, weiCode}
+use Rattle.trellis.specs.Measure.{Start, may_start, Measure, wei_code}
 use Rattle.trellis.specs.Clean.{Hits, Exact}
 use Rattle.trellis.proofs.Lists.{every-reverse}
 use Rattle.trellis.proofs.Clean.{one-zero, sent-zero}
 use Rattle.turn_meaning.specs.Alone.{Alone}
 
-module _ (u : ℕ) (M : Measure) (b : Start) (s : ℕ) (h : s < 16) (t : T (mayStart b s)) where
+module _ (u : ℕ) (M : Measure) (b : Start) (s : ℕ) (h : s < 16) (t : T (may_start b s)) where
   open M use {Heard}
 
   pub clean-alone : (xs : List Heard) (cs : List Symbol) → Every (Exact u M) xs → Hits M xs cs → AllowedFrom u s cs →
-      Alone (weiCode u M b) (reverse xs)
+      Alone (wei_code u M b) (reverse xs)
   clean-alone xs cs E k a p q m n =
       let (r, c, z, e) = sent-zero u M b s h t xs cs k a in
       one-zero u M b (reverse xs) (every-reverse (Exact u M) xs E) p q m.allowed n.allowed

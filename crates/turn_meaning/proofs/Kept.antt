@@ -7,26 +7,26 @@ use Prim.Native.Nat.{ℕ, zero, suc}
 use Rattle.wei.specs.Symbol.{Symbol, Valid}
 use Rattle.trellis.specs.Lists.{Every}
 use Rattle.trellis.specs.Code.{Code, Path, symbols, Allowed}
-use Rattle.trellis.specs.Measure.{free, Two, pairs, weiCode}
+use Rattle.trellis.specs.Measure.{free, Two, pairs, wei_code}
 use Rattle.trellis.specs.Words.{words}
 use Rattle.trellis.proofs.IvEight.{allowed-valid}
 use Rattle.trellis.proofs.Paths.{allowed-runs}
 use Rattle.turn_meaning.specs.Alone.{IsNearest, Alone}
-use Rattle.turn_meaning.specs.Turned.{times, twoTurned}
-use Rattle.turn_meaning.proofs.Symmetry.{Symmetry, turnedPath, symbols-turned, turned-nearest, turned-alone}
+use Rattle.turn_meaning.specs.Turned.{times, two_turned}
+use Rattle.turn_meaning.proofs.Symmetry.{Symmetry, turned_path, symbols-turned, turned-nearest, turned-alone}
 use Rattle.turn_meaning.proofs.Wei.{Turns, quarter}
 use Rattle.turn_meaning.proofs.Words.{Kept}
 
 module _ {P : Type 0} (u : ℕ) (d : P → ℕ → ℕ → ℕ) (n : ℕ → ℕ) (tp : P → P) (tw : ℕ → ℕ) (T : Turns u d tp tw) where
   abbrev K : Code
-  K = weiCode u (pairs P d n) free
+  K = wei_code u (pairs P d n) free
 
   abbrev S : Symmetry K
   S = quarter u d n tp tw T
 
   -- what is turned k times
   abbrev after : ℕ → List (Two P) → List (Two P)
-  after k ys = map (times (twoTurned tp) k) ys
+  after k ys = map (times (two_turned tp) k) ys
 
   symbols-valid : (ys : List (Two P)) (p : Path Symbol) → Allowed K ys p → Every (Valid u) (symbols p)
   symbols-valid ys p a =
@@ -38,7 +38,7 @@ module _ {P : Type 0} (u : ℕ) (d : P → ℕ → ℕ → ℕ) (n : ℕ → ℕ
     abbrev said : Path Symbol → List ℕ
     said p = map f (words u free (symbols p))
 
-    said-turned : (ys : List (Two P)) (p : Path Symbol) → IsNearest K ys p → said (turnedPath S p) ≡ said p
+    said-turned : (ys : List (Two P)) (p : Path Symbol) → IsNearest K ys p → said (turned_path S p) ≡ said p
     unfolding quarter
     said-turned ys p m =
         ap (λ (l : List Symbol). map f (words u free l)) (symbols-turned S p) ∙ kept (symbols p) (symbols-valid ys p m.allowed)
@@ -57,8 +57,8 @@ module _ {P : Type 0} (u : ℕ) (d : P → ℕ → ℕ → ℕ) (n : ℕ → ℕ
         record { path = p; nearest = subst (λ (l : List (Two P)). IsNearest K l p) e m; alone = subst (Alone K) e A; same = refl }
     all-turns (suc k) ys p A m =
         let r = all-turns k ys p A m in
-        let e : map (twoTurned tp) (after k ys) ≡ after (suc k) ys = map-map (twoTurned tp) (times (twoTurned tp) k) ys in
-        let q = turnedPath S r.path in
+        let e : map (two_turned tp) (after k ys) ≡ after (suc k) ys = map-map (two_turned tp) (times (two_turned tp) k) ys in
+        let q = turned_path S r.path in
         record {
           path = q;
           nearest = subst (λ (l : List (Two P)). IsNearest K l q) e (turned-nearest S (after k ys) r.path r.nearest);

@@ -2,7 +2,7 @@
 -- turns are none. So a turn takes the allowed sequences for a list to those for the turned list, each with its sum, and what is
 -- nearest alone stays so.
 --   Symmetry K        such a turn
---   turnedPath S p    the sequence p turned
+--   turned_path S p    the sequence p turned
 --   answer-nearest    the answer is nearest
 --   turned-nearest    a nearest sequence, turned, is nearest for what was turned
 --   turned-alone      and if no second symbol sequence is as near, none is after the turn
@@ -42,25 +42,25 @@ module _ {K : Code} (S : Symmetry K) where
   open K use {Y, C, N, Branch}
   open S use {heard, candidate, state}
 
-  unfoldable pub turnedPath : Path C → Path C
-  turnedPath (begin s) = begin (state s)
-  turnedPath (step p c s) = step (turnedPath p) (candidate c) (state s)
+  unfoldable pub turned_path : Path C → Path C
+  turned_path (begin s) = begin (state s)
+  turned_path (step p c s) = step (turned_path p) (candidate c) (state s)
 
   -- ---- one sequence
 
-  last-turned : (p : Path C) → last (turnedPath p) ≡ state (last p)
-  unfolding turnedPath
+  last-turned : (p : Path C) → last (turned_path p) ≡ state (last p)
+  unfolding turned_path
   last-turned (begin s) = refl
   last-turned (step p c s) = refl
 
-  pub symbols-turned : (p : Path C) → symbols (turnedPath p) ≡ map candidate (symbols p)
-  unfolding turnedPath
+  pub symbols-turned : (p : Path C) → symbols (turned_path p) ≡ map candidate (symbols p)
+  unfolding turned_path
   symbols-turned (begin s) = refl
   symbols-turned (step p c s) =
       ap (λ (l : List C). l ++ (candidate c ∷ [])) (symbols-turned p) ∙ sym (map-append candidate (symbols p) (c ∷ []))
 
-  allowed-turned : (ys : List Y) (p : Path C) → Allowed K ys p → Allowed K (map heard ys) (turnedPath p)
-  unfolding turnedPath
+  allowed-turned : (ys : List Y) (p : Path C) → Allowed K ys p → Allowed K (map heard ys) (turned_path p)
+  unfolding turned_path
   allowed-turned [] (begin s) a = (S.below s a.0, S.starts s a.1)
   allowed-turned [] (step p c s) a = absurd a
   allowed-turned (y ∷ ys) (begin s) a = absurd a
@@ -70,8 +70,8 @@ module _ {K : Code} (S : Symmetry K) where
     allowed-turned ys p a.2,
   )
 
-  sum-turned : (ys : List Y) (p : Path C) → Allowed K ys p → cost K (map heard ys) (turnedPath p) ≡ cost K ys p
-  unfolding turnedPath
+  sum-turned : (ys : List Y) (p : Path C) → Allowed K ys p → cost K (map heard ys) (turned_path p) ≡ cost K ys p
+  unfolding turned_path
   sum-turned [] p a = refl
   sum-turned (y ∷ ys) (begin s) a = absurd a
   sum-turned (y ∷ ys) (step p c s) a =
@@ -80,10 +80,10 @@ module _ {K : Code} (S : Symmetry K) where
   -- ---- three more turns lead back
 
   abbrev back : Path C → Path C
-  back = times turnedPath 3
+  back = times turned_path 3
 
-  symbols-back : (ys : List Y) (p : Path C) → Allowed K ys p → symbols (turnedPath (back p)) ≡ symbols p
-  unfolding turnedPath
+  symbols-back : (ys : List Y) (p : Path C) → Allowed K ys p → symbols (turned_path (back p)) ≡ symbols p
+  unfolding turned_path
   symbols-back [] (begin s) a = refl
   symbols-back [] (step p c s) a = absurd a
   symbols-back (y ∷ ys) (begin s) a = absurd a
@@ -92,13 +92,13 @@ module _ {K : Code} (S : Symmetry K) where
       (S.candidate-four (last p) s c (allowed-below K ys p a.2) a.0 a.1)
 
   -- allowed and summed as before, after any number of turns
-  allowed-times : (k : ℕ) (ys : List Y) (p : Path C) → Allowed K ys p → Allowed K (times (map heard) k ys) (times turnedPath k p)
+  allowed-times : (k : ℕ) (ys : List Y) (p : Path C) → Allowed K ys p → Allowed K (times (map heard) k ys) (times turned_path k p)
   allowed-times zero ys p a = a
-  allowed-times (suc k) ys p a = allowed-turned (times (map heard) k ys) (times turnedPath k p) (allowed-times k ys p a)
+  allowed-times (suc k) ys p a = allowed-turned (times (map heard) k ys) (times turned_path k p) (allowed-times k ys p a)
 
-  sum-times : (k : ℕ) (ys : List Y) (p : Path C) → Allowed K ys p → cost K (times (map heard) k ys) (times turnedPath k p) ≡ cost K ys p
+  sum-times : (k : ℕ) (ys : List Y) (p : Path C) → Allowed K ys p → cost K (times (map heard) k ys) (times turned_path k p) ≡ cost K ys p
   sum-times zero ys p a = refl
-  sum-times (suc k) ys p a = sum-turned (times (map heard) k ys) (times turnedPath k p) (allowed-times k ys p a) ∙ sum-times k ys p a
+  sum-times (suc k) ys p a = sum-turned (times (map heard) k ys) (times turned_path k p) (allowed-times k ys p a) ∙ sum-times k ys p a
 
   module _ (ys : List Y) where
     abbrev zs : List Y
@@ -115,7 +115,7 @@ module _ {K : Code} (S : Symmetry K) where
 
     -- ---- what is nearest
 
-    pub turned-nearest : (p : Path C) → IsNearest K ys p → IsNearest K zs (turnedPath p)
+    pub turned-nearest : (p : Path C) → IsNearest K ys p → IsNearest K zs (turned_path p)
     turned-nearest p n =
         record {
           allowed = allowed-turned ys p n.allowed;
@@ -126,7 +126,7 @@ module _ {K : Code} (S : Symmetry K) where
     back-nearest p n =
         record {
           allowed = allowed-back p n.allowed;
-          least = λ q a. omega (arith, sum_back p n.allowed, n.least (turnedPath q) (allowed-turned ys q a), sum-turned ys q a);
+          least = λ q a. omega (arith, sum_back p n.allowed, n.least (turned_path q) (allowed-turned ys q a), sum-turned ys q a);
         }
 
     -- the symbols of a sequence there are those of one here, turned

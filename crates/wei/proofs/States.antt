@@ -5,11 +5,11 @@
 use mathlib.Core.Path.{◌≡◌}
 use Prim.Native.Nat.{ℕ, ◌/◌, ◌<◌}
 use native.Mathlib.Omega.{arith}
-use Rattle.wei.specs.State.{nextState, before, carryI1, carryI2, between}
+use Rattle.wei.specs.State.{next_state, before, carry_i1, carry_i2, between}
 use Rattle.wei.proofs.Finite.{equal2, equal3}
 
-pub next-below : (s i1 i2 : ℕ) → nextState s i1 i2 < 16
-unfolding nextState
+pub next-below : (s i1 i2 : ℕ) → next_state s i1 i2 < 16
+unfolding next_state
 next-below s i1 i2 = omega arith
 
 pub before-below : (t k : ℕ) → t < 16 → k < 4 → before t k < 16
@@ -20,30 +20,30 @@ pub before-rises : (t j k : ℕ) → j < k → before t j < before t k
 unfolding before
 before-rises t j k h = omega arith
 
-pub carryI1-below : (s t : ℕ) → carryI1 s t < 2
-unfolding carryI1
-carryI1-below s t = omega arith
+pub carry_i1-below : (s t : ℕ) → carry_i1 s t < 2
+unfolding carry_i1
+carry_i1-below s t = omega arith
 
-pub carryI2-below : (s t : ℕ) → carryI2 s t < 2
-unfolding carryI2
-carryI2-below s t = omega arith
+pub carry_i2-below : (s t : ℕ) → carry_i2 s t < 2
+unfolding carry_i2
+carry_i2-below s t = omega arith
 
 pub between-below : (s t : ℕ) → between s t < 8
-unfolding between carryI1 carryI2
+unfolding between carry_i1 carry_i2
 between-below s t = omega arith
 
-pub leads : (t k : ℕ) → t < 16 → k < 4 → nextState (before t k) (carryI1 (before t k) t) (carryI2 (before t k) t) ≡ t
-unfolding nextState before carryI1 carryI2
-leads = equal2 16 4 (λ t k. nextState (before t k) (carryI1 (before t k) t) (carryI2 (before t k) t)) (λ t k. t) tt
+pub leads : (t k : ℕ) → t < 16 → k < 4 → next_state (before t k) (carry_i1 (before t k) t) (carry_i2 (before t k) t) ≡ t
+unfolding next_state before carry_i1 carry_i2
+leads = equal2 16 4 (λ t k. next_state (before t k) (carry_i1 (before t k) t) (carry_i2 (before t k) t)) (λ t k. t) tt
 
-pub comes-from : (s i1 i2 : ℕ) → s < 16 → i1 < 2 → i2 < 2 → before (nextState s i1 i2) (s / 4) ≡ s
-unfolding nextState before
-comes-from = equal3 16 2 2 (λ s a b. before (nextState s a b) (s / 4)) (λ s a b. s) tt
+pub comes-from : (s i1 i2 : ℕ) → s < 16 → i1 < 2 → i2 < 2 → before (next_state s i1 i2) (s / 4) ≡ s
+unfolding next_state before
+comes-from = equal3 16 2 2 (λ s a b. before (next_state s a b) (s / 4)) (λ s a b. s) tt
 
-pub only-i1 : (s i1 i2 : ℕ) → s < 16 → i1 < 2 → i2 < 2 → carryI1 s (nextState s i1 i2) ≡ i1
-unfolding nextState carryI1
-only-i1 = equal3 16 2 2 (λ s a b. carryI1 s (nextState s a b)) (λ s a b. a) tt
+pub only-i1 : (s i1 i2 : ℕ) → s < 16 → i1 < 2 → i2 < 2 → carry_i1 s (next_state s i1 i2) ≡ i1
+unfolding next_state carry_i1
+only-i1 = equal3 16 2 2 (λ s a b. carry_i1 s (next_state s a b)) (λ s a b. a) tt
 
-pub only-i2 : (s i1 i2 : ℕ) → s < 16 → i1 < 2 → i2 < 2 → carryI2 s (nextState s i1 i2) ≡ i2
-unfolding nextState carryI2
-only-i2 = equal3 16 2 2 (λ s a b. carryI2 s (nextState s a b)) (λ s a b. b) tt
+pub only-i2 : (s i1 i2 : ℕ) → s < 16 → i1 < 2 → i2 < 2 → carry_i2 s (next_state s i1 i2) ≡ i2
+unfolding next_state carry_i2
+only-i2 = equal3 16 2 2 (λ s a b. carry_i2 s (next_state s a b)) (λ s a b. b) tt

@@ -15,7 +15,7 @@ use lib.Arith.{digits_div, digits_mod}
 use lib.Dec.{eqb, ltb}
 use borrow.Author.Tests.{lt-ltb, le-ltb, ltb-true, eq-eqb, ne_eqb}
 use Rattle.wei.specs.declared.word.Parts.{Parts}
-use Rattle.wei.specs.Word.{isWord, unpacked, packed, InRange}
+use Rattle.wei.specs.Word.{is_word, unpacked, packed, InRange}
 
 -- ---- shifts and masks
 
@@ -73,7 +73,7 @@ parts-range u n =
 three-bits : (n : ℕ) → n % 2 + 2 * (n / 2 % 2) + 4 * (n / 4 % 2) + 8 * (n / 8) ≡ n
 three-bits n = omega (arith, div-div-eq-div-mul n 2 2, div-div-eq-div-mul n 4 2)
 
-pub pack-unpack : (u n : ℕ) → isWord u n ≡ true → packed u (unpacked u n) ≡ n
+pub pack-unpack : (u n : ℕ) → is_word u n ≡ true → packed u (unpacked u n) ≡ n
 unfolding unpacked packed
 pack-unpack u n t =
     let h : n < 2 ^ (3 + u + u) = ltb-true n (2 ^ (3 + u + u)) t in
@@ -110,7 +110,7 @@ unpack-pack u p r =
       w2 = (ap (λ (k : ℕ). k / 2 ^ u % 2 ^ u) o ∙ ap (λ (k : ℕ). k % 2 ^ u) (digits_div p.w2 r.w1-below) ∙ mod-eq_of_lt r.w2-below) i;
     }
 
-pub packed-below : (u : ℕ) (p : Parts) → InRange u p → isWord u (packed u p) ≡ true
+pub packed-below : (u : ℕ) (p : Parts) → InRange u p → is_word u (packed u p) ≡ true
 unfolding packed
 packed-below u p r =
     let e : 2 ^ (3 + u + u) ≡ 8 * (2 ^ u * 2 ^ u) = pow-add 2 (3 + u) u ∙ ap (λ (k : ℕ). k * 2 ^ u) (pow-add 2 3 u) ∙ mul_assoc 8 (2 ^ u) (2 ^ u) in

@@ -1,17 +1,17 @@
 -- The tables of 000 as printed, with the one repair that 01 names: Table IV-6, row 1110, has `1011,101`. States and bit groups are
 -- written in binary, as there. That each is what the rules give is proved in proofs/Printed.
---   tableIV2    a row: Y0 I1 I2' I3', then Z0 and Z1 of the first point, Z0 and Z1 of the second
---   labelOfZ    Table IV-1: the label with the bits Z1 Z0
---   tableIV5    the next states of each state, at the inputs I1 I2' = 00, 01, 10, 11
---   tableIV6    the states that lead to each state, each followed by the subset Y0 I1 I2' of the step
+--   table_iv2    a row: Y0 I1 I2' I3', then Z0 and Z1 of the first point, Z0 and Z1 of the second
+--   label_of_z    Table IV-1: the label with the bits Z1 Z0
+--   table_iv5    the next states of each state, at the inputs I1 I2' = 00, 01, 10, 11
+--   table_iv6    the states that lead to each state, each followed by the subset Y0 I1 I2' of the step
 use Rattle.std.specs.Prelude.{ℕ, ◌+◌, ◌*◌, List, [], ◌∷◌}
 
 -- Table IV-1: A 00, C 01, B 10, D 11
-unfoldable pub labelOfZ : ℕ → ℕ → ℕ
-labelOfZ z1 z0 = 2 * z1 + z0
+unfoldable pub label_of_z : ℕ → ℕ → ℕ
+label_of_z z1 z0 = 2 * z1 + z0
 
-unfoldable pub tableIV2 : List (List ℕ)
-tableIV2 =
+unfoldable pub table_iv2 : List (List ℕ)
+table_iv2 =
     (0 ∷ 0 ∷ 0 ∷ 0 ∷ 0 ∷ 0 ∷ 0 ∷ 0 ∷ [])
     ∷ (0 ∷ 0 ∷ 0 ∷ 1 ∷ 0 ∷ 1 ∷ 0 ∷ 1 ∷ [])
     ∷ (0 ∷ 0 ∷ 1 ∷ 0 ∷ 1 ∷ 0 ∷ 1 ∷ 0 ∷ [])
@@ -30,8 +30,8 @@ tableIV2 =
     ∷ (1 ∷ 1 ∷ 1 ∷ 1 ∷ 1 ∷ 1 ∷ 0 ∷ 1 ∷ [])
     ∷ []
 
-unfoldable pub tableIV5 : List (List ℕ)
-tableIV5 =
+unfoldable pub table_iv5 : List (List ℕ)
+table_iv5 =
     (0b0000 ∷ 0b0010 ∷ 0b0001 ∷ 0b0011 ∷ [])
     ∷ (0b0100 ∷ 0b0110 ∷ 0b0101 ∷ 0b0111 ∷ [])
     ∷ (0b1001 ∷ 0b1011 ∷ 0b1000 ∷ 0b1010 ∷ [])
@@ -50,8 +50,8 @@ tableIV5 =
     ∷ (0b1110 ∷ 0b1100 ∷ 0b1111 ∷ 0b1101 ∷ [])
     ∷ []
 
-unfoldable pub tableIV6 : List (List ℕ)
-tableIV6 =
+unfoldable pub table_iv6 : List (List ℕ)
+table_iv6 =
     (0b0000 ∷ 0b000 ∷ 0b0100 ∷ 0b001 ∷ 0b1000 ∷ 0b010 ∷ 0b1100 ∷ 0b011 ∷ [])
     ∷ (0b0000 ∷ 0b010 ∷ 0b0100 ∷ 0b011 ∷ 0b1000 ∷ 0b000 ∷ 0b1100 ∷ 0b001 ∷ [])
     ∷ (0b0000 ∷ 0b001 ∷ 0b0100 ∷ 0b000 ∷ 0b1000 ∷ 0b011 ∷ 0b1100 ∷ 0b010 ∷ [])

@@ -1,15 +1,15 @@
 -- A word and its parts, from 01, "Words, labels, points": a word has 3 + 2u bits, bit 0 is I1, bit 1 is I2, bit 2 is I3, the next
 -- u bits are w1 (low bit first), the next u bits w2, and higher bits are zero. That packing and unpacking undo one another is
 -- proved in proofs/Words.
---   isWord u n     n has no bit at or above 3 + 2u
+--   is_word u n     n has no bit at or above 3 + 2u
 --   unpacked u n   the parts of the word n
 --   packed u p     the word with the parts p
 --   InRange u p    I1, I2 and I3 are bits, w1 and w2 have u bits each
 use Rattle.std.specs.Prelude.{ℕ, ◌+◌, ◌*◌, ◌/◌, ◌%◌, ◌^◌, ◌<◌, Bool, ltb}
 use Rattle.wei.specs.declared.word.Parts.{Parts}
 
-abbrev pub isWord : ℕ → ℕ → Bool
-isWord u n = ltb n (2 ^ (3 + u + u))
+abbrev pub is_word : ℕ → ℕ → Bool
+is_word u n = ltb n (2 ^ (3 + u + u))
 
 unfoldable pub unpacked : ℕ → ℕ → Parts
 unpacked u n = record { i1 = n % 2; i2 = n / 2 % 2; i3 = n / 4 % 2; w1 = n / 8 % 2 ^ u; w2 = n / 8 / 2 ^ u % 2 ^ u }

@@ -1,6 +1,6 @@
 // Labels A 0, C 1, B 2, D 3; the turn q = 2·I3' + I2'; the pair of labels of a symbol.
 ghost use Rattle.std.specs.Prelude.{◌≡◌, ◌≤◌, ◌<◌};
-ghost use Rattle.wei.specs.Label.{turnOn, turnSince, secondLabel, pair_of, type_of};
+ghost use Rattle.wei.specs.Label.{turn_on, turn_since, second_label, pair_of, type_of};
 
 // The labels of a symbol's two points.
 #[derive(Drop)]
@@ -12,7 +12,7 @@ pub struct LabelPair {
 // The new turn: the old one plus 2·I3 + I2, modulo 4.
 pub fn turn_on(q: u32, i2: u32, i3: u32) -> u32
     requires { (q < 4) × (i2 < 2) × (i3 < 2) }
-    ensures { result ≡ turnOn q i2 i3 }
+    ensures { result ≡ turn_on q i2 i3 }
 {
     (q + 2 * i3 + i2) & 3
 }
@@ -23,7 +23,7 @@ pub const UNKNOWN: u32 = 4;
 // The 2·I3 + I2 between two turns (IV-5); 0 where the one before is not known.
 pub fn turn_since(old: u32, new: u32) -> u32
     requires { (old ≤ 4) × (new < 4) }
-    ensures { result ≡ turnSince old new }
+    ensures { result ≡ turn_since old new }
 {
     if old == UNKNOWN {
         return 0;
@@ -34,7 +34,7 @@ pub fn turn_since(old: u32, new: u32) -> u32
 // The labels by the rule modulo 4: first q, second q + Y0 + 2·I1.
 pub fn labels(q: u32, y0: u32, i1: u32) -> LabelPair
     requires { (q < 4) × (y0 < 2) × (i1 < 2) }
-    ensures { result ≡ pair_of q (secondLabel q y0 i1) }
+    ensures { result ≡ pair_of q (second_label q y0 i1) }
 {
     LabelPair {
         first: q,

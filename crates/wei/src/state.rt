@@ -1,11 +1,11 @@
 // The encoder's state W1 W2 W3 W4 as the number 8·W1 + 4·W2 + 2·W3 + W4, its bits by shifts and masks.
 ghost use Rattle.std.specs.Prelude.{◌≡◌, ◌<◌};
-ghost use Rattle.wei.specs.State.{nextState, before, between};
+ghost use Rattle.wei.specs.State.{next_state, before, between};
 
 // The state after s, with I1 and I2'.
 pub fn next(s: u32, i1: u32, i2: u32) -> u32
     requires { (s < 16) × (i1 < 2) × (i2 < 2) }
-    ensures { result ≡ nextState s i1 i2 }
+    ensures { result ≡ next_state s i1 i2 }
 {
     let w1 = s >> 3;
     let w2 = (s >> 2) & 1;

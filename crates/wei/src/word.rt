@@ -1,7 +1,7 @@
 // Words of 3 + 2u bits, packed and unpacked by shifts and masks: bit 0 is I1, bit 1 is I2, bit 2 is I3, the next u bits are
 // w1, the next u bits are w2.
 ghost use Rattle.std.specs.Prelude.{◌≡◌, ◌≤◌};
-ghost use Rattle.wei.specs.Word.{isWord, unpacked, packed, InRange};
+ghost use Rattle.wei.specs.Word.{is_word, unpacked, packed, InRange};
 
 // A word's parts.
 #[derive(Drop)]
@@ -16,7 +16,7 @@ pub struct Parts {
 // Whether no bit stands at or above 3 + 2u.
 pub fn is_word(u: u32, word: u32) -> bool
     requires { u ≤ 8 }
-    ensures { result ≡ isWord u word }
+    ensures { result ≡ is_word u word }
 {
     word >> (3 + u + u) == 0
 }

@@ -3,11 +3,11 @@
 // It leans on the code's rules (crate wei) and on the table of points, which the caller makes once and lends. Whether there is such
 // a word, and whether the output has room, is the sender's to test.
 ghost use Rattle.std.specs.Prelude.{◌≡◌, true, ◌≤◌, ◌<◌, length, set};
-ghost use Rattle.wei.specs.State.{nextState};
-ghost use Rattle.wei.specs.Symbol.{firstLabel, symbol_of};
+ghost use Rattle.wei.specs.State.{next_state};
+ghost use Rattle.wei.specs.Symbol.{first_label, symbol_of};
 ghost use Rattle.points.specs.Points.{coordinates};
-ghost use Rattle.points.specs.Agreed.{isAccord};
-ghost use Rattle.maps.specs.PointMap.{first_at, secondAt};
+ghost use Rattle.points.specs.Agreed.{is_accord};
+ghost use Rattle.maps.specs.PointMap.{first_at, second_at};
 
 use points::{Accord, Point};
 
@@ -21,9 +21,9 @@ pub struct Symbol {
 }
 
 pub fn make(table: &[i8; 512], k: Accord, state: u32, turn: u32, word: u32) -> Symbol
-    requires { (table.now ≡ coordinates) × (isAccord k ≡ true) × (state < 16) × (turn < 4) }
+    requires { (table.now ≡ coordinates) × (is_accord k ≡ true) × (state < 16) × (turn < 4) }
     ensures { let y = symbol_of k.u state turn word in
-        result ≡ record { turn = firstLabel y; state = nextState state y.i1 y.i2; first = first_at k y; second = secondAt k y } }
+        result ≡ record { turn = first_label y; state = next_state state y.i1 y.i2; first = first_at k y; second = second_at k y } }
 {
     let map = k.map;
     let u = k.u;

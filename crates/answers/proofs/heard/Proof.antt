@@ -1,7 +1,7 @@
 -- `answers::heard`: the counts, the reason, the words and the end of the line.
 use native.Mathlib.Omega.{arith}
 use Rattle.page.proofs.Pages.{joined}
-use Rattle.answers.specs.Answer.{heardLine}
+use Rattle.answers.specs.Answer.{heard_line}
 use Rattle.phrases.proofs.Phrases.{counts-near, reason-near, said-near}
 use borrow.Author.Rules.{rules}
 use Rattle.answers.proofs.heard.Statement.{statement}
@@ -29,7 +29,7 @@ same_length : tie.Need-same-length
 same_length c = search rules
 
 returns : tie.Need-returns
-unfolding heardLine
+unfolding heard_line
 returns c =
     let at-said = c.before.before.before.before.before.before in
     let at-reason = at-said.before.before.before.before in

@@ -1,7 +1,7 @@
 -- `answers::list`: two numbers, the coordinates and the end of the line.
 use native.Mathlib.Omega.{arith}
 use Rattle.page.proofs.Pages.{joined}
-use Rattle.answers.specs.Answer.{listLine}
+use Rattle.answers.specs.Answer.{list_line}
 use Rattle.phrases.proofs.Phrases.{says-number, coordinates-near}
 use borrow.Author.Rules.{rules}
 use Rattle.answers.proofs.list.Statement.{statement}
@@ -26,7 +26,7 @@ same_length : tie.Need-same-length
 same_length c = search rules
 
 returns : tie.Need-returns
-unfolding listLine
+unfolding list_line
 returns c =
     let s = c.before.before.before.before.before.before in
     let m = s.before.before.before.before in

@@ -2,20 +2,20 @@
 use Prim.Native.Nat.{ℕ, zero, suc}
 use mathlib.Core.Path.{◌≡◌, refl, sym, ap}
 use Rattle.points.specs.declared.Map.TheVariants.{Round}
-use Rattle.c_layout.specs.Accords.{accordBy}
+use Rattle.c_layout.specs.Accords.{accord_by}
 use Rattle.c_layout.proofs.accord_by.Statement.{statement}
 use Rattle.c_layout.proofs.accord_by.Tie as tie
 
-none : (m u : ℕ) → (m ≡ 0 → ⊥) → (m ≡ 1 → ⊥) → record { map = Round; u = 9 } ≡ accordBy m u
+none : (m u : ℕ) → (m ≡ 0 → ⊥) → (m ≡ 1 → ⊥) → record { map = Round; u = 9 } ≡ accord_by m u
 none zero u a b = absurd (a refl)
 none (suc zero) u a b = absurd (b refl)
 none (suc (suc m)) u a b = refl
 
 returns : tie.Need-returns
-returns c = let s = c.before.args in sym (ap (λ (m : ℕ). accordBy m s.u) c.if1.true)
+returns c = let s = c.before.args in sym (ap (λ (m : ℕ). accord_by m s.u) c.if1.true)
 
 returns-2 : tie.Need-returns-2
-returns-2 c = let s = c.before.before.args in sym (ap (λ (m : ℕ). accordBy m s.u) c.if2.true)
+returns-2 c = let s = c.before.before.args in sym (ap (λ (m : ℕ). accord_by m s.u) c.if2.true)
 
 returns-3 : tie.Need-returns-3
 returns-3 c = let s = c.before.before.args in none s.map s.u c.before.if1.false c.if2.false

@@ -1,6 +1,6 @@
 -- `accord_in`: the two halves of the word.
 use borrow.Author.Rules.{rules}
-use Rattle.c_layout.specs.Accords.{accordIn}
+use Rattle.c_layout.specs.Accords.{accord_in}
 use Rattle.c_layout.proofs.accord_in.Statement.{statement}
 use Rattle.c_layout.proofs.accord_in.Tie as tie
 
@@ -14,7 +14,7 @@ accord-by-requires : tie.Need-accord-by-requires
 accord-by-requires c κs = search rules
 
 returns : tie.Need-returns
-unfolding accordIn
+unfolding accord_in
 returns c = c.accord-by.ensures
 
 pub accord-in-spec : {M : Type 1} → statement M

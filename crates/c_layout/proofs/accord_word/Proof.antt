@@ -5,7 +5,7 @@ use native.Mathlib.Omega.{arith}
 use borrow.Author.Rules.{rules}
 use Rattle.points.specs.declared.Map.{Map}
 use Rattle.points.specs.declared.Map.TheVariants.{Round, Square}
-use Rattle.c_layout.specs.Accords.{number_of, accordWord}
+use Rattle.c_layout.specs.Accords.{number_of, accord_word}
 use Rattle.c_layout.proofs.accord_word.Statement.{statement}
 use Rattle.c_layout.proofs.accord_word.Tie as tie
 
@@ -29,7 +29,7 @@ add-result : tie.Need-overflow-add-result
 add-result c = omega (arith, small c.before)
 
 returns : tie.Need-returns
-unfolding accordWord
+unfolding accord_word
 returns c = ap (λ (n : ℕ). n * 2 ^ 32 + c.before.before.args.k.u) c.before.number-of.ensures
 
 pub accord-word-spec : {M : Type 1} → statement M

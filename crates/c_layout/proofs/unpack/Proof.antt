@@ -8,12 +8,12 @@ use borrow.Author.Rules.{rules}
 use lib.ListN.{length, drop}
 use Rattle.lists.specs.Tabled.{tabled}
 use Rattle.lists.proofs.Filled.{tabled-more}
-use Rattle.c_layout.specs.Halves.{halfAt, unpacked}
+use Rattle.c_layout.specs.Halves.{half_at, unpacked}
 use Rattle.c_layout.proofs.unpack.Statement.{statement}
 use Rattle.c_layout.proofs.unpack.Tie as tie
 
 abbrev invariant-loop : tie.invariant-loop
-invariant-loop words all₀ j₀ all j = (j ≤ 16) × (length all₀ ≡ 16) × (all ≡ tabled (halfAt words) j ++ drop j all₀)
+invariant-loop words all₀ j₀ all j = (j ≤ 16) × (length all₀ ≡ 16) × (all ≡ tabled (half_at words) j ++ drop j all₀)
 
 abbrev decreases-loop : tie.decreases-loop
 decreases-loop words all₀ j₀ all j = 16 - j
@@ -46,7 +46,7 @@ loop-less c = omega arith
 loop-again : tie.Need-loop-preserved invariant-loop decreases-loop
 loop-again c =
     let at = c.before.before in
-    (omega arith, at.loop.invariant.1, rw (at.loop.invariant.2, c.half_of_lem.ensures, add-one at.loop.j) (tabled-more (halfAt at.before.args.t1) at.loop.j _ (omega arith)))
+    (omega arith, at.loop.invariant.1, rw (at.loop.invariant.2, c.half_of_lem.ensures, add-one at.loop.j) (tabled-more (half_at at.before.args.t1) at.loop.j _ (omega arith)))
 
 returns : tie.Need-returns invariant-loop decreases-loop
 unfolding tabled unpacked

@@ -2,9 +2,9 @@
 use mathlib.Core.Path.{subst}
 use lib.ListN.{length}
 use Rattle.machine.specs.declared.Receiver.{Receiver}
-use Rattle.recorder.specs.Doors.{tapedFinishing}
+use Rattle.recorder.specs.Doors.{taped_finishing}
 use Rattle.recorder.specs.Promise.{Is}
-use Rattle.c_states.specs.State.{receiverIn}
+use Rattle.c_states.specs.State.{receiver_in}
 use Rattle.c_recorder.proofs.Cases.{Answered, finish-short, finish-kept, finish-long, finish-written}
 use borrow.Author.Rules.{rules}
 use Rattle.c_recorder.proofs.finish_recorded.Statement.{statement}
@@ -22,15 +22,15 @@ finished g = g.before.before.before.before.before.before
 
 -- the promise of `finish` to the receiver that the state holds
 is : (g : tie.After-answer) → let a = (first g).args in let f = (finished g).finish in
-    Is (tapedFinishing (receiverIn a.state.now) (length a.out.now) (length a.bytes.now)) a.out.now a.bytes.now f.result f.last.1.0 f.last.1.1.0
+    Is (taped_finishing (receiver_in a.state.now) (length a.out.now) (length a.bytes.now)) a.out.now a.bytes.now f.result f.last.1.0 f.last.1.1.0
 is g =
     let a = (first g).args in
     let f = (finished g).finish in
-    subst (λ (rx : Receiver). Is (tapedFinishing rx (length a.out.now) (length a.bytes.now)) a.out.now a.bytes.now f.result f.last.1.0 f.last.1.1.0)
+    subst (λ (rx : Receiver). Is (taped_finishing rx (length a.out.now) (length a.bytes.now)) a.out.now a.bytes.now f.result f.last.1.0 f.last.1.1.0)
     (finished g).before.before.before.load-receiver.ensures f.ensures.always
 
 answered : (g : tie.After-answer) → let a = (first g).args in let f = (finished g).finish in
-    Answered (tapedFinishing (receiverIn a.state.now) (length a.out.now) (length a.bytes.now)) a.out.now a.bytes.now a.told.now
+    Answered (taped_finishing (receiver_in a.state.now) (length a.out.now) (length a.bytes.now)) a.out.now a.bytes.now a.told.now
     f.result g.answer.result f.last.1.0 f.last.1.1.0 g.answer.new.0
 answered g = record { is = is g; number = g.answer.ensures.0; tells = g.answer.ensures.1 }
 

@@ -6,8 +6,8 @@ use Prim.Native.Nat.{ℕ}
 use native.Mathlib.Omega.{arith}
 use borrow.Author.Tests.{not-true, not-false}
 use lib.ListN.{length}
-use Rattle.receiver_meaning.specs.Piece.{Piece, pieceWith}
-use Rattle.c_layout.specs.Layout.{receiverLength, receiverTag}
+use Rattle.receiver_meaning.specs.Piece.{Piece, piece_with}
+use Rattle.c_layout.specs.Layout.{receiver_length, receiver_tag}
 use Rattle.c_layout.specs.Tagged.{holds}
 use Rattle.c_layout.proofs.Held.{held}
 use Rattle.c_recorder.proofs.Cases.{Lent, hear-short, hear-none, lent-kept, lent_written}
@@ -19,12 +19,12 @@ use Rattle.c_recorder.proofs.hear_piece.Tie as tie
 abbrev first : tie.Else2 → tie.Start
 first e = e.before.before.before.before.before.before.before.before.before
 
-yes : (e : tie.Else2) → holds receiverLength receiverTag (first e).args.state.now ≡ true
+yes : (e : tie.Else2) → holds receiver_length receiver_tag (first e).args.state.now ≡ true
 yes e = sym e.before.holds-receiver.ensures ∙ not-false e.before.holds-receiver.result e.if2.false
 
 -- the piece that was lent
 abbrev given : tie.Start → Piece
-given s = let a = s.args in pieceWith a.marked a.marks.now a.piece.now
+given s = let a = s.args in piece_with a.marked a.marks.now a.piece.now
 
 -- the picks that came back
 abbrev picks : tie.After-hear-piece-lent → List ℕ
@@ -101,7 +101,7 @@ part-hear-piece-lent-start : tie.Need-slice-bounds-hear-piece-lent-start
 part-hear-piece-lent-start c = search rules
 
 part-hear-piece-lent-end : tie.Need-slice-bounds-hear-piece-lent-end
-part-hear-piece-lent-end c = let k = held receiverLength receiverTag _ (yes c.before.before.before.before.before.before.before) in omega arith
+part-hear-piece-lent-end c = let k = held receiver_length receiver_tag _ (yes c.before.before.before.before.before.before.before) in omega arith
 
 hear-piece-lent-requires : tie.Need-hear-piece-lent-requires
 hear-piece-lent-requires c κs = search rules

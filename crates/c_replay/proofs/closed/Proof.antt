@@ -3,8 +3,8 @@ use mathlib.Core.Path.{◌≡◌, sym, ◌∙◌}
 use mathlib.Core.Bool.{true}
 use native.Mathlib.Omega.{arith}
 use borrow.Author.Tests.{not-true, not-false}
-use Rattle.replay.specs.Course.{replayOf}
-use Rattle.c_replay_state.specs.Words.{holdsReplay}
+use Rattle.replay.specs.Course.{replay_of}
+use Rattle.c_replay_state.specs.Words.{holds_replay}
 use Rattle.c_replay_state.proofs.WordsBack.{holding}
 use Rattle.c_replay.proofs.Cases.{end_short, end_none, end_after, end-says}
 use borrow.Author.Rules.{rules}
@@ -23,7 +23,7 @@ to-holds l = l.before.before
 abbrev to-load : tie.After-found → tie.After-load
 to-load f = f.before.before.before
 
-yes : (e : tie.Else2) → holdsReplay (to_start (to-long e)).args.state.now ≡ true
+yes : (e : tie.Else2) → holds_replay (to_start (to-long e)).args.state.now ≡ true
 yes e = sym e.before.holds-replay.ensures ∙ not-false e.before.holds-replay.result e.if2.false
 
 returns : tie.Need-returns
@@ -60,7 +60,7 @@ returns-3 c =
     let e = to-holds l in
     let s = to-long e in
     let a = (to_start s).args in
-    end_after a.state.now a.short s.if1.left (yes e) (replayOf l.load.result) l.load.ensures (sym c.before.found.ensures ∙ c.if3.true)
+    end_after a.state.now a.short s.if1.left (yes e) (replay_of l.load.result) l.load.ensures (sym c.before.found.ensures ∙ c.if3.true)
 
 end-requires : tie.Need-end-requires
 end-requires c κs = search rules
@@ -75,7 +75,7 @@ returns-4 c =
     let e = to-holds l in
     let s = to-long e in
     let a = (to_start s).args in
-    end-says a.state.now a.short s.if1.left (yes e) (replayOf l.load.result) l.load.ensures c.end.result (sym f.found.ensures ∙ c.before.if3.false) c.end.ensures
+    end-says a.state.now a.short s.if1.left (yes e) (replay_of l.load.result) l.load.ensures c.end.result (sym f.found.ensures ∙ c.before.if3.false) c.end.ensures
 
 pub closed-spec : {M : Type 1} → statement M
 closed-spec =

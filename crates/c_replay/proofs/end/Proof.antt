@@ -1,7 +1,7 @@
 -- `end`: what `closed` leaves to say is said.
 use lib.ListN.{length}
 use mathlib.Core.Path.{sym}
-use Rattle.c_replay.specs.Calls.{endCall}
+use Rattle.c_replay.specs.Calls.{end_call}
 use Rattle.c_replay.proofs.Cases.{told-ends}
 use borrow.Author.Rules.{rules}
 use Rattle.c_replay.proofs.end.Statement.{statement}
@@ -41,7 +41,7 @@ returns c =
     let h = to-closed t.before in
     let i = h.before.before in
     let s = to_start i in
-    told-ends (endCall s.args.state.now) i.is-short.result h.closed.result h.closed.last.0 s.args.line.now s.args.told.now
+    told-ends (end_call s.args.state.now) i.is-short.result h.closed.result h.closed.last.0 s.args.line.now s.args.told.now
     h.closed.ensures i.is-short.ensures t.tell.ensures
 
 pub end-spec : {M : Type 1} → statement M

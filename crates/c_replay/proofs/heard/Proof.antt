@@ -3,8 +3,8 @@ use mathlib.Core.Path.{◌≡◌, sym, ◌∙◌}
 use mathlib.Core.Bool.{true}
 use native.Mathlib.Omega.{arith}
 use borrow.Author.Tests.{not-true, not-false}
-use Rattle.replay.specs.Course.{replayOf}
-use Rattle.c_replay_state.specs.Words.{holdsReplay}
+use Rattle.replay.specs.Course.{replay_of}
+use Rattle.c_replay_state.specs.Words.{holds_replay}
 use Rattle.c_replay_state.proofs.WordsBack.{holding}
 use Rattle.c_replay.proofs.Cases.{feed-short, feed-none, feed-after, feed-on, feed-says}
 use borrow.Author.Rules.{rules}
@@ -26,7 +26,7 @@ to-load e = e.before.before.before.before
 abbrev to-feed : tie.After-found2 → tie.After-feed
 to-feed f = f.before.before.before.before.before.before.before
 
-yes : (e : tie.Else2) → holdsReplay (to_start (to-long e)).args.state.now ≡ true
+yes : (e : tie.Else2) → holds_replay (to_start (to-long e)).args.state.now ≡ true
 yes e = sym e.before.holds-replay.ensures ∙ not-false e.before.holds-replay.result e.if2.false
 
 returns : tie.Need-returns
@@ -60,7 +60,7 @@ returns-3 c =
     let e = to-holds l in
     let s = to-long e in
     let a = (to_start s).args in
-    feed-after a.state.now a.lump.now a.short s.if1.left (yes e) (replayOf l.load.result) l.load.ensures (sym c.before.found.ensures ∙ c.if3.true)
+    feed-after a.state.now a.lump.now a.short s.if1.left (yes e) (replay_of l.load.result) l.load.ensures (sym c.before.found.ensures ∙ c.if3.true)
 
 feed-requires : tie.Need-feed-requires
 feed-requires c κs = search rules
@@ -82,8 +82,8 @@ returns-4 c =
     let e = to-holds l in
     let s = to-long e in
     let a = (to_start s).args in
-    feed-on a.state.now a.lump.now a.short s.if1.left (yes e) (replayOf l.load.result) l.load.ensures (sym f.before.before.found.ensures ∙ f.before.if3.left)
-    (replayOf f.feed.result) f.feed.ensures o.before.before.before.before.before.store.ensures (sym o.found2.ensures ∙ not-true o.found2.result c.if4.true)
+    feed-on a.state.now a.lump.now a.short s.if1.left (yes e) (replay_of l.load.result) l.load.ensures (sym f.before.before.found.ensures ∙ f.before.if3.left)
+    (replay_of f.feed.result) f.feed.ensures o.before.before.before.before.before.store.ensures (sym o.found2.ensures ∙ not-true o.found2.result c.if4.true)
 
 end-requires : tie.Need-end-requires
 end-requires c κs = search rules
@@ -99,8 +99,8 @@ returns-5 c =
     let e = to-holds l in
     let s = to-long e in
     let a = (to_start s).args in
-    feed-says a.state.now a.lump.now a.short s.if1.left (yes e) (replayOf l.load.result) l.load.ensures (sym f.before.before.found.ensures ∙ f.before.if3.left)
-    (replayOf f.feed.result) f.feed.ensures o.before.before.before.before.before.store.ensures
+    feed-says a.state.now a.lump.now a.short s.if1.left (yes e) (replay_of l.load.result) l.load.ensures (sym f.before.before.found.ensures ∙ f.before.if3.left)
+    (replay_of f.feed.result) f.feed.ensures o.before.before.before.before.before.store.ensures
     c.end.result (sym o.found2.ensures ∙ not-false o.found2.result c.before.if4.false) c.end.ensures
 
 pub heard-spec : {M : Type 1} → statement M

@@ -6,11 +6,11 @@ use native.Mathlib.Omega.{arith}
 use lib.ListN.{length, drop, length-drop}
 use lib.Seq.{length-take-le}
 use Rattle.c_layout.specs.Halves.{unpacked}
-use Rattle.replay.specs.Course.{courseOf}
+use Rattle.replay.specs.Course.{course_of}
 use Rattle.c_replay_state.specs.Table.{limits, within}
 use Rattle.c_replay_state.proofs.Limits.{all_small}
-use Rattle.c_replay_state.specs.Numbers.{frameIn, judgeIn}
-use Rattle.c_replay_state.specs.Words.{dueIn, courseIn}
+use Rattle.c_replay_state.specs.Numbers.{frame_in, judge_in}
+use Rattle.c_replay_state.specs.Words.{due_in, course_in}
 use Rattle.c_replay_state.proofs.WordsBack.{Holding, holding, filled}
 use borrow.Author.Rules.{rules}
 use Rattle.c_replay_state.proofs.load.Statement.{statement}
@@ -19,7 +19,7 @@ use Rattle.c_replay_state.proofs.load.Tie as tie
 known : (s : tie.Start) → Holding s.args.words.now
 known s = holding s.args.words.now s.requires
 
-all-due : (s : tie.Start) → length (dueIn s.args.words.now) ≡ 65
+all-due : (s : tie.Start) → length (due_in s.args.words.now) ≡ 65
 all-due s = length-take-le 65 (drop 157 s.args.words.now) (rw length-drop (omega (arith, known s)))
 
 slice-aggregate-get : tie.Need-slice-aggregate-get
@@ -62,7 +62,7 @@ narrow-requires : tie.Need-narrow-requires
 narrow-requires c κs =
     let s = c.before.before.before.before.before.before.before.before.before.before.before.before.before.before.before in
     let n = all-due s in
-    (all_small 65 (dueIn s.args.words.now) (omega arith) (known s).due, omega arith)
+    (all_small 65 (due_in s.args.words.now) (omega arith) (known s).due, omega arith)
 
 frame-of-requires : tie.Need-frame-of-requires
 frame-of-requires c κs =
@@ -78,7 +78,7 @@ unpack-requires : tie.Need-unpack-requires
 unpack-requires c κs = search rules
 
 returns : tie.Need-returns
-unfolding courseIn
+unfolding course_in
 returns c =
     let picks = c.before.before.before.before.before.before.before.before in
     let registers = picks.before.before.before in
@@ -86,11 +86,11 @@ returns c =
     let numbers = halves.before.before.before in
     let s = numbers.before.before.before in
     let ns = numbers.get.ensures in
-    let frame = c.before.before.frame-of.ensures ∙ ap frameIn ns in
-    let judge = c.before.judge-of.ensures ∙ ap judgeIn ns in
+    let frame = c.before.before.frame-of.ensures ∙ ap frame_in ns in
+    let judge = c.before.judge-of.ensures ∙ ap judge_in ns in
     let sums = c.unpack.ensures ∙ ap unpacked halves.get2.ensures in
-    let due = filled (dueIn s.args.words.now) _ (all-due s) c.before.before.before.before.narrow.ensures in
-    λ i. courseOf (frame i) (judge i) (sums i) (registers.get3.ensures i) (picks.get4.ensures i) (due i)
+    let due = filled (due_in s.args.words.now) _ (all-due s) c.before.before.before.before.narrow.ensures in
+    λ i. course_of (frame i) (judge i) (sums i) (registers.get3.ensures i) (picks.get4.ensures i) (due i)
 
 pub load_spec : {M : Type 1} → statement M
 load_spec =

@@ -5,7 +5,7 @@ use Prim.Native.Nat.{ℕ}
 use native.Mathlib.Omega.{arith}
 use lib.ListN.{length, take, drop}
 use Rattle.c_layout.proofs.Halves.{packed-length}
-use Rattle.c_replay_state.specs.Table.{sumsAt, due_at}
+use Rattle.c_replay_state.specs.Table.{sums_at, due_at}
 use Rattle.c_replay_state.proofs.WordsBack.{lists-put}
 use borrow.Author.Rules.{rules}
 use Rattle.c_replay_state.proofs.put_lists.Statement.{statement}
@@ -53,7 +53,7 @@ returns c =
     let (a, b, d) = sized s in
     let put = lists-put l p.pack.result s.args.t2 s.args.t3 (omega (arith, s.requires)) (words-many p) b d first.put.ensures.is second.put2.ensures.is third.put3.ensures.is in
     record {
-      is = put ∙ ap (λ (m : List ℕ). take sumsAt l ++ (m ++ (s.args.t2 ++ (s.args.t3 ++ drop due_at l)))) p.pack.ensures.0;
+      is = put ∙ ap (λ (m : List ℕ). take sums_at l ++ (m ++ (s.args.t2 ++ (s.args.t3 ++ drop due_at l)))) p.pack.ensures.0;
       same = same_length c;
       sums-fit = a;
       sums-small = p.pack.ensures.1;

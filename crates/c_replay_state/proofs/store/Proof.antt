@@ -5,7 +5,7 @@ use Prim.Native.Nat.{ℕ, ◌≤◌}
 use native.Mathlib.Omega.{arith}
 use lib.ListN.{length}
 use Rattle.replay.specs.declared.Replay.{Replay}
-use Rattle.replay.specs.Course.{replayOf}
+use Rattle.replay.specs.Course.{replay_of}
 use Rattle.c_replay_state.specs.Table.{limits, within}
 use Rattle.c_replay_state.proofs.WordsBack.{CourseFits, all-put}
 use borrow.Author.Rules.{rules}
@@ -74,7 +74,7 @@ returns c =
     let ns = tag.before.before.before.Numbers-of.ensures in
     let due = c.before.before.put-due.ensures in
     let within_all = ap (λ (l : List ℕ). within limits l) (sym ns.0) ∙ ns.1 in
-    let fits : CourseFits (replayOf r) =
+    let fits : CourseFits (replay_of r) =
     record {
       numbers = within_all;
       nine = n.0;
@@ -86,7 +86,7 @@ returns c =
       small = due.1;
       width = wide s;
     } in
-    all-put (replayOf r) s.args.words.now s.pre fits tag.put.ensures.is ns.0 numbers.put2.ensures.is lists.put-lists.ensures.is due.0.is
+    all-put (replay_of r) s.args.words.now s.pre fits tag.put.ensures.is ns.0 numbers.put2.ensures.is lists.put-lists.ensures.is due.0.is
 
 pub store_spec : {M : Type 1} → statement M
 store_spec =

@@ -1,5 +1,5 @@
 -- `convert_list`: a list with no marks.
-use Rattle.c_samples.specs.Calls.{samplesCall}
+use Rattle.c_samples.specs.Calls.{samples_call}
 use borrow.Author.Rules.{rules}
 use Rattle.c_samples.proofs.convert_list.Statement.{statement}
 use Rattle.c_samples.proofs.convert_list.Tie as tie
@@ -17,7 +17,7 @@ same-length-2 : tie.Need-same-length-2
 same-length-2 c = search rules
 
 returns : tie.Need-returns
-unfolding samplesCall
+unfolding samples_call
 returns c = c.before.before.before.convert-fitting.ensures
 
 pub convert-list-spec : {M : Type 1} → statement M

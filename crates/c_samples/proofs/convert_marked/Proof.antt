@@ -1,5 +1,5 @@
 -- `convert_marked`: a list with its marks, where they fit.
-use Rattle.c_samples.specs.Calls.{markedCall}
+use Rattle.c_samples.specs.Calls.{marked_call}
 use borrow.Author.Rules.{rules}
 use Rattle.c_samples.proofs.convert_marked.Statement.{statement}
 use Rattle.c_samples.proofs.convert_marked.Tie as tie
@@ -17,7 +17,7 @@ same-length-2 : tie.Need-same-length-2
 same-length-2 c = search rules
 
 returns : tie.Need-returns
-unfolding markedCall
+unfolding marked_call
 returns c = rw (← c.before.before.before.before.before.before.marks-fit.ensures) c.before.before.before.convert-fitting.ensures
 
 pub convert-marked-spec : {M : Type 1} → statement M

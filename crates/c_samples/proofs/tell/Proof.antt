@@ -3,7 +3,7 @@ use mathlib.Core.List.{[], ◌∷◌}
 use native.Mathlib.Omega.{arith}
 use lib.ListN.{length-set}
 use lib.Seq.{sets-eq}
-use Rattle.c_samples.specs.Counts.{toldOf}
+use Rattle.c_samples.specs.Counts.{told_of}
 use borrow.Author.Rules.{rules}
 use Rattle.c_samples.proofs.tell.Statement.{statement}
 use Rattle.c_samples.proofs.tell.Tie as tie
@@ -21,7 +21,7 @@ same_length : tie.Need-same-length
 same_length c = search rules
 
 returns : tie.Need-returns
-unfolding toldOf
+unfolding told_of
 returns c = sets-eq (c.args.taken ∷ c.args.written ∷ c.args.place ∷ []) c.args.told.now 0 c.requires
 
 pub tell-spec : {M : Type 1} → statement M

@@ -3,14 +3,14 @@ use mathlib.Core.Path.{ap}
 use native.Mathlib.Omega.{arith}
 use lib.ListN.{get_or}
 use Rattle.points.specs.declared.Accord.{Accord}
-use Rattle.c_layout.specs.Layout.{receiverLength, receiverTag}
+use Rattle.c_layout.specs.Layout.{receiver_length, receiver_tag}
 use Rattle.c_layout.proofs.Held.{Held, held}
 use borrow.Author.Rules.{rules}
 use Rattle.c_states.proofs.core_in.Statement.{statement}
 use Rattle.c_states.proofs.core_in.Tie as tie
 
-known : (s : tie.Start) → Held receiverLength receiverTag s.args.words.now
-known s = held receiverLength receiverTag s.args.words.now s.requires
+known : (s : tie.Start) → Held receiver_length receiver_tag s.args.words.now
+known s = held receiver_length receiver_tag s.args.words.now s.requires
 
 shared-slice-read-accord-in : tie.Need-shared-slice-read-accord-in
 shared-slice-read-accord-in c = let h = known c.before.before in omega arith

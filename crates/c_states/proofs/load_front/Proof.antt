@@ -4,15 +4,15 @@ use Prim.Native.Nat.{ℕ}
 use native.Mathlib.Omega.{arith}
 use borrow.Author.Rules.{rules}
 use lib.ListN.{length-replicate}
-use Rattle.c_layout.specs.Layout.{receiverLength, receiverTag}
+use Rattle.c_layout.specs.Layout.{receiver_length, receiver_tag}
 use Rattle.c_layout.specs.Halves.{unpacked}
 use Rattle.c_layout.proofs.Held.{Held, held}
 use Rattle.lists.proofs.Lent.{part-loaded}
 use Rattle.c_states.proofs.load_front.Statement.{statement}
 use Rattle.c_states.proofs.load_front.Tie as tie
 
-known : (s : tie.Start) → Held receiverLength receiverTag s.args.words.now
-known s = held receiverLength receiverTag s.args.words.now s.requires
+known : (s : tie.Start) → Held receiver_length receiver_tag s.args.words.now
+known s = held receiver_length receiver_tag s.args.words.now s.requires
 
 sub-copy : tie.Need-overflow-sub-copy
 sub-copy c = search rules

@@ -6,19 +6,19 @@ use native.Mathlib.Omega.{arith}
 use borrow.Author.Rules.{rules}
 use borrow.Author.Tests.{not-true, not-false}
 use lib.ListN.{length-replicate}
-use Rattle.c_layout.specs.Layout.{receiverLength, receiverTag}
+use Rattle.c_layout.specs.Layout.{receiver_length, receiver_tag}
 use Rattle.c_layout.specs.Tagged.{holds}
 use Rattle.c_layout.proofs.Held.{Held, held}
 use Rattle.lists.proofs.Lent.{part-loaded}
-use Rattle.c_states.specs.State.{receiverIn}
+use Rattle.c_states.specs.State.{receiver_in}
 use Rattle.c_states.proofs.load_receiver.Statement.{statement}
 use Rattle.c_states.proofs.load_receiver.Tie as tie
 
-yes : (c : tie.Else1) → holds receiverLength receiverTag c.before.before.before.args.words.now ≡ true
+yes : (c : tie.Else1) → holds receiver_length receiver_tag c.before.before.before.args.words.now ≡ true
 yes c = sym c.before.holds-receiver.ensures ∙ not-false c.before.holds-receiver.result c.if1.false
 
-known : (c : tie.Else1) → Held receiverLength receiverTag c.before.before.before.args.words.now
-known c = held receiverLength receiverTag c.before.before.before.args.words.now (yes c)
+known : (c : tie.Else1) → Held receiver_length receiver_tag c.before.before.before.args.words.now
+known c = held receiver_length receiver_tag c.before.before.before.args.words.now (yes c)
 
 holds-receiver-requires : tie.Need-holds-receiver-requires
 holds-receiver-requires c κs = search rules
@@ -27,7 +27,7 @@ closed-receiver-requires : tie.Need-closed-receiver-requires
 closed-receiver-requires c κs = search rules
 
 returns : tie.Need-returns
-unfolding receiverIn
+unfolding receiver_in
 returns c = rw (sym c.before.before.holds-receiver.ensures ∙ not-true c.before.before.holds-receiver.result c.before.if1.true) c.closed-receiver.ensures
 
 load-front-requires : tie.Need-load-front-requires
@@ -55,7 +55,7 @@ copy-requires : tie.Need-copy-requires
 copy-requires c κs = search rules
 
 returns-2 : tie.Need-returns-2
-unfolding receiverIn
+unfolding receiver_in
 returns-2 c =
     let e = c.before.before.before.before.before.before.before.before in
     let front = c.before.before.before.before.before.before.before.load-front.ensures in

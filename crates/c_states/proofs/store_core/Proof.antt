@@ -1,7 +1,7 @@
 -- `store_core`: six stores.
 use native.Mathlib.Omega.{arith}
 use lib.ListN.{length-set}
-use Rattle.c_states.specs.Front.{wordsOfCore}
+use Rattle.c_states.specs.Front.{words_of_core}
 use Rattle.lists.proofs.Lent.{stored}
 use borrow.Author.Rules.{rules}
 use Rattle.c_states.proofs.store_core.Statement.{statement}
@@ -42,7 +42,7 @@ returns c =
     record {
       words =
           let s = c.before.before.before.before.before in
-          rw (c.before.before.before.tag_of.ensures, c.before.accord-word.ensures) (stored (wordsOfCore s.args.live s.args.c) s.args.words.now s.requires);
+          rw (c.before.before.before.tag_of.ensures, c.before.accord-word.ensures) (stored (words_of_core s.args.live s.args.c) s.args.words.now s.requires);
       u-fits = search rules;
       turn-fits = search rules;
     }

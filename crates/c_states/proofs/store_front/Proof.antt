@@ -9,7 +9,7 @@ use lib.Seq.{take_all}
 use Rattle.c_layout.specs.Halves.{packed}
 use Rattle.lists.proofs.Lent.{placed, all-copied}
 use Rattle.c_layout.proofs.Halves.{packed-length}
-use Rattle.c_states.specs.Front.{wordsOfCore}
+use Rattle.c_states.specs.Front.{words_of_core}
 use Rattle.c_states.proofs.store_front.Statement.{statement}
 use Rattle.c_states.proofs.store_front.Tie as tie
 
@@ -76,7 +76,7 @@ returns c =
     let a = s.args in
     let l = a.words.now in
     let (n₁, n₂) = sized s in
-    let head = wordsOfCore a.live a.c in
+    let head = words_of_core a.live a.c in
     let halves = packed a.sums in
     let two = head ++ halves in
     let n₀ = packed-length a.sums in

@@ -1,7 +1,7 @@
 -- `store_sender`: four stores.
 use native.Mathlib.Omega.{arith}
 use lib.ListN.{length-set}
-use Rattle.c_states.specs.State.{wordsOfSender}
+use Rattle.c_states.specs.State.{words_of_sender}
 use Rattle.lists.proofs.Lent.{stored}
 use Rattle.c_states.proofs.Back.{sender-stored}
 use borrow.Author.Rules.{rules}
@@ -36,11 +36,11 @@ same_length : tie.Need-same-length
 same_length c = search rules
 
 returns : tie.Need-returns
-unfolding wordsOfSender
+unfolding words_of_sender
 returns c =
     let s = c.before.before.before.before.before.before in
     sender-stored s.args.s s.args.words.now (record { u = search rules; turn = search rules; state = search rules })
-    (rw (c.before.before.before.before.tag_of.ensures, c.before.before.accord-word.ensures) (stored (wordsOfSender s.args.s) s.args.words.now s.requires))
+    (rw (c.before.before.before.before.tag_of.ensures, c.before.before.accord-word.ensures) (stored (words_of_sender s.args.s) s.args.words.now s.requires))
 
 pub store-sender-spec : {M : Type 1} → statement M
 store-sender-spec =

@@ -4,17 +4,17 @@ use mathlib.Core.Bool.{true, false}
 use native.Mathlib.Omega.{arith}
 use borrow.Author.Rules.{rules}
 use borrow.Author.Tests.{not-true, not-false}
-use Rattle.points.specs.Agreed.{isAccord}
+use Rattle.points.specs.Agreed.{is_accord}
 use Rattle.card.specs.Card.{Card}
 use Rattle.card.specs.Check.{fits, accepts}
-use Rattle.card.specs.Promise.{cardOf}
+use Rattle.card.specs.Promise.{card_of}
 use Rattle.card.proofs.Tests.{long-is}
 use Rattle.card.proofs.Theorems.{checks}
 use Rattle.card.proofs.check.Statement.{statement}
 use Rattle.card.proofs.check.Tie as tie
 
 abbrev card : tie.Start → Card
-card s = let a = s.args in cardOf a.coordinates.now a.states.now a.symbols.now a.numbers.now
+card s = let a = s.args in card_of a.coordinates.now a.states.now a.symbols.now a.numbers.now
 
 lengths-fit-requires : tie.Need-lengths-fit-requires
 lengths-fit-requires c κs = search rules
@@ -42,7 +42,7 @@ returns-2 c =
     let e = c.before.before in
     checks (s₁ e).args.k (card (s₁ e)) false (rw (long e, sym c.before.is-accord.ensures ∙ not-true _ c.if2.true))
 
-agreed : (e : tie.Else2) → isAccord (s₁ e.before.before).args.k ≡ true
+agreed : (e : tie.Else2) → is_accord (s₁ e.before.before).args.k ≡ true
 agreed e = sym e.before.is-accord.ensures ∙ not-false _ e.if2.false
 
 starts-at-zero-requires : tie.Need-starts-at-zero-requires

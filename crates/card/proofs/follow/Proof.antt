@@ -6,14 +6,14 @@ use borrow.Author.Rules.{rules}
 use Rattle.card.specs.declared.Step.TheVariants.{Counts}
 use Rattle.card.specs.Card.{Card}
 use Rattle.card.specs.Check.{step_of}
-use Rattle.card.specs.Promise.{cardOf}
+use Rattle.card.specs.Promise.{card_of}
 use Rattle.card.proofs.Tests.{has, long-is}
 use Rattle.card.proofs.Following.{Followed, begun, fails, goes, sum_fits, ends}
 use Rattle.card.proofs.follow.Statement.{statement}
 use Rattle.card.proofs.follow.Tie as tie
 
 abbrev invariant-loop : tie.invariant-loop
-invariant-loop k n xs states symbols numbers chart table sum₀ i₀ sum i = (i ≤ n) × Followed k (cardOf xs states symbols numbers) i sum
+invariant-loop k n xs states symbols numbers chart table sum₀ i₀ sum i = (i ≤ n) × Followed k (card_of xs states symbols numbers) i sum
 
 abbrev decreases-loop : tie.decreases-loop
 decreases-loop k n xs states symbols numbers chart table sum₀ i₀ sum i = n - i
@@ -22,7 +22,7 @@ abbrev start : tie.At-loop invariant-loop decreases-loop → tie.Start invariant
 start at = at.before.before.before.before.before.before
 
 abbrev card : tie.Start invariant-loop decreases-loop → Card
-card s = let a = s.args in cardOf a.coordinates.now a.states.now a.symbols.now a.numbers.now
+card s = let a = s.args in card_of a.coordinates.now a.states.now a.symbols.now a.numbers.now
 
 chart-requires : tie.Need-chart-requires invariant-loop decreases-loop
 chart-requires c κs = search rules

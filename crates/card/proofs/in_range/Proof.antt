@@ -6,13 +6,13 @@ use lib.IntN.{ℤ}
 use mir.Syntax.{w32}
 use mir.Val.{SFits, to_z, of_z}
 use mir.Facts.{to_z-of_z}
-use Rattle.nearest.specs.Line.{isCoordinate}
+use Rattle.nearest.specs.Line.{is_coordinate}
 use Rattle.card.specs.Check.{in_range}
 use Rattle.card.proofs.in_range.Statement.{statement}
 use Rattle.card.proofs.in_range.Tie as tie
 
-back : (x : ℤ) → SFits w32 x → isCoordinate (to_z w32 (of_z w32 x)) ≡ isCoordinate x
-back x f = ap isCoordinate (to_z-of_z f)
+back : (x : ℤ) → SFits w32 x → is_coordinate (to_z w32 (of_z w32 x)) ≡ is_coordinate x
+back x f = ap is_coordinate (to_z-of_z f)
 
 is-coordinate-requires : tie.Need-is-coordinate-requires
 is-coordinate-requires c κs = search rules

@@ -2,16 +2,16 @@
 use native.Mathlib.Omega.{arith}
 use borrow.Author.Rules.{rules}
 use borrow.Author.Tests.{le-leb, lt-leb}
-use Rattle.card.specs.Check.{lengthsFit}
+use Rattle.card.specs.Check.{lengths_fit}
 use Rattle.card.proofs.lengths_fit.Statement.{statement}
 use Rattle.card.proofs.lengths_fit.Tie as tie
 
 returns : tie.Need-returns
-unfolding lengthsFit
+unfolding lengths_fit
 returns c = rw (lt-leb 1 c.before.args.n (omega arith))
 
 returns-2 : tie.Need-returns-2
-unfolding lengthsFit
+unfolding lengths_fit
 returns-2 c = let n = c.before.before.args.n in rw (le-leb 1 n (omega arith), lt-leb n 64 (omega arith))
 
 mul-result : tie.Need-overflow-mul-result
@@ -30,7 +30,7 @@ mul-result-3 : tie.Need-overflow-mul-result-3
 mul-result-3 c = search rules
 
 returns-3 : tie.Need-returns-3
-unfolding lengthsFit
+unfolding lengths_fit
 returns-3 c = let n = c.before.before.args.n in rw (le-leb 1 n (omega arith), le-leb n 64 (omega arith))
 
 pub lengths-fit-spec : {M : Type 1} → statement M

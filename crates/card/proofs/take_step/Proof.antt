@@ -6,13 +6,13 @@ use borrow.Author.Rules.{rules}
 use borrow.Author.Tests.{not-true, not-false}
 use Rattle.points.proofs.Agreed.{accord-width}
 use Rattle.card.specs.Card.{Card}
-use Rattle.card.specs.Promise.{cardOf}
+use Rattle.card.specs.Promise.{card_of}
 use Rattle.card.proofs.Taking.{Ranged, CarriesOn, Holds, ranged, carried, held, out_of_range, not_carried, not-held, spots-in, valid, counts}
 use Rattle.card.proofs.take_step.Statement.{statement}
 use Rattle.card.proofs.take_step.Tie as tie
 
 abbrev card : tie.Start → Card
-card s = let a = s.args in cardOf a.coordinates.now a.states.now a.symbols.now a.numbers.now
+card s = let a = s.args in card_of a.coordinates.now a.states.now a.symbols.now a.numbers.now
 
 mul-pair-at : tie.Need-overflow-mul-pair-at
 mul-pair-at c = search rules

@@ -4,17 +4,17 @@ use mathlib.Core.Bool.{Bool}
 use mathlib.Core.List.{List}
 use Prim.Native.Nat.{ℕ, ◌-◌, ◌/◌, ◌%◌, ◌≤◌}
 use native.Mathlib.Omega.{arith}
-use Rattle.card_sums.specs.Every.{everyBelow}
-use Rattle.card_sums.specs.Rows.{wayHolds, holds}
+use Rattle.card_sums.specs.Every.{every_below}
+use Rattle.card_sums.specs.Rows.{way_holds, holds}
 use Rattle.card_sums.proofs.Every.{every-none, every-next, every-ends}
 use Rattle.card_sums.proofs.holds.Statement.{statement}
 use Rattle.card_sums.proofs.holds.Tie as tie
 
 abbrev test : List ℕ → ℕ → List ℕ → ℕ → Bool
-test numbers at costs way = wayHolds numbers at costs (way / 4) (way % 4)
+test numbers at costs way = way_holds numbers at costs (way / 4) (way % 4)
 
 abbrev invariant-loop : tie.invariant-loop
-invariant-loop numbers at costs all₀ way₀ all way = (way ≤ 64) × (all ≡ everyBelow (test numbers at costs) way)
+invariant-loop numbers at costs all₀ way₀ all way = (way ≤ 64) × (all ≡ every_below (test numbers at costs) way)
 
 abbrev decreases-loop : tie.decreases-loop
 decreases-loop numbers at costs all₀ way₀ all way = 64 - way

@@ -5,8 +5,8 @@ use mathlib.Core.List.{List}
 use Prim.Native.Nat.{ℕ, ◌-◌, ◌≤◌}
 use native.Mathlib.Omega.{arith}
 use lib.Dec.{leb}
-use Rattle.card_sums.specs.Every.{everyBelow}
-use Rattle.card_sums.specs.Rows.{number_at, noneBelow}
+use Rattle.card_sums.specs.Every.{every_below}
+use Rattle.card_sums.specs.Rows.{number_at, none_below}
 use Rattle.card_sums.proofs.Every.{every-none, every-next, every-ends}
 use Rattle.card_sums.proofs.none_below.Statement.{statement}
 use Rattle.card_sums.proofs.none_below.Tie as tie
@@ -15,7 +15,7 @@ abbrev test : List ℕ → ℕ → ℕ → ℕ → Bool
 test numbers at sum t = leb sum (number_at numbers at t)
 
 abbrev invariant-loop : tie.invariant-loop
-invariant-loop numbers at sum all₀ t₀ all t = (t ≤ 16) × (all ≡ everyBelow (test numbers at sum) t)
+invariant-loop numbers at sum all₀ t₀ all t = (t ≤ 16) × (all ≡ every_below (test numbers at sum) t)
 
 abbrev decreases-loop : tie.decreases-loop
 decreases-loop numbers at sum all₀ t₀ all t = 16 - t
@@ -42,7 +42,7 @@ loop-again : tie.Need-loop-preserved invariant-loop decreases-loop
 loop-again c = let at = c.before.before in (omega arith, every-next _ at.loop.t at.loop.invariant.1 refl)
 
 returns : tie.Need-returns invariant-loop decreases-loop
-unfolding noneBelow
+unfolding none_below
 returns c = let at = c.before in every-ends _ 16 at.loop.t (omega arith) at.loop.invariant.1
 
 pub none-below-spec : {M : Type 1} → statement M

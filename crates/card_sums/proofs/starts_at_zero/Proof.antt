@@ -6,8 +6,8 @@ use Prim.Native.Nat.{ℕ, ◌-◌, ◌≤◌}
 use native.Mathlib.Omega.{arith}
 use lib.Dec.{eqb}
 use lib.ListN.{get_or}
-use Rattle.card_sums.specs.Every.{everyBelow}
-use Rattle.card_sums.specs.Rows.{startsAtZero}
+use Rattle.card_sums.specs.Every.{every_below}
+use Rattle.card_sums.specs.Rows.{starts_at_zero}
 use Rattle.card_sums.proofs.Every.{every-none, every-next, every-ends}
 use Rattle.card_sums.proofs.starts_at_zero.Statement.{statement}
 use Rattle.card_sums.proofs.starts_at_zero.Tie as tie
@@ -16,7 +16,7 @@ abbrev test : List ℕ → ℕ → Bool
 test numbers s = eqb (get_or numbers s 0) 0
 
 abbrev invariant-loop : tie.invariant-loop
-invariant-loop numbers all₀ s₀ all s = (s ≤ 16) × (all ≡ everyBelow (test numbers) s)
+invariant-loop numbers all₀ s₀ all s = (s ≤ 16) × (all ≡ every_below (test numbers) s)
 
 abbrev decreases-loop : tie.decreases-loop
 decreases-loop numbers all₀ s₀ all s = 16 - s
@@ -40,7 +40,7 @@ loop-again : tie.Need-loop-preserved invariant-loop decreases-loop
 loop-again c = let at = c.before.before in (omega arith, every-next _ at.loop.s at.loop.invariant.1 refl)
 
 returns : tie.Need-returns invariant-loop decreases-loop
-unfolding startsAtZero
+unfolding starts_at_zero
 returns c = let at = c.before in every-ends _ 16 at.loop.s (omega arith) at.loop.invariant.1
 
 pub starts-at-zero-spec : {M : Type 1} → statement M

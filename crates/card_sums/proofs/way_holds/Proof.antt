@@ -4,7 +4,7 @@ use Prim.Native.Nat.{◌<◌}
 use native.Mathlib.Omega.{arith}
 use borrow.Author.Rules.{rules}
 use Rattle.wei.proofs.States.{before-below, between-below}
-use Rattle.card_sums.specs.Rows.{wayHolds}
+use Rattle.card_sums.specs.Rows.{way_holds}
 use Rattle.card_sums.proofs.way_holds.Statement.{statement}
 use Rattle.card_sums.proofs.way_holds.Tie as tie
 
@@ -57,7 +57,7 @@ within-requires : tie.Need-within-requires
 within-requires c κs = search rules
 
 returns : tie.Need-returns
-unfolding wayHolds
+unfolding way_holds
 returns c = c.within.ensures ∙ rw (c.before.before.before.before.subset-between.ensures, c.before.before.before.before.before.before-state.ensures)
 
 pub way-holds-spec : {M : Type 1} → statement M

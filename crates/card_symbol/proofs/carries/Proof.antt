@@ -5,7 +5,7 @@ use native.Mathlib.Omega.{arith}
 use borrow.Author.Rules.{rules}
 use borrow.Author.Tests.{lt-ltb, le-ltb, not-true, not-false}
 use lib.Bits.{and_mask}
-use Rattle.card_symbol.specs.Chosen.{symbol_of, isValid, carries}
+use Rattle.card_symbol.specs.Chosen.{symbol_of, is_valid, carries}
 use Rattle.card_symbol.proofs.Tests.{valid-is}
 use Rattle.card_symbol.proofs.carries.Statement.{statement}
 use Rattle.card_symbol.proofs.carries.Tie as tie
@@ -18,7 +18,7 @@ unfolding carries
 returns c = rw (sym c.before.is-valid.ensures ∙ not-true _ c.if1.true)
 
 -- the symbol can be sent
-passed : (e : tie.Else1) → isValid e.before.before.args.u (symbol_of e.before.before.args.c) ≡ true
+passed : (e : tie.Else1) → is_valid e.before.before.args.u (symbol_of e.before.before.args.c) ≡ true
 passed e = sym e.before.is-valid.ensures ∙ not-false _ e.if1.false
 
 returns-2 : tie.Need-returns-2

@@ -4,13 +4,13 @@ use Prim.Native.Nat.{ℕ, ◌+◌, ◌≤◌}
 use native.Mathlib.Omega.{arith}
 use borrow.Author.Rules.{rules}
 use Rattle.wei.specs.declared.label.LabelPair.{LabelPair}
-use Rattle.wei.specs.Label.{turn_of, secondLabel}
-use Rattle.wei.specs.Symbol.{lastLabel}
+use Rattle.wei.specs.Label.{turn_of, second_label}
+use Rattle.wei.specs.Symbol.{last_label}
 use Rattle.wei.proofs.Labels.{second_below}
-use Rattle.trellis.specs.Measure.{cap, counted, firstFar, secondFar, farOf}
+use Rattle.trellis.specs.Measure.{cap, counted, first_far, second_far, far_of}
 use Rattle.trellis.proofs.Counted.{counted-most}
 use Rattle.nearest.specs.declared.Received.TheVariants.{Heard}
-use Rattle.nearest.specs.Line.{lineDistance}
+use Rattle.nearest.specs.Line.{line_distance}
 use Rattle.card_symbol.proofs.far.Statement.{statement}
 use Rattle.card_symbol.proofs.far.Tie as tie
 
@@ -31,7 +31,7 @@ module _ (e : tie.After-labels) where
   first-is : e.labels.result.first ≡ turn_of s.args.c.i2 s.args.c.i3
   first-is = ap (λ (l : LabelPair). l.first) e.labels.ensures
 
-  second_is : e.labels.result.second ≡ secondLabel (turn_of s.args.c.i2 s.args.c.i3) s.args.c.y0 s.args.c.i1
+  second_is : e.labels.result.second ≡ second_label (turn_of s.args.c.i2 s.args.c.i3) s.args.c.y0 s.args.c.i1
   second_is = ap (λ (l : LabelPair). l.second) e.labels.ensures
 
 point-far-requires : tie.Need-point-far-requires
@@ -49,13 +49,13 @@ add-result c =
     omega arith
 
 returns : tie.Need-returns
-unfolding farOf firstFar secondFar lastLabel
+unfolding far_of first_far second_far last_label
 returns c =
     let e = c.before.before in
     let a = (s e).args in
     ap₂ (λ (m n : ℕ). m + n)
-    (c.before.point-far.ensures ∙ ap (λ (l : ℕ). counted (lineDistance a.k (Heard a.first) l a.c.w1)) (first-is e))
-    (c.point-far2.ensures ∙ ap (λ (l : ℕ). counted (lineDistance a.k (Heard a.second) l a.c.w2)) (second_is e))
+    (c.before.point-far.ensures ∙ ap (λ (l : ℕ). counted (line_distance a.k (Heard a.first) l a.c.w1)) (first-is e))
+    (c.point-far2.ensures ∙ ap (λ (l : ℕ). counted (line_distance a.k (Heard a.second) l a.c.w2)) (second_is e))
 
 pub far-spec : {M : Type 1} → statement M
 far-spec =

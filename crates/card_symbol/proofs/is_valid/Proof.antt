@@ -1,7 +1,7 @@
 -- `is_valid`: a number has u bits exactly if nothing is left above them.
 use borrow.Author.Rules.{rules}
 use Rattle.wei.proofs.Words.{none_above}
-use Rattle.card_symbol.specs.Chosen.{isValid}
+use Rattle.card_symbol.specs.Chosen.{is_valid}
 use Rattle.card_symbol.proofs.is_valid.Statement.{statement}
 use Rattle.card_symbol.proofs.is_valid.Tie as tie
 
@@ -12,7 +12,7 @@ shr-result-2 : tie.Need-overflow-shr-result-2
 shr-result-2 c = search rules
 
 returns : tie.Need-returns
-unfolding isValid
+unfolding is_valid
 returns c =
     let s = c.before.before.before.before.before.before in
     rw (none_above s.args.c.w1 s.args.u, none_above s.args.c.w2 s.args.u)

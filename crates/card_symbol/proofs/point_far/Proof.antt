@@ -4,7 +4,7 @@ use borrow.Author.Rules.{rules}
 use Rattle.maps.proofs.Apart.{small_at}
 use Rattle.trellis.specs.Measure.{counted}
 use Rattle.distance.specs.Distance.{distance}
-use Rattle.nearest.specs.Line.{lineDistance}
+use Rattle.nearest.specs.Line.{line_distance}
 use Rattle.card_symbol.proofs.point_far.Statement.{statement}
 use Rattle.card_symbol.proofs.point_far.Tie as tie
 
@@ -20,7 +20,7 @@ counted-of-requires : tie.Need-counted-of-requires
 counted-of-requires c κs = search rules
 
 returns : tie.Need-returns
-unfolding lineDistance
+unfolding line_distance
 returns c =
     let s = c.before.before.before in
     c.Counted-of.ensures ∙ ap counted (c.before.distance-from.ensures ∙ ap (distance s.args.h) c.before.before.point-on.ensures)

@@ -5,13 +5,13 @@ use native.Mathlib.Omega.{arith}
 use borrow.Author.Tests.{not-true, not-false}
 use borrow.Author.Rules.{rules}
 use lib.ListN.{length}
-use Rattle.compare.specs.Passing.{formFrom}
+use Rattle.compare.specs.Passing.{form_from}
 use Rattle.compare.proofs.Loops.{form-ends, form-goes, form-last}
 use Rattle.compare.proofs.form.Statement.{statement}
 use Rattle.compare.proofs.form.Tie as tie
 
 abbrev invariant-loop : tie.invariant-loop
-invariant-loop at bytes ends f₀ left₀ f left = (f.used ≤ length bytes) × (formFrom left₀ f₀ bytes ends ≡ formFrom left f bytes ends)
+invariant-loop at bytes ends f₀ left₀ f left = (f.used ≤ length bytes) × (form_from left₀ f₀ bytes ends ≡ form_from left f bytes ends)
 
 abbrev decreases-loop : tie.decreases-loop
 decreases-loop at bytes ends f₀ left₀ f left = left

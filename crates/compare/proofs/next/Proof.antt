@@ -5,13 +5,13 @@ use native.Mathlib.Omega.{arith}
 use borrow.Author.Tests.{not-true, not-false}
 use borrow.Author.Rules.{rules}
 use lib.ListN.{length}
-use Rattle.compare.specs.Passing.{passFrom}
+use Rattle.compare.specs.Passing.{pass_from}
 use Rattle.compare.proofs.Loops.{pass-ends, pass-goes, pass-last}
 use Rattle.compare.proofs.next.Statement.{statement}
 use Rattle.compare.proofs.next.Tie as tie
 
 abbrev invariant-loop : tie.invariant-loop
-invariant-loop xs ys ends closes now₀ left₀ now left = ((now.here ≤ length xs) × (now.there ≤ length ys)) × (passFrom left₀ now₀ xs ys ends closes ≡ passFrom left now xs ys ends closes)
+invariant-loop xs ys ends closes now₀ left₀ now left = ((now.here ≤ length xs) × (now.there ≤ length ys)) × (pass_from left₀ now₀ xs ys ends closes ≡ pass_from left now xs ys ends closes)
 
 abbrev decreases-loop : tie.decreases-loop
 decreases-loop xs ys ends closes now₀ left₀ now left = left

@@ -1,5 +1,5 @@
 -- `parts_of`: by what the line is.
-use Rattle.compare_text.specs.Says.{lineText}
+use Rattle.compare_text.specs.Says.{line_text}
 use borrow.Author.Rules.{rules}
 use Rattle.compare_text.proofs.parts_of.Statement.{statement}
 use Rattle.compare_text.proofs.parts_of.Tie as tie
@@ -41,27 +41,27 @@ counted-requires-3 : tie.Need-counted-requires-3
 counted-requires-3 c κs = search rules
 
 returns : tie.Need-returns
-unfolding lineText
+unfolding line_text
 returns c = rw c.before.before.before.before.line.given.1 c.numbered.ensures
 
 returns-2 : tie.Need-returns-2
-unfolding lineText
+unfolding line_text
 returns-2 c = rw c.before.before.before.before.line2.given.1 c.numbered2.ensures
 
 returns-3 : tie.Need-returns-3
-unfolding lineText
+unfolding line_text
 returns-3 c = rw c.before.before.before.before.line3.given.1 c.numbered3.ensures
 
 returns-4 : tie.Need-returns-4
-unfolding lineText
+unfolding line_text
 returns-4 c = rw c.before.before.before.before.line4.given.1 c.counted.ensures
 
 returns-5 : tie.Need-returns-5
-unfolding lineText
+unfolding line_text
 returns-5 c = rw c.before.before.before.before.line5.given.1 c.counted2.ensures
 
 returns-6 : tie.Need-returns-6
-unfolding lineText
+unfolding line_text
 returns-6 c = rw c.before.before.before.before.line6.given.1 c.counted3.ensures
 
 pub parts-of-spec : {M : Type 1} → statement M

@@ -2,7 +2,7 @@
 use mathlib.Core.Path.{subst}
 use Rattle.points.specs.declared.Accord.{Accord}
 use Rattle.openings.specs.declared.Start.TheVariants.{Free}
-use Rattle.openings.specs.Given.{plainWindow}
+use Rattle.openings.specs.Given.{plain_window}
 use Rattle.openings.specs.Opening.{Opens}
 use borrow.Author.Rules.{rules}
 use Rattle.demfizagu.proofs.demfizagu_receiver_open_plain.Statement.{statement}
@@ -23,7 +23,7 @@ same_length c = search rules
 returns : tie.Need-returns
 returns c =
     let o = c.before.before.before in
-    c.before.before.opened.ensures _ _ _ (subst (λ (k : Accord). Opens k plainWindow Free o.open_plain.result) o.before.accord-by.ensures o.open_plain.ensures)
+    c.before.before.opened.ensures _ _ _ (subst (λ (k : Accord). Opens k plain_window Free o.open_plain.result) o.before.accord-by.ensures o.open_plain.ensures)
 
 pub demfizagu-receiver-open-plain-spec : {M : Type 1} → statement M
 demfizagu-receiver-open-plain-spec =

@@ -1,7 +1,7 @@
 -- `demfizagu_sender_open_map`: too short, or what the door gave, its map from a number.
 use mathlib.Core.Path.{subst}
 use Rattle.points.specs.declared.Accord.{Accord}
-use Rattle.c_layout.specs.Accords.{accordBy}
+use Rattle.c_layout.specs.Accords.{accord_by}
 use Rattle.sender.specs.Promise.{Opens}
 use Rattle.demfizagu.proofs.Cases.{sender-short, sender-opened}
 use borrow.Author.Rules.{rules}
@@ -9,7 +9,7 @@ use Rattle.demfizagu.proofs.demfizagu_sender_open_map.Statement.{statement}
 use Rattle.demfizagu.proofs.demfizagu_sender_open_map.Tie as tie
 
 returns : tie.Need-returns
-returns c = let s = c.before.before in sender-short s.args.state.now (accordBy s.args.map s.args.u) c.if1.true
+returns c = let s = c.before.before in sender-short s.args.state.now (accord_by s.args.map s.args.u) c.if1.true
 
 accord-by-requires : tie.Need-accord-by-requires
 accord-by-requires c κs = search rules
@@ -31,7 +31,7 @@ returns-2 c =
     let o = c.before.before.before.before.before.before in
     let e = o.before.before in
     let s = e.before.before in
-    sender-opened s.args.state.now _ (accordBy s.args.map s.args.u) _ _ e.if1.false
+    sender-opened s.args.state.now _ (accord_by s.args.map s.args.u) _ _ e.if1.false
     (subst (λ (k : Accord). Opens k o.open-sender.result) o.before.accord-by.ensures o.open-sender.ensures) c.number.ensures
     c.before.before.before.store-sender.ensures
 

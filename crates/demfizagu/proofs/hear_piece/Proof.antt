@@ -6,8 +6,8 @@ use Prim.Native.Nat.{ℕ}
 use native.Mathlib.Omega.{arith}
 use borrow.Author.Tests.{not-true, not-false}
 use lib.ListN.{length}
-use Rattle.receiver_meaning.specs.Piece.{Piece, pieceWith}
-use Rattle.c_layout.specs.Layout.{receiverLength, receiverTag}
+use Rattle.receiver_meaning.specs.Piece.{Piece, piece_with}
+use Rattle.c_layout.specs.Layout.{receiver_length, receiver_tag}
 use Rattle.c_layout.specs.Tagged.{holds}
 use Rattle.c_layout.proofs.Held.{held}
 use Rattle.demfizagu.proofs.Cases.{hear-short, hear-none, lent-kept, lent_written}
@@ -16,12 +16,12 @@ use borrow.Author.Rules.{rules}
 use Rattle.demfizagu.proofs.hear_piece.Statement.{statement}
 use Rattle.demfizagu.proofs.hear_piece.Tie as tie
 
-yes : (e : tie.Else2) → holds receiverLength receiverTag e.before.before.before.before.before.before.before.before.args.state.now ≡ true
+yes : (e : tie.Else2) → holds receiver_length receiver_tag e.before.before.before.before.before.before.before.before.args.state.now ≡ true
 yes e = sym e.before.holds-receiver.ensures ∙ not-false e.before.holds-receiver.result e.if2.false
 
 -- the piece that was lent
 abbrev piece : tie.Start → Piece
-piece s = let a = s.args in pieceWith a.marked a.marks.now a.piece.now
+piece s = let a = s.args in piece_with a.marked a.marks.now a.piece.now
 
 -- the picks that came back
 abbrev picks : tie.After-hear-piece-lent → List ℕ
@@ -73,7 +73,7 @@ part-hear-piece-lent-start : tie.Need-slice-bounds-hear-piece-lent-start
 part-hear-piece-lent-start c = search rules
 
 part-hear-piece-lent-end : tie.Need-slice-bounds-hear-piece-lent-end
-part-hear-piece-lent-end c = let h = held receiverLength receiverTag _ (yes c.before.before.before.before.before.before.before) in omega arith
+part-hear-piece-lent-end c = let h = held receiver_length receiver_tag _ (yes c.before.before.before.before.before.before.before) in omega arith
 
 hear-piece-lent-requires : tie.Need-hear-piece-lent-requires
 hear-piece-lent-requires c κs = search rules

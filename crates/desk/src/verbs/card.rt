@@ -1,15 +1,15 @@
 // `card`: whether the card of the line is accepted. The desk stays as it is.
 ghost use Rattle.std.specs.Prelude.{◌+◌, ◌≤◌, length};
-ghost use Rattle.answers.specs.Answer.{answerRoom};
-ghost use Rattle.requests.specs.Named.{noneNamed};
+ghost use Rattle.answers.specs.Answer.{answer_room};
+ghost use Rattle.requests.specs.Named.{none_named};
 ghost use Rattle.desk.specs.Desk.{Acts};
 
 use crate::{Desk, Done};
 use requests::Request;
 
 pub fn card(desk: Desk, accepted: bool, page: &mut [u8], at: usize) -> Done
-    requires { at + answerRoom ≤ length page.old }
-    ensures { Acts desk (Request.Card accepted) noneNamed page.old at result page.new }
+    requires { at + answer_room ≤ length page.old }
+    ensures { Acts desk (Request.Card accepted) none_named page.old at result page.new }
 {
     Done {
         desk,

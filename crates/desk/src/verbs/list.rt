@@ -1,19 +1,19 @@
 // `list CAP W W ..`: the words, which are at the start of the list lent for them, are sent into an output of CAP places, which are those
 // at the start of the list lent for coordinates.
 ghost use Rattle.std.specs.Prelude.{[], ◌+◌, ◌≤◌, length};
-ghost use Rattle.sender.specs.SendList.{sendingList};
-ghost use Rattle.phrases.specs.Phrase.{wholesRoom};
-ghost use Rattle.answers.specs.Answer.{answerRoom};
+ghost use Rattle.sender.specs.SendList.{sending_list};
+ghost use Rattle.phrases.specs.Phrase.{wholes_room};
+ghost use Rattle.answers.specs.Answer.{answer_room};
 ghost use Rattle.requests.specs.Named.{named};
-ghost use Rattle.desk.specs.Desk.{lent, listGives, Does, Acts};
+ghost use Rattle.desk.specs.Desk.{lent, list_gives, Does, Acts};
 
 use crate::{Desk, Done, ends};
 use requests::Request;
 
 fn sent(desk: Desk, words: &[u32], out: &mut [i32], page: &mut [u8], at: usize) -> Done
-    requires { at + 44 + wholesRoom (length out.old) ≤ length page.old }
-    ensures { Does (listGives desk (sendingList desk.sender words.now (lent (length out.old))))
-        (44 + wholesRoom (length out.old)) page.old at result page.new }
+    requires { at + 44 + wholes_room (length out.old) ≤ length page.old }
+    ensures { Does (list_gives desk (sending_list desk.sender words.now (lent (length out.old))))
+        (44 + wholes_room (length out.old)) page.old at result page.new }
 {
     let old = desk.sender;
     let sent = sender::send_list(old, words, out);
@@ -33,7 +33,7 @@ pub fn list(
     page: &mut [u8],
     at: usize,
 ) -> Done
-    requires { (cap ≤ length coordinates.old) × (cap ≤ 4096) × (count ≤ length words.now) × (at + answerRoom ≤ length page.old) }
+    requires { (cap ≤ length coordinates.old) × (cap ≤ 4096) × (count ≤ length words.now) × (at + answer_room ≤ length page.old) }
     ensures { Acts desk (Request.List cap count) (named [] words.now []) page.old at result page.new }
 {
     let n = cap as usize;

@@ -1,12 +1,12 @@
 // `marked CAP MARKS C C C C ..`: the receiver hears the coordinates with a mark for each symbol, both at the start of the lists lent for
 // them, into an output of CAP words. Marks that are not one for each symbol are the receiver's to refuse.
 ghost use Rattle.std.specs.Prelude.{[], ◌+◌, ◌≤◌, length};
-ghost use Rattle.receiver_meaning.specs.Piece.{markedPiece};
+ghost use Rattle.receiver_meaning.specs.Piece.{marked_piece};
 ghost use Rattle.receiver.specs.Doors.{hearing};
-ghost use Rattle.phrases.specs.Phrase.{wordsRoom};
-ghost use Rattle.answers.specs.Answer.{answerRoom};
+ghost use Rattle.phrases.specs.Phrase.{words_room};
+ghost use Rattle.answers.specs.Answer.{answer_room};
 ghost use Rattle.requests.specs.Named.{named};
-ghost use Rattle.desk.specs.Desk.{ranGives, Does, Acts};
+ghost use Rattle.desk.specs.Desk.{ran_gives, Does, Acts};
 
 use crate::verbs::ran;
 use crate::{Desk, Done};
@@ -20,9 +20,9 @@ fn heard(
     page: &mut [u8],
     at: usize,
 ) -> Done
-    requires { at + 92 + wordsRoom (length out.old) ≤ length page.old }
-    ensures { Does (ranGives desk (hearing desk.receiver (markedPiece marks.now piece.now) (length out.old)))
-        (92 + wordsRoom (length out.old)) page.old at result page.new }
+    requires { at + 92 + words_room (length out.old) ≤ length page.old }
+    ensures { Does (ran_gives desk (hearing desk.receiver (marked_piece marks.now piece.now) (length out.old)))
+        (92 + words_room (length out.old)) page.old at result page.new }
 {
     let old = desk.receiver;
     let heard = receiver::hear_marked(old, piece, marks, out);
@@ -40,7 +40,7 @@ pub fn hear(
     page: &mut [u8],
     at: usize,
 ) -> Done
-    requires { (cap ≤ length words.old) × (cap ≤ 4096) × (row ≤ length marks.now) × (count ≤ length coordinates.now) × (at + answerRoom ≤ length page.old) }
+    requires { (cap ≤ length words.old) × (cap ≤ 4096) × (row ≤ length marks.now) × (count ≤ length coordinates.now) × (at + answer_room ≤ length page.old) }
     ensures { Acts desk (Request.Marked cap row count) (named coordinates.now [] marks.now) page.old at result page.new }
 {
     let n = cap as usize;

@@ -3,9 +3,9 @@
 ghost use Rattle.std.specs.Prelude.{◌≡◌, ◌+◌, ◌≤◌, length};
 ghost use Rattle.reasons.specs.Reason.{given_of};
 ghost use Rattle.openings.specs.Opening.{Opening};
-ghost use Rattle.answers.specs.Answer.{answerRoom};
-ghost use Rattle.requests.specs.Named.{noneNamed};
-ghost use Rattle.desk.specs.Desk.{openingGives, Does, Acts};
+ghost use Rattle.answers.specs.Answer.{answer_room};
+ghost use Rattle.requests.specs.Named.{none_named};
+ghost use Rattle.desk.specs.Desk.{opening_gives, Does, Acts};
 
 use crate::{Desk, Done, ends};
 use openings::{Opened, Start};
@@ -14,9 +14,9 @@ use requests::Request;
 
 // What an opening of a receiver gave.
 fn opened(desk: Desk, o: Opened, page: &mut [u8], at: usize) -> Done
-    requires { at + answerRoom ≤ length page.old }
+    requires { at + answer_room ≤ length page.old }
     ensures { (g : Opening) → given_of o.why ≡ given_of g.why → o.receiver ≡ g.receiver
-        → Does (openingGives desk g) answerRoom page.old at result page.new }
+        → Does (opening_gives desk g) answer_room page.old at result page.new }
 {
     let why = o.why;
     let p = answers::number(page, at, reasons::number(why) as u64);
@@ -25,15 +25,15 @@ fn opened(desk: Desk, o: Opened, page: &mut [u8], at: usize) -> Done
 }
 
 pub fn open_plain(desk: Desk, accord: Accord, page: &mut [u8], at: usize) -> Done
-    requires { at + answerRoom ≤ length page.old }
-    ensures { Acts desk (Request.Plain accord) noneNamed page.old at result page.new }
+    requires { at + answer_room ≤ length page.old }
+    ensures { Acts desk (Request.Plain accord) none_named page.old at result page.new }
 {
     opened(desk, openings::open_plain(accord), page, at)
 }
 
 pub fn open_free(desk: Desk, accord: Accord, window: u32, page: &mut [u8], at: usize) -> Done
-    requires { at + answerRoom ≤ length page.old }
-    ensures { Acts desk (Request.Free accord window) noneNamed page.old at result page.new }
+    requires { at + answer_room ≤ length page.old }
+    ensures { Acts desk (Request.Free accord window) none_named page.old at result page.new }
 {
     let o = openings::open_receiver(accord, window, Start::Free);
     opened(desk, o, page, at)
@@ -47,8 +47,8 @@ pub fn open_at(
     page: &mut [u8],
     at: usize,
 ) -> Done
-    requires { at + answerRoom ≤ length page.old }
-    ensures { Acts desk (Request.At accord window state) noneNamed page.old at result page.new }
+    requires { at + answer_room ≤ length page.old }
+    ensures { Acts desk (Request.At accord window state) none_named page.old at result page.new }
 {
     let o = openings::open_receiver(accord, window, Start::At(state));
     opened(desk, o, page, at)

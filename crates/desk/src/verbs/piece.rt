@@ -3,19 +3,19 @@
 ghost use Rattle.std.specs.Prelude.{[], ◌+◌, ◌≤◌, length};
 ghost use Rattle.receiver_meaning.specs.Piece.{piece_of};
 ghost use Rattle.receiver.specs.Doors.{hearing};
-ghost use Rattle.phrases.specs.Phrase.{wordsRoom};
-ghost use Rattle.answers.specs.Answer.{answerRoom};
+ghost use Rattle.phrases.specs.Phrase.{words_room};
+ghost use Rattle.answers.specs.Answer.{answer_room};
 ghost use Rattle.requests.specs.Named.{named};
-ghost use Rattle.desk.specs.Desk.{ranGives, Does, Acts};
+ghost use Rattle.desk.specs.Desk.{ran_gives, Does, Acts};
 
 use crate::verbs::ran;
 use crate::{Desk, Done};
 use requests::Request;
 
 fn heard(desk: Desk, piece: &[i32], out: &mut [u32], page: &mut [u8], at: usize) -> Done
-    requires { at + 92 + wordsRoom (length out.old) ≤ length page.old }
-    ensures { Does (ranGives desk (hearing desk.receiver (piece_of piece.now) (length out.old)))
-        (92 + wordsRoom (length out.old)) page.old at result page.new }
+    requires { at + 92 + words_room (length out.old) ≤ length page.old }
+    ensures { Does (ran_gives desk (hearing desk.receiver (piece_of piece.now) (length out.old)))
+        (92 + words_room (length out.old)) page.old at result page.new }
 {
     let old = desk.receiver;
     let heard = receiver::hear(old, piece, out);
@@ -31,7 +31,7 @@ pub fn hear(
     page: &mut [u8],
     at: usize,
 ) -> Done
-    requires { (cap ≤ length words.old) × (cap ≤ 4096) × (count ≤ length coordinates.now) × (at + answerRoom ≤ length page.old) }
+    requires { (cap ≤ length words.old) × (cap ≤ 4096) × (count ≤ length coordinates.now) × (at + answer_room ≤ length page.old) }
     ensures { Acts desk (Request.Piece cap count) (named coordinates.now [] []) page.old at result page.new }
 {
     let n = cap as usize;

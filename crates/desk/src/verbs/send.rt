@@ -1,15 +1,15 @@
 // `send W CAP`: a word is sent into an output of CAP places, which are those at the start of the list lent for coordinates.
 ghost use Rattle.std.specs.Prelude.{◌+◌, ◌≤◌, length};
-ghost use Rattle.answers.specs.Answer.{answerRoom};
-ghost use Rattle.requests.specs.Named.{noneNamed};
+ghost use Rattle.answers.specs.Answer.{answer_room};
+ghost use Rattle.requests.specs.Named.{none_named};
 ghost use Rattle.desk.specs.Desk.{Acts};
 
 use crate::{Desk, Done, ends};
 use requests::Request;
 
 fn sent(desk: Desk, word: u32, out: &mut [i32], page: &mut [u8], at: usize) -> Done
-    requires { at + answerRoom ≤ length page.old }
-    ensures { Acts desk (Request.Send word (length out.old)) noneNamed page.old at result page.new }
+    requires { at + answer_room ≤ length page.old }
+    ensures { Acts desk (Request.Send word (length out.old)) none_named page.old at result page.new }
 {
     let old = desk.sender;
     let sent = sender::send(old, word, out);
@@ -27,8 +27,8 @@ pub fn send(
     page: &mut [u8],
     at: usize,
 ) -> Done
-    requires { (cap ≤ length coordinates.old) × (at + answerRoom ≤ length page.old) }
-    ensures { Acts desk (Request.Send word cap) noneNamed page.old at result page.new }
+    requires { (cap ≤ length coordinates.old) × (at + answer_room ≤ length page.old) }
+    ensures { Acts desk (Request.Send word cap) none_named page.old at result page.new }
 {
     let n = cap as usize;
     sent(desk, word, &mut coordinates[..n], page, at)

@@ -4,7 +4,7 @@ use mathlib.Core.Path.{refl, sym, ap, ◌∙◌}
 use native.Mathlib.Omega.{arith}
 use borrow.Author.Rules.{rules}
 use lib.ListN.{length}
-use Rattle.number_lists.specs.Many.{numberGot, number_in}
+use Rattle.number_lists.specs.Many.{number_got, number_in}
 use Rattle.line_fields.proofs.Reading.{Read, begun, ended, gone, within, bad, more}
 use Rattle.line_fields.proofs.numbers.Statement.{statement}
 use Rattle.line_fields.proofs.numbers.Tie as tie
@@ -71,7 +71,7 @@ returns-2 c =
     let d = c.before.before.before.before in
     let e = d.before.before in
     bad e.before.before.loop.invariant.1 e.before.loop-test.true e.if1.false d.before2.ensures
-    (ap numberGot (sym c.enum_told.given.1 ∙ c.before.before.decimal.ensures))
+    (ap number_got (sym c.enum_told.given.1 ∙ c.before.before.decimal.ensures))
 
 mul-list : tie.Need-overflow-mul-list invariant-loop decreases-loop
 mul-list c = search rules
@@ -100,7 +100,7 @@ loop-again c =
     let e = d.before.before in (
       omega (arith, e.before.loop-test.taken, e.before.before.loop.inv.1.long),
       more e.before.before.loop.inv.1 e.before.loop-test.taken e.if1.left d.before2.ensures _ _ refl
-          (ap numberGot (sym c.before.x.given.1 ∙ c.before.before.before.decimal.ensures)),
+          (ap number_got (sym c.before.x.given.1 ∙ c.before.before.before.decimal.ensures)),
     )
 
 same-length-3 : tie.Need-same-length-3 invariant-loop decreases-loop

@@ -5,19 +5,19 @@ use native.Mathlib.Omega.{arith}
 use borrow.Author.Rules.{rules}
 use lib.ListN.{length}
 use mir.Facts.{to_z-of_z}
-use Rattle.number_lists.specs.Many.{wholeGot, wholeIn}
+use Rattle.number_lists.specs.Many.{whole_got, whole_in}
 use Rattle.line_fields.proofs.Reading.{Read, begun, ended, gone, within, bad, more}
 use Rattle.line_fields.proofs.signed.Statement.{statement}
 use Rattle.line_fields.proofs.signed.Tie as tie
 
 abbrev invariant-loop : tie.invariant-loop
-invariant-loop s at list₀ from₀ k₀ list from k = (k ≤ length list₀) × Read wholeIn s at (length list₀) from k list
+invariant-loop s at list₀ from₀ k₀ list from k = (k ≤ length list₀) × Read whole_in s at (length list₀) from k list
 
 abbrev decreases-loop : tie.decreases-loop
 decreases-loop s at list₀ from₀ k₀ list from k = length list₀ - k
 
 loop-holds : tie.Need-loop-init invariant-loop decreases-loop
-loop-holds c = (omega arith, begun wholeIn _ _ _)
+loop-holds c = (omega arith, begun whole_in _ _ _)
 
 same_length : tie.Need-same-length invariant-loop decreases-loop
 same_length c = search rules
@@ -72,7 +72,7 @@ returns-2 c =
     let d = c.before.before.before.before in
     let e = d.before.before in
     bad e.before.before.loop.invariant.1 e.before.loop-test.true e.if1.false d.before2.ensures
-    (ap wholeGot (sym c.enum_told.given.1 ∙ c.before.before.signed.ensures))
+    (ap whole_got (sym c.enum_told.given.1 ∙ c.before.before.signed.ensures))
 
 mul-x : tie.Need-overflow-mul-x invariant-loop decreases-loop
 mul-x c = search rules
@@ -101,7 +101,7 @@ loop-again c =
     let e = d.before.before in (
       omega (arith, e.before.loop-test.taken, e.before.before.loop.inv.1.long),
       more e.before.before.loop.inv.1 e.before.loop-test.taken e.if1.left d.before2.ensures _ _ (to_z-of_z (record { sfits = c.known-told.given.0.1 }))
-          (ap wholeGot (sym c.before.x.given.1 ∙ c.before.before.before.signed.ensures)),
+          (ap whole_got (sym c.before.x.given.1 ∙ c.before.before.before.signed.ensures)),
     )
 
 same-length-3 : tie.Need-same-length-3 invariant-loop decreases-loop

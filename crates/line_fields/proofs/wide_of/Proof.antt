@@ -5,7 +5,7 @@ use native.Mathlib.Omega.{arith}
 use borrow.Author.Rules.{rules}
 use lib.ListN.{length}
 use Rattle.text.proofs.Digits.{Reads, started, further, other_byte, too_large, all_read, no_bytes}
-use Rattle.number_lists.specs.Many.{numberGot}
+use Rattle.number_lists.specs.Many.{number_got}
 use Rattle.line_fields.proofs.wide_of.Statement.{statement}
 use Rattle.line_fields.proofs.wide_of.Tie as tie
 
@@ -16,7 +16,7 @@ abbrev decreases-loop : tie.decreases-loop
 decreases-loop s n₀ i₀ n i = length s - i
 
 returns : tie.Need-returns invariant-loop decreases-loop
-returns c = ap numberGot (no_bytes 10 18446744073709551615 _ c.if1.true)
+returns c = ap number_got (no_bytes 10 18446744073709551615 _ c.if1.true)
 
 loop-holds : tie.Need-loop-init invariant-loop decreases-loop
 loop-holds c = (omega arith, omega arith, started _ _)
@@ -30,7 +30,7 @@ digit-requires c κs = search rules
 returns-2 : tie.Need-returns-2 invariant-loop decreases-loop
 returns-2 c =
     let a = c.before.before.before.before in
-    ap numberGot (other_byte a.loop.invariant.2 18446744073709551615 _ c.before.before.before.loop-test.true c.before.digit.ensures c.if2.true)
+    ap number_got (other_byte a.loop.invariant.2 18446744073709551615 _ c.before.before.before.loop-test.true c.before.digit.ensures c.if2.true)
 
 -- one digit more, whatever 64 bits hold
 module _ (e : tie.Else2 invariant-loop decreases-loop) where
@@ -41,7 +41,7 @@ module _ (e : tie.Else2 invariant-loop decreases-loop) where
   longer = further a₂.loop.inv.2 e.before.before.before.loop-test.taken e.before.digit.ensures e.if2.left
 
 returns-3 : tie.Need-returns-3 invariant-loop decreases-loop
-returns-3 c = ap numberGot (too_large (longer c.before) 18446744073709551615 (omega arith) (omega arith))
+returns-3 c = ap number_got (too_large (longer c.before) 18446744073709551615 (omega arith) (omega arith))
 
 mul-if4 : tie.Need-overflow-mul-if4 invariant-loop decreases-loop
 mul-if4 c = record { fits = omega arith }
@@ -50,7 +50,7 @@ sub-if4 : tie.Need-overflow-sub-if4 invariant-loop decreases-loop
 sub-if4 c = omega arith
 
 returns-4 : tie.Need-returns-4 invariant-loop decreases-loop
-returns-4 c = ap numberGot (too_large (longer c.before.before) 18446744073709551615 (omega arith) (omega arith))
+returns-4 c = ap number_got (too_large (longer c.before.before) 18446744073709551615 (omega arith) (omega arith))
 
 mul-n : tie.Need-overflow-mul-n invariant-loop decreases-loop
 mul-n c = record { fits = omega arith }
@@ -68,7 +68,7 @@ loop-again : tie.Need-loop-preserved invariant-loop decreases-loop
 loop-again c = (omega arith, omega arith, longer c.before.before)
 
 returns-5 : tie.Need-returns-5 invariant-loop decreases-loop
-returns-5 c = ap numberGot (all_read c.before.loop.invariant.2 18446744073709551615 c.loop-test.false (omega arith) c.before.loop.invariant.1)
+returns-5 c = ap number_got (all_read c.before.loop.invariant.2 18446744073709551615 c.loop-test.false (omega arith) c.before.loop.invariant.1)
 
 pub wide-of-spec : {M : Type 1} → statement M
 wide-of-spec =

@@ -4,19 +4,19 @@ use mathlib.Core.Path.{refl, sym, ap, ◌∙◌}
 use native.Mathlib.Omega.{arith}
 use borrow.Author.Rules.{rules}
 use lib.ListN.{length}
-use Rattle.line_fields.specs.Fields.{wideGot, wideIn}
+use Rattle.line_fields.specs.Fields.{wide_got, wide_in}
 use Rattle.line_fields.proofs.Reading.{Read, begun, ended, gone, within, bad, more}
 use Rattle.line_fields.proofs.wides.Statement.{statement}
 use Rattle.line_fields.proofs.wides.Tie as tie
 
 abbrev invariant-loop : tie.invariant-loop
-invariant-loop s at list₀ from₀ k₀ list from k = (k ≤ length list₀) × Read wideIn s at (length list₀) from k list
+invariant-loop s at list₀ from₀ k₀ list from k = (k ≤ length list₀) × Read wide_in s at (length list₀) from k list
 
 abbrev decreases-loop : tie.decreases-loop
 decreases-loop s at list₀ from₀ k₀ list from k = length list₀ - k
 
 loop-holds : tie.Need-loop-init invariant-loop decreases-loop
-loop-holds c = (omega arith, begun wideIn _ _ _)
+loop-holds c = (omega arith, begun wide_in _ _ _)
 
 same_length : tie.Need-same-length invariant-loop decreases-loop
 same_length c = search rules
@@ -71,7 +71,7 @@ returns-2 c =
     let d = c.before.before.before.before in
     let e = d.before.before in
     bad e.before.before.loop.invariant.1 e.before.loop-test.true e.if1.false d.before2.ensures
-    (sym (ap wideGot c.enum_told.given.1) ∙ c.before.before.wide_of.ensures)
+    (sym (ap wide_got c.enum_told.given.1) ∙ c.before.before.wide_of.ensures)
 
 mul-list : tie.Need-overflow-mul-list invariant-loop decreases-loop
 mul-list c = search rules
@@ -100,7 +100,7 @@ loop-again c =
     let e = d.before.before in (
       omega (arith, e.before.loop-test.taken, e.before.before.loop.inv.1.long),
       more e.before.before.loop.inv.1 e.before.loop-test.taken e.if1.left d.before2.ensures _ _ refl
-          (sym (ap wideGot c.before.x.given.1) ∙ c.before.before.before.wide_of.ensures),
+          (sym (ap wide_got c.before.x.given.1) ∙ c.before.before.before.wide_of.ensures),
     )
 
 same-length-3 : tie.Need-same-length-3 invariant-loop decreases-loop

@@ -4,13 +4,13 @@ use Prim.Native.Nat.{◌-◌, ◌≤◌}
 use native.Mathlib.Omega.{arith}
 use borrow.Author.Rules.{rules}
 use lib.ListN.{length, drop}
-use Rattle.lists.specs.UpTo.{allUpTo}
+use Rattle.lists.specs.UpTo.{all_up_to}
 use Rattle.lists.proofs.UpTo.{passes, fails, ends}
 use Rattle.lists.proofs.bytes_up_to.Statement.{statement}
 use Rattle.lists.proofs.bytes_up_to.Tie as tie
 
 abbrev invariant-loop : tie.invariant-loop
-invariant-loop list most j₀ j = (j ≤ length list) × (allUpTo most list ≡ allUpTo most (drop j list))
+invariant-loop list most j₀ j = (j ≤ length list) × (all_up_to most list ≡ all_up_to most (drop j list))
 
 abbrev decreases-loop : tie.decreases-loop
 decreases-loop list most j₀ j = length list - j

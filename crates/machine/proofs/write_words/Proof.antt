@@ -5,9 +5,9 @@ use mathlib.Core.List.{◌++◌}
 use native.Mathlib.Omega.{arith}
 use lib.ListN.{length, take, drop, length-set}
 use Rattle.trellis.specs.Speak.{speak, after}
-use Rattle.trellis.specs.Words.{wordsFrom, turnAfter}
-use Rattle.picks.specs.Picks.{symbolIn, said_of}
-use Rattle.machine.specs.Machine.{slot_of, wayFrom}
+use Rattle.trellis.specs.Words.{words_from, turn_after}
+use Rattle.picks.specs.Picks.{symbol_in, said_of}
+use Rattle.machine.specs.Machine.{slot_of, way_from}
 use Rattle.machine.proofs.CodeWords.{turn_below, turn_more, words_more}
 use Rattle.points.proofs.Agreed.{accord-width}
 use Rattle.machine.proofs.write_words.Statement.{statement}
@@ -18,8 +18,8 @@ invariant-loop core registers picks s n out₀ oldest turn₀ j₀ out turn j =
     (j ≤ n)
     × (length out ≡ length out₀)
     × (turn ≤ 4)
-    × (turn ≡ after turnAfter core.turn (take j (wayFrom core registers picks s)))
-    × (out ≡ wordsFrom core.accord.u core.turn (take j (wayFrom core registers picks s)) ++ drop j out₀)
+    × (turn ≡ after turn_after core.turn (take j (way_from core registers picks s)))
+    × (out ≡ words_from core.accord.u core.turn (take j (way_from core registers picks s)) ++ drop j out₀)
 
 abbrev decreases-loop : tie.decreases-loop
 decreases-loop core registers picks s n out₀ oldest turn₀ j₀ out turn j = n - j
@@ -77,7 +77,7 @@ loop-again c =
     let more = c.before.before.before.loop-test.true in
     let age = a.core.pending - 1 - at.loop.j in
     let is =
-    c.word_in.ensures ∙ ap (λ (x : ℕ). said_of a.core.accord.u at.loop.turn (symbolIn a.core.accord.u a.picks.now (slot_of a.core at.loop.j) age x))
+    c.word_in.ensures ∙ ap (λ (x : ℕ). said_of a.core.accord.u at.loop.turn (symbol_in a.core.accord.u a.picks.now (slot_of a.core at.loop.j) age x))
     c.before.subset-at.ensures.0 in (
       omega arith,
       simp length-set at.loop.invariant.1,

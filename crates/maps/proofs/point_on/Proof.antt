@@ -5,15 +5,15 @@ use mathlib.Core.Bool.{true}
 use borrow.Author.Rules.{rules}
 use Rattle.points.specs.declared.Map.{Map}
 use Rattle.points.specs.declared.Map.TheVariants.{Round, Square}
-use Rattle.points.specs.Agreed.{hasWidth}
-use Rattle.maps.specs.PointMap.{pointOn}
+use Rattle.points.specs.Agreed.{has_width}
+use Rattle.maps.specs.PointMap.{point_on}
 use Rattle.maps.proofs.Both.{listed}
 use Rattle.maps.proofs.point_on.Statement.{statement}
 use Rattle.maps.proofs.point_on.Tie as tie
 
 -- a width of the map that it turned out to be
-width-on : (n k : Map) (u : ℕ) → n ≡ k → hasWidth n u ≡ true → hasWidth k u ≡ true
-width-on n k u e h = subst (λ (n : Map). hasWidth n u ≡ true) e h
+width-on : (n k : Map) (u : ℕ) → n ≡ k → has_width n u ≡ true → has_width k u ≡ true
+width-on n k u e h = subst (λ (n : Map). has_width n u ≡ true) e h
 
 enum_told : tie.Need-enum-told
 enum_told c = search rules
@@ -34,12 +34,12 @@ point-of-requires-2 c κs =
 returns : tie.Need-returns
 returns c =
     let s = c.before.before.before in
-    c.point-of.ensures ∙ sym (ap (λ (n : Map). pointOn n s.args.u s.args.l s.args.w) c.before.enum_told.given.1)
+    c.point-of.ensures ∙ sym (ap (λ (n : Map). point_on n s.args.u s.args.l s.args.w) c.before.enum_told.given.1)
 
 returns-2 : tie.Need-returns-2
 returns-2 c =
     let s = c.before.before.before in
-    c.point-of2.ensures ∙ sym (ap (λ (n : Map). pointOn n s.args.u s.args.l s.args.w) c.before.enum-told2.given.1)
+    c.point-of2.ensures ∙ sym (ap (λ (n : Map). point_on n s.args.u s.args.l s.args.w) c.before.enum-told2.given.1)
 
 pub point-on-spec : {M : Type 1} → statement M
 point-on-spec =

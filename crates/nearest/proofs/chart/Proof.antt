@@ -1,6 +1,6 @@
 -- `chart`: the table of the A points by place.
 use borrow.Author.Rules.{rules}
-use Rattle.nearest.specs.Found.{chartOf}
+use Rattle.nearest.specs.Found.{chart_of}
 use Rattle.nearest.proofs.chart.Statement.{statement}
 use Rattle.nearest.proofs.chart.Tie as tie
 
@@ -8,7 +8,7 @@ table-requires : tie.Need-table-requires
 table-requires c κs = search rules
 
 returns : tie.Need-returns
-unfolding chartOf
+unfolding chart_of
 returns c = c.table.ensures
 
 pub chart-spec : {M : Type 1} → statement M

@@ -2,7 +2,7 @@
 use mathlib.Core.Path.{sym, ap, subst, ◌∙◌}
 use borrow.Author.Rules.{rules}
 use Rattle.nearest.specs.Line.{InRange}
-use Rattle.nearest.specs.Found.{nearestOf}
+use Rattle.nearest.specs.Found.{nearest_of}
 use Rattle.nearest.proofs.Missing.{none_found}
 use Rattle.nearest.proofs.search.Statement.{statement}
 use Rattle.nearest.proofs.search.Tie as tie
@@ -21,12 +21,12 @@ enum_told c = search rules
 returns : tie.Need-returns
 returns c =
     let h = c.before.before in
-    c.search-heard.ensures ∙ sym (ap (nearestOf h.before.before.args.k) h.h.given.1)
+    c.search-heard.ensures ∙ sym (ap (nearest_of h.before.before.args.k) h.h.given.1)
 
 returns-2 : tie.Need-returns-2
 returns-2 c =
     let k = c.before.before.args.k in
-    none_found k ∙ sym (ap (nearestOf k) c.enum_told.given.1)
+    none_found k ∙ sym (ap (nearest_of k) c.enum_told.given.1)
 
 pub search-spec : {M : Type 1} → statement M
 search-spec = tie.close (tie.spec enum-known-h search-heard-requires enum_told returns returns-2)

@@ -9,22 +9,22 @@ use Rattle.trellis.specs.Measure.{counted}
 use Rattle.trellis.specs.Pick.{near, gap_of}
 use Rattle.distance.specs.declared.Spot.{Spot}
 use Rattle.distance.specs.declared.Found.{Found}
-use Rattle.distance.specs.Found.{foundBy}
+use Rattle.distance.specs.Found.{found_by}
 use Rattle.nearest.specs.declared.Received.TheVariants.{Heard}
-use Rattle.nearest.specs.Line.{mapDistance, lineDistance}
-use Rattle.nearest.specs.Found.{chartOf, nearestOf}
+use Rattle.nearest.specs.Line.{map_distance, line_distance}
+use Rattle.nearest.specs.Found.{chart_of, nearest_of}
 use Rattle.nearest.proofs.search_heard.Statement.{statement}
 use Rattle.nearest.proofs.search_heard.Tie as tie
 
 -- the row of counted distances beside what was found
-laid : (k : Accord) (h : Spot) (f : Found) (a c b d : ℕ) → f ≡ foundBy k.u (mapDistance k.map k.u) h →
+laid : (k : Accord) (h : Spot) (f : Found) (a c b d : ℕ) → f ≡ found_by k.u (map_distance k.map k.u) h →
     a ≡ counted (get_or f.d 0 0) → c ≡ counted (get_or f.d 1 0) → b ≡ counted (get_or f.d 2 0) → d ≡ counted (get_or f.d 3 0) →
-    record { w = f.w; d = f.d; counted = a ∷ c ∷ b ∷ d ∷ [] } ≡ nearestOf k (Heard h)
-unfolding nearestOf foundBy near gap_of lineDistance
+    record { w = f.w; d = f.d; counted = a ∷ c ∷ b ∷ d ∷ [] } ≡ nearest_of k (Heard h)
+unfolding nearest_of found_by near gap_of line_distance
 laid k h f a c b d e p q r s = rw (p, q, r, s, e)
 
 search-on-requires : tie.Need-search-on-requires
-unfolding chartOf
+unfolding chart_of
 search-on-requires c κs = (c.requires.0, c.requires.1, c.requires.2)
 
 array-read-counted-of : tie.Need-array-read-counted-of

@@ -4,7 +4,7 @@ use mathlib.Core.Path.{refl, sym, ap, ◌∙◌}
 use native.Mathlib.Omega.{arith}
 use borrow.Author.Rules.{rules}
 use lib.ListN.{length}
-use Rattle.number_lists.specs.Many.{numberGot, number_in}
+use Rattle.number_lists.specs.Many.{number_got, number_in}
 use Rattle.number_lists.proofs.Lists.{Listed, Reading, none-listed, token-within, list_full, list-bad, list_done, list-more}
 use Rattle.number_lists.proofs.number_list.Statement.{statement}
 use Rattle.number_lists.proofs.number_list.Tie as tie
@@ -62,7 +62,7 @@ same_length : tie.Need-same-length invariant-loop decreases-loop
 same_length c = search rules
 
 returns : tie.Need-returns invariant-loop decreases-loop
-returns c = list-bad (reading c.before.before.before.before) (ap numberGot (sym c.enum_told.given.1 ∙ c.before.before.decimal.ensures))
+returns c = list-bad (reading c.before.before.before.before) (ap number_got (sym c.enum_told.given.1 ∙ c.before.before.decimal.ensures))
 
 -- the way back from the number that was read to its token
 abbrev to-token : tie.After-known-told invariant-loop decreases-loop → tie.After-before2 invariant-loop decreases-loop
@@ -83,7 +83,7 @@ same-length-2 c = search rules
 returns-2 : tie.Need-returns-2 invariant-loop decreases-loop
 returns-2 c =
     let d = c.before in
-    list_done (reading (to-token d)) _ _ refl (ap numberGot (sym d.before.x.given.1 ∙ d.before.before.before.decimal.ensures)) c.if1.true
+    list_done (reading (to-token d)) _ _ refl (ap number_got (sym d.before.x.given.1 ∙ d.before.before.before.decimal.ensures)) c.if1.true
 
 add-from : tie.Need-overflow-add-from invariant-loop decreases-loop
 add-from c = omega (arith, token-within (reading (to-token c.before)))
@@ -94,7 +94,7 @@ loop-less c = omega (arith, token-within (reading (to-token c.before)))
 loop-again : tie.Need-loop-preserved invariant-loop decreases-loop
 loop-again c =
     let d = c.before in
-    list-more (reading (to-token d)) _ _ refl (ap numberGot (sym d.before.x.given.1 ∙ d.before.before.before.decimal.ensures)) c.if1.false
+    list-more (reading (to-token d)) _ _ refl (ap number_got (sym d.before.x.given.1 ∙ d.before.before.before.decimal.ensures)) c.if1.false
 
 same-length-3 : tie.Need-same-length-3 invariant-loop decreases-loop
 same-length-3 c = search rules

@@ -6,19 +6,19 @@ use borrow.Author.Rules.{rules}
 use lib.ListN.{length}
 use mir.Syntax.{w32}
 use mir.ValLaws.{to_z-of_z}
-use Rattle.number_lists.specs.Many.{wholeGot, wholeIn}
+use Rattle.number_lists.specs.Many.{whole_got, whole_in}
 use Rattle.number_lists.proofs.Lists.{Listed, Reading, none-listed, token-within, list_full, list-bad, list_done, list-more}
 use Rattle.number_lists.proofs.signed_list.Statement.{statement}
 use Rattle.number_lists.proofs.signed_list.Tie as tie
 
 abbrev invariant-loop : tie.invariant-loop
-invariant-loop s list₀ from₀ k₀ list from k = (from ≤ length s) × (k ≤ length list) × Listed wholeIn s list₀ from k list
+invariant-loop s list₀ from₀ k₀ list from k = (from ≤ length s) × (k ≤ length list) × Listed whole_in s list₀ from k list
 
 abbrev decreases-loop : tie.decreases-loop
 decreases-loop s list₀ from₀ k₀ list from k = length s + 1 - from
 
 loop-holds : tie.Need-loop-init invariant-loop decreases-loop
-loop-holds c = (search rules, search rules, none-listed wholeIn _ _)
+loop-holds c = (search rules, search rules, none-listed whole_in _ _)
 
 sub-before : tie.Need-overflow-sub-before invariant-loop decreases-loop
 sub-before c = search rules
@@ -34,7 +34,7 @@ before-requires c κs = search rules
 
 -- the token that was cut off, as the loop stands
 reading : (d : tie.After-before2 invariant-loop decreases-loop) → let a = d.before.before.before.before.before.args in let l = d.before.before.before.loop in
-    Reading wholeIn a.s.now a.list.now l.from l.k l.list d.before2.result
+    Reading whole_in a.s.now a.list.now l.from l.k l.list d.before2.result
 reading d =
     let l = d.before.before.before.loop in
     record { listed = l.invariant.2; begun = l.invariant.0; space = d.before.before.loop-test.true; cut = d.before2.ensures }
@@ -64,7 +64,7 @@ same_length : tie.Need-same-length invariant-loop decreases-loop
 same_length c = search rules
 
 returns : tie.Need-returns invariant-loop decreases-loop
-returns c = list-bad (reading c.before.before.before.before) (ap wholeGot (sym c.enum_told.given.1 ∙ c.before.before.signed.ensures))
+returns c = list-bad (reading c.before.before.before.before) (ap whole_got (sym c.enum_told.given.1 ∙ c.before.before.signed.ensures))
 
 -- the way back from the number that was read to its token
 abbrev to-token : tie.After-known-told invariant-loop decreases-loop → tie.After-before2 invariant-loop decreases-loop
@@ -86,7 +86,7 @@ returns-2 : tie.Need-returns-2 invariant-loop decreases-loop
 returns-2 c =
     let d = c.before in
     list_done (reading (to-token d)) _ _ (to_z-of_z w32 d.before.x.given.0.0 (record { sfits = d.known-told.given.0.1 }))
-    (ap wholeGot (sym d.before.x.given.1 ∙ d.before.before.before.signed.ensures)) c.if1.true
+    (ap whole_got (sym d.before.x.given.1 ∙ d.before.before.before.signed.ensures)) c.if1.true
 
 add-from : tie.Need-overflow-add-from invariant-loop decreases-loop
 add-from c = omega (arith, token-within (reading (to-token c.before)))
@@ -98,7 +98,7 @@ loop-again : tie.Need-loop-preserved invariant-loop decreases-loop
 loop-again c =
     let d = c.before in
     list-more (reading (to-token d)) _ _ (to_z-of_z w32 d.before.x.given.0.0 (record { sfits = d.known-told.given.0.1 }))
-    (ap wholeGot (sym d.before.x.given.1 ∙ d.before.before.before.signed.ensures)) c.if1.false
+    (ap whole_got (sym d.before.x.given.1 ∙ d.before.before.before.signed.ensures)) c.if1.false
 
 same-length-3 : tie.Need-same-length-3 invariant-loop decreases-loop
 same-length-3 c = search rules

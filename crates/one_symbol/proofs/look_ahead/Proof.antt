@@ -1,6 +1,6 @@
 -- `look_ahead`.
 use native.Mathlib.Omega.{arith}
-use Rattle.nearest.specs.Found.{heardAs}
+use Rattle.nearest.specs.Found.{heard_as}
 use Rattle.one_symbol.proofs.CodeTaken.{summable, looked}
 use borrow.Author.Rules.{rules}
 use Rattle.one_symbol.proofs.look_ahead.Statement.{statement}
@@ -39,7 +39,7 @@ returns c =
     let n = m.before.before.before.before in
     let w = n.before.before.before.before.before.before in
     let a = w.before.args in
-    looked a.core a.sums.now a.registers.now (heardAs a.first a.second) w.weigh.result n.advance.result m.words-before.result g.agreed.result c.Numbers-of.result
+    looked a.core a.sums.now a.registers.now (heard_as a.first a.second) w.weigh.result n.advance.result m.words-before.result g.agreed.result c.Numbers-of.result
     w.weigh.ensures n.advance.ensures m.words-before.ensures g.agreed.ensures c.Numbers-of.ensures
 
 pub look-ahead-spec : {M : Type 1} → statement M

@@ -3,8 +3,8 @@ use Prim.Native.Nat.{◌≤◌, ◌<◌}
 use mathlib.Core.Path.{◌≡◌, refl}
 use native.Mathlib.Omega.{arith}
 use borrow.Author.Rules.{rules}
-use Rattle.registers.specs.Registers.{wordsBefore}
-use Rattle.nearest.specs.Found.{heardAs}
+use Rattle.registers.specs.Registers.{words_before}
+use Rattle.nearest.specs.Found.{heard_as}
 use Rattle.one_symbol.proofs.CodeTaken.{full, short, done, few, ways-are, state-below}
 use Rattle.one_symbol.proofs.take_symbol.Statement.{statement}
 use Rattle.one_symbol.proofs.take_symbol.Tie as tie
@@ -23,14 +23,14 @@ abbrev to-look-ahead : tie.After-struct-known3 → tie.After-look-ahead
 to-look-ahead c = c.before.before.before.before.before.before.before.before.before.before.before.before.before.before.before.before.before.before
 
 few-agreed : (l : tie.After-look-ahead) → l.look-ahead.result.agreed ≤ l.before.before.before.before.before.args.core.pending
-few-agreed l = let a = (to_start l).args in few a.core a.sums.now a.registers.now a.picks.now (heardAs a.first a.second) a.out.now l.look-ahead.result l.look-ahead.ensures
+few-agreed l = let a = (to_start l).args in few a.core a.sums.now a.registers.now a.picks.now (heard_as a.first a.second) a.out.now l.look-ahead.result l.look-ahead.ensures
 
 low : (l : tie.After-look-ahead) → l.look-ahead.result.state < 16
 low l =
-    let a = (to_start l).args in state-below a.core a.sums.now a.registers.now a.picks.now (heardAs a.first a.second) a.out.now l.look-ahead.result l.look-ahead.ensures
+    let a = (to_start l).args in state-below a.core a.sums.now a.registers.now a.picks.now (heard_as a.first a.second) a.out.now l.look-ahead.result l.look-ahead.ensures
 
-ways : (l : tie.After-look-ahead) → l.look-ahead.result.ways ≡ wordsBefore l.before.before.before.before.before.args.registers.now l.look-ahead.result.steps 0
-ways l = let a = (to_start l).args in ways-are a.core a.sums.now a.registers.now a.picks.now (heardAs a.first a.second) a.out.now l.look-ahead.result l.look-ahead.ensures
+ways : (l : tie.After-look-ahead) → l.look-ahead.result.ways ≡ words_before l.before.before.before.before.before.args.registers.now l.look-ahead.result.steps 0
+ways l = let a = (to_start l).args in ways-are a.core a.sums.now a.registers.now a.picks.now (heard_as a.first a.second) a.out.now l.look-ahead.result l.look-ahead.ensures
 
 sub-kept : tie.Need-overflow-sub-kept
 sub-kept c = omega (arith, few-agreed c.before)
@@ -42,7 +42,7 @@ returns : tie.Need-returns
 returns c =
     let l = c.before.before.before.before in
     let a = (to_start l).args in
-    full a.core a.sums.now a.registers.now a.picks.now (heardAs a.first a.second) a.out.now l.look-ahead.result l.look-ahead.ensures
+    full a.core a.sums.now a.registers.now a.picks.now (heard_as a.first a.second) a.out.now l.look-ahead.result l.look-ahead.ensures
     c.refused.result c.refused.ensures c.before.if1.true
 
 refused-requires-2 : tie.Need-refused-requires-2
@@ -52,7 +52,7 @@ returns-2 : tie.Need-returns-2
 returns-2 c =
     let l = c.before.before.before.before.before in
     let a = (to_start l).args in
-    short a.core a.sums.now a.registers.now a.picks.now (heardAs a.first a.second) a.out.now l.look-ahead.result l.look-ahead.ensures
+    short a.core a.sums.now a.registers.now a.picks.now (heard_as a.first a.second) a.out.now l.look-ahead.result l.look-ahead.ensures
     c.before.before.if1.false c.refused2.result c.refused2.ensures c.before.if2.true
 
 write-words-requires : tie.Need-write-words-requires
@@ -87,7 +87,7 @@ returns-3 c =
     let e = w.before.before.before.before in
     let l = e.before.before.before.before in
     let a = (to_start l).args in
-    done a.core a.sums.now a.registers.now a.picks.now (heardAs a.first a.second) a.out.now l.look-ahead.result l.look-ahead.ensures
+    done a.core a.sums.now a.registers.now a.picks.now (heard_as a.first a.second) a.out.now l.look-ahead.result l.look-ahead.ensures
     e.before.if1.false _ _ _ _ _ _ e.if2.false w.write-words.ensures.0 w.write-words.ensures.1 refl
     m.shift.ensures k.keep.ensures c.moved_on.ensures
 

@@ -3,8 +3,8 @@ use mathlib.Core.Path.{◌≡◌, refl}
 use mathlib.Core.Bool.{Bool, true, false, ◌&&◌}
 use borrow.Author.Rules.{rules}
 use lib.Dec.{leb, ltb}
-use Rattle.points.specs.Agreed.{isAccord}
-use Rattle.machine.specs.Machine.{soundCore}
+use Rattle.points.specs.Agreed.{is_accord}
+use Rattle.machine.specs.Machine.{sound_core}
 use Rattle.openings.proofs.core_fits.Statement.{statement}
 use Rattle.openings.proofs.core_fits.Tie as tie
 
@@ -20,11 +20,11 @@ is-accord-requires : tie.Need-is-accord-requires
 is-accord-requires c κs = search rules
 
 returns : tie.Need-returns
-unfolding soundCore
+unfolding sound_core
 returns c =
     let k = c.before.before.before.before.before.before.before.args.c in
     rw c.before.before.before.before.before.is-accord.ensures
-    (together (isAccord k.accord) (leb 1 k.window) (leb k.window 64) (leb k.turn 4) (ltb k.slot 64) (leb k.pending k.window))
+    (together (is_accord k.accord) (leb 1 k.window) (leb k.window 64) (leb k.turn 4) (ltb k.slot 64) (leb k.pending k.window))
 
 pub core-fits-spec : {M : Type 1} → statement M
 core-fits-spec = tie.close (tie.spec is-accord-requires returns)

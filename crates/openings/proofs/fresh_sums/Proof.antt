@@ -4,17 +4,17 @@ use mathlib.Core.Bool.{true}
 use Prim.Native.Nat.{ℕ, ◌<◌}
 use native.Mathlib.Omega.{arith}
 use borrow.Author.Tests.{leb-true}
-use Rattle.machine.specs.Machine.{freshSums}
+use Rattle.machine.specs.Machine.{fresh_sums}
 use Rattle.openings.specs.declared.Start.{Start}
 use Rattle.openings.specs.declared.Start.TheVariants.{At}
-use Rattle.openings.specs.Given.{start_of, startFits}
+use Rattle.openings.specs.Given.{start_of, start_fits}
 use Rattle.openings.proofs.Openings.{named-sums}
 use borrow.Author.Rules.{rules}
 use Rattle.openings.proofs.fresh_sums.Statement.{statement}
 use Rattle.openings.proofs.fresh_sums.Tie as tie
 
-below : (b : Start) (n : ℕ) → b ≡ At n → startFits b ≡ true → n < 16
-below b n e f = omega (arith, leb-true n 15 (sym (ap startFits e) ∙ f))
+below : (b : Start) (n : ℕ) → b ≡ At n → start_fits b ≡ true → n < 16
+below b n e f = omega (arith, leb-true n 15 (sym (ap start_fits e) ∙ f))
 
 enum_told : tie.Need-enum-told
 enum_told c = search rules
@@ -32,11 +32,11 @@ array-write-sums : tie.Need-array-write-sums
 array-write-sums c = below _ _ c.before.start.given.1 c.before.before.before.requires
 
 returns : tie.Need-returns
-unfolding freshSums
-returns c = sym (ap (λ (b : Start). freshSums (start_of b)) c.enum_told.given.1)
+unfolding fresh_sums
+returns c = sym (ap (λ (b : Start). fresh_sums (start_of b)) c.enum_told.given.1)
 
 returns-2 : tie.Need-returns-2
-returns-2 c = named-sums _ (below _ _ c.before.start.given.1 c.before.before.before.requires) ∙ sym (ap (λ (b : Start). freshSums (start_of b)) c.before.start.given.1)
+returns-2 c = named-sums _ (below _ _ c.before.start.given.1 c.before.before.before.requires) ∙ sym (ap (λ (b : Start). fresh_sums (start_of b)) c.before.start.given.1)
 
 pub fresh-sums-spec : {M : Type 1} → statement M
 fresh-sums-spec =

@@ -8,10 +8,10 @@ use lib.ListN.{replicate}
 use Rattle.reasons.specs.declared.Why.TheVariants.{Done}
 use Rattle.machine.specs.Machine.{core, opened}
 use Rattle.points.specs.declared.Accord.{Accord}
-use Rattle.points.specs.Agreed.{isAccord}
+use Rattle.points.specs.Agreed.{is_accord}
 use Rattle.lists.proofs.UpTo.{and_both}
 use Rattle.openings.specs.declared.Start.{Start}
-use Rattle.openings.specs.Given.{startFits}
+use Rattle.openings.specs.Given.{start_fits}
 use Rattle.openings.proofs.Openings.{opens-wide, opens-window, opens-start, opens-done}
 use borrow.Author.Rules.{rules}
 use Rattle.openings.proofs.open_receiver.Statement.{statement}
@@ -39,7 +39,7 @@ module _ (e : tie.Else1) where
   abbrev b : Start
   b = e.before.before.args.start
 
-  fits : isAccord k ≡ true
+  fits : is_accord k ≡ true
   fits = sym e.before.is-accord.ensures ∙ not-false _ e.if1.left
 
 not-opened-requires-2 : tie.Need-not-opened-requires-2
@@ -72,7 +72,7 @@ fresh-core-requires : tie.Need-fresh-core-requires
 fresh-core-requires c κs = search rules
 
 -- the start has passed
-starts : (s : tie.Else3) → startFits (b s.before.before.before) ≡ true
+starts : (s : tie.Else3) → start_fits (b s.before.before.before) ≡ true
 starts s = sym s.before.start_fits.ensures ∙ not-false s.before.start_fits.result s.if3.false
 
 fresh-sums-requires : tie.Need-fresh-sums-requires

@@ -9,14 +9,14 @@ use lib.IntN.{pos}
 use lib.ListN.{length, take, get_or}
 use Rattle.page.specs.Page.{Puts}
 use Rattle.page.proofs.Pages.{joined}
-use Rattle.phrases.specs.Phrase.{whole, afterSpaces}
+use Rattle.phrases.specs.Phrase.{whole, after_spaces}
 use Rattle.phrases.proofs.Phrases.{says-next, next-near, nothing_put, puts-as, one-whole-more, all-wholes}
 use borrow.Author.Rules.{rules}
 use Rattle.phrases.proofs.wholes.Statement.{statement}
 use Rattle.phrases.proofs.wholes.Tie as tie
 
 abbrev invariant-loop : tie.invariant-loop
-invariant-loop page₀ at numbers p₀ i₀ page p i = (i ≤ length numbers) × (p ≤ at + i * 22) × (length page ≡ length page₀) × Puts page₀ at (afterSpaces (map whole (take i numbers))) p page
+invariant-loop page₀ at numbers p₀ i₀ page p i = (i ≤ length numbers) × (p ≤ at + i * 22) × (length page ≡ length page₀) × Puts page₀ at (after_spaces (map whole (take i numbers))) p page
 
 abbrev decreases-loop : tie.decreases-loop
 decreases-loop page₀ at numbers p₀ i₀ page p i = length numbers - i

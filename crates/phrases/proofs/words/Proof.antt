@@ -8,14 +8,14 @@ use lib.ListN.{length, take}
 use lib.ListN.{length}
 use Rattle.page.specs.Page.{Puts}
 use Rattle.page.proofs.Pages.{joined}
-use Rattle.phrases.specs.Phrase.{decimal, afterSpaces}
+use Rattle.phrases.specs.Phrase.{decimal, after_spaces}
 use Rattle.phrases.proofs.Phrases.{says-number, nothing_put, puts-as, one_word, all_words}
 use borrow.Author.Rules.{rules}
 use Rattle.phrases.proofs.words.Statement.{statement}
 use Rattle.phrases.proofs.words.Tie as tie
 
 abbrev invariant-loop : tie.invariant-loop
-invariant-loop page₀ at words p₀ i₀ page p i = (i ≤ length words) × (p ≤ at + i * 21) × (length page ≡ length page₀) × Puts page₀ at (afterSpaces (map decimal (take i words))) p page
+invariant-loop page₀ at words p₀ i₀ page p i = (i ≤ length words) × (p ≤ at + i * 21) × (length page ≡ length page₀) × Puts page₀ at (after_spaces (map decimal (take i words))) p page
 
 abbrev decreases-loop : tie.decreases-loop
 decreases-loop page₀ at words p₀ i₀ page p i = length words - i

@@ -7,12 +7,12 @@ use native.Mathlib.Omega.{arith}
 use lib.ListN.{length, get_or, set, drop, length-set}
 use Rattle.lists.specs.Tabled.{tabled}
 use Rattle.lists.proofs.Filled.{tabled-more, fill-next}
-use Rattle.picks.specs.Picks.{longer, longerAt, keptIn}
+use Rattle.picks.specs.Picks.{longer, longer_at, kept_in}
 use Rattle.picks.proofs.keep.Statement.{statement}
 use Rattle.picks.proofs.keep.Tie as tie
 
 abbrev invariant-loop : tie.invariant-loop
-invariant-loop picks₀ slot numbers i3 k₀ picks k = (k ≤ 8) × (length picks₀ ≡ 72) × (length i3 ≡ 8) × (length picks ≡ 72) × (picks ≡ tabled (longerAt picks₀ i3) k ++ drop k picks₀)
+invariant-loop picks₀ slot numbers i3 k₀ picks k = (k ≤ 8) × (length picks₀ ≡ 72) × (length i3 ≡ 8) × (length picks ≡ 72) × (picks ≡ tabled (longer_at picks₀ i3) k ++ drop k picks₀)
 
 abbrev decreases-loop : tie.decreases-loop
 decreases-loop picks₀ slot numbers i3 k₀ picks k = 8 - k
@@ -49,7 +49,7 @@ loop-again : tie.Need-loop-preserved invariant-loop decreases-loop
 loop-again c =
     let at = c.before.before.before in
     let a = at.before.before.args in
-    let f = longerAt a.picks.now a.t3 in
+    let f = longer_at a.picks.now a.t3 in
     let was = ap (λ (l : List ℕ). get_or l at.loop.k 0) at.loop.invariant.4 ∙ fill-next f at.loop.k a.picks.now in
     let x : c.longer-by.result ≡ f at.loop.k = c.longer-by.ensures ∙ ap (λ (r : ℕ). longer r (get_or a.t3 at.loop.k 0 % 2)) was in
     (omega arith, at.loop.invariant.1, at.loop.invariant.2, simp length-set at.loop.invariant.3, rw (at.loop.invariant.4, x, add-one at.loop.k) (tabled-more f at.loop.k a.picks.now (omega arith)))
@@ -67,12 +67,12 @@ same_length : tie.Need-same-length invariant-loop decreases-loop
 same_length c = simp length-set (c.before.loop.invariant.3 ∙ sym c.before.before.before.requires.1)
 
 returns : tie.Need-returns invariant-loop decreases-loop
-unfolding keptIn
+unfolding kept_in
 returns c =
     let at = c.before in
     let a = at.before.before.args in
     let end : at.loop.k ≡ 8 = omega arith in
-    ap (λ (l : List ℕ). set l (8 + a.slot) a.numbers) (at.loop.invariant.4 ∙ ap (λ (n : ℕ). tabled (longerAt a.picks.now a.t3) n ++ drop n a.picks.now) end)
+    ap (λ (l : List ℕ). set l (8 + a.slot) a.numbers) (at.loop.invariant.4 ∙ ap (λ (n : ℕ). tabled (longer_at a.picks.now a.t3) n ++ drop n a.picks.now) end)
 
 pub keep_spec : {M : Type 1} → statement M
 keep_spec =

@@ -2,7 +2,7 @@
 use mathlib.Core.Path.{ap₂}
 use Prim.Native.Nat.{ℕ, ◌+◌, ◌*◌, ◌^◌}
 use borrow.Author.Rules.{rules}
-use Rattle.picks.specs.Picks.{numbersOf}
+use Rattle.picks.specs.Picks.{numbers_of}
 use Rattle.picks.proofs.numbers_of.Statement.{statement}
 use Rattle.picks.proofs.numbers_of.Tie as tie
 
@@ -43,7 +43,7 @@ add-result : tie.Need-overflow-add-result
 add-result c = search rules
 
 returns : tie.Need-returns
-unfolding numbersOf
+unfolding numbers_of
 returns c = ap₂ (λ (a b : ℕ). a + b * 2 ^ 32) c.before.four-of.ensures.0 c.four-of2.ensures.0
 
 pub numbers-of-spec : {M : Type 1} → statement M

@@ -2,7 +2,7 @@
 use mathlib.Core.Path.{ap, ◌∙◌}
 use Prim.Native.Nat.{ℕ}
 use borrow.Author.Rules.{rules}
-use Rattle.picks.specs.Picks.{symbolBy, said_of, numbersAt}
+use Rattle.picks.specs.Picks.{symbol_by, said_of, numbers_at}
 use Rattle.picks.proofs.word_in.Statement.{statement}
 use Rattle.picks.proofs.word_in.Tie as tie
 
@@ -25,7 +25,7 @@ returns : tie.Need-returns
 returns c =
     let t = c.before.before in
     let a = t.before.before.args in
-    c.word-by.ensures ∙ ap (λ (i : ℕ). said_of a.u a.turn (symbolBy a.u i (numbersAt a.picks.now a.slot) a.k)) t.type_at.ensures.0
+    c.word-by.ensures ∙ ap (λ (i : ℕ). said_of a.u a.turn (symbol_by a.u i (numbers_at a.picks.now a.slot) a.k)) t.type_at.ensures.0
 
 pub word-in-spec : {M : Type 1} → statement M
 word-in-spec =

@@ -10,27 +10,27 @@ use mir.Facts.{to_z-of_z}
 use Rattle.distance.specs.declared.Spot.{Spot}
 use Rattle.nearest.specs.declared.Received.{Received}
 use Rattle.nearest.specs.declared.Received.TheVariants.{Heard}
-use Rattle.nearest.specs.Line.{isCoordinate}
-use Rattle.receiver_meaning.specs.Told.{faultAt}
+use Rattle.nearest.specs.Line.{is_coordinate}
+use Rattle.receiver_meaning.specs.Told.{fault_at}
 use Rattle.piece_input.proofs.fault_at.Statement.{statement}
 use Rattle.piece_input.proofs.fault_at.Tie as tie
 
 -- a number goes to a call as its bits, and comes back
-back : (x : ℤ) → SFits w32 x → isCoordinate (to_z w32 (of_z w32 x)) ≡ isCoordinate x
-back x f = ap isCoordinate (to_z-of_z f)
+back : (x : ℤ) → SFits w32 x → is_coordinate (to_z w32 (of_z w32 x)) ≡ is_coordinate x
+back x f = ap is_coordinate (to_z-of_z f)
 
 -- the place, from what the tests say of the coordinates
 module _ (h : Received) (s : Spot) (e : h ≡ Heard s) where
-  at_x : isCoordinate s.x ≡ false → 0 ≡ faultAt h
-  unfolding faultAt
+  at_x : is_coordinate s.x ≡ false → 0 ≡ fault_at h
+  unfolding fault_at
   at_x p = rw (e, p)
 
-  at_y : isCoordinate s.x ≡ true → isCoordinate s.y ≡ false → 1 ≡ faultAt h
-  unfolding faultAt
+  at_y : is_coordinate s.x ≡ true → is_coordinate s.y ≡ false → 1 ≡ fault_at h
+  unfolding fault_at
   at_y p q = rw (e, p, q)
 
-  nowhere : isCoordinate s.x ≡ true → isCoordinate s.y ≡ true → 2 ≡ faultAt h
-  unfolding faultAt
+  nowhere : is_coordinate s.x ≡ true → is_coordinate s.y ≡ true → 2 ≡ fault_at h
+  unfolding fault_at
   nowhere p q = rw (e, p, q)
 
 -- where the point was heard, from each test, and what the test says of it
@@ -40,10 +40,10 @@ spot d = d.before.before.before.h.given.0.0
 abbrev first : tie.After-is-coordinate2 → tie.After-is-coordinate
 first d = d.before.before.before
 
-x-says : (d : tie.After-is-coordinate) → d.is-coordinate.result ≡ isCoordinate (spot d).x
+x-says : (d : tie.After-is-coordinate) → d.is-coordinate.result ≡ is_coordinate (spot d).x
 x-says d = d.is-coordinate.ensures ∙ back (spot d).x (record { sfits = d.before.struct_told.given.0.1 })
 
-y-says : (d : tie.After-is-coordinate2) → d.is-coordinate2.result ≡ isCoordinate (spot (first d)).y
+y-says : (d : tie.After-is-coordinate2) → d.is-coordinate2.result ≡ is_coordinate (spot (first d)).y
 y-says d = d.is-coordinate2.ensures ∙ back (spot (first d)).y (record { sfits = d.before.struct-told2.given.1.0.1 })
 
 enum-known-h : tie.Need-enum-known-h
@@ -53,8 +53,8 @@ enum_told : tie.Need-enum-told
 enum_told c = search rules
 
 returns : tie.Need-returns
-unfolding faultAt
-returns c = sym (ap faultAt c.enum_told.given.1)
+unfolding fault_at
+returns c = sym (ap fault_at c.enum_told.given.1)
 
 is-coordinate-requires : tie.Need-is-coordinate-requires
 is-coordinate-requires c κs = search rules

@@ -2,9 +2,9 @@
 use mathlib.Core.Path.{◌≡◌, ap, ap₂, ◌∙◌}
 use borrow.Author.Rules.{rules}
 use mir.Facts.{to_z-of_z}
-use Rattle.nearest.specs.Found.{heardAs}
-use Rattle.receiver_meaning.specs.Told.{faultOf}
-use Rattle.piece_input.specs.Looks.{symbolIn}
+use Rattle.nearest.specs.Found.{heard_as}
+use Rattle.receiver_meaning.specs.Told.{fault_of}
+use Rattle.piece_input.specs.Looks.{symbol_in}
 use Rattle.piece_input.proofs.look.Statement.{statement}
 use Rattle.piece_input.proofs.look.Tie as tie
 
@@ -52,15 +52,15 @@ fault-requires c κs = search rules
 
 -- what is made of the mark and of the four numbers, read as their bits
 made : (d : tie.After-point2) →
-    let a = d.before.before.before.before.before.before.args in heardAs d.before.before.before.point.result d.point2.result ≡ symbolIn a.mark a.samples.now a.i
+    let a = d.before.before.before.before.before.before.args in heard_as d.before.before.before.point.result d.point2.result ≡ symbol_in a.mark a.samples.now a.i
 made d =
     let p = d.before.before.before in
-    ap₂ heardAs
+    ap₂ heard_as
     (p.point.ensures ∙ rw (to_z-of_z (record { sfits = p.before.before.point-arg.given }), to_z-of_z (record { sfits = p.before.point-arg2.given })))
     (d.point2.ensures ∙ rw (to_z-of_z (record { sfits = d.before.before.point-arg3.given }), to_z-of_z (record { sfits = d.before.point-arg4.given })))
 
 returns : tie.Need-returns
-returns c = record { points = made c.before; place = c.fault.ensures ∙ ap faultOf (made c.before) }
+returns c = record { points = made c.before; place = c.fault.ensures ∙ ap fault_of (made c.before) }
 
 pub look_spec : {M : Type 1} → statement M
 look_spec =

@@ -5,8 +5,8 @@ use native.Mathlib.Omega.{arith}
 use borrow.Author.Rules.{rules}
 use borrow.Author.Tests.{not-true, not-false}
 use lib.ListN.{length}
-use Rattle.nearest.specs.Found.{chartOf}
-use Rattle.receiver_meaning.specs.Piece.{marksOf}
+use Rattle.nearest.specs.Found.{chart_of}
+use Rattle.receiver_meaning.specs.Piece.{marks_of}
 use Rattle.machine.specs.Parts.{whole}
 use Rattle.pieces.proofs.Going.{Going, start, end, go_on, stop, more-fits, more-length, four-more}
 use Rattle.pieces.proofs.hear_symbols.Statement.{statement}
@@ -14,7 +14,7 @@ use Rattle.pieces.proofs.hear_symbols.Tie as tie
 
 abbrev invariant-loop : tie.invariant-loop
 invariant-loop marked marks samples sums₀ registers₀ picks₀ out₀ chart core₀ taken₀ written₀ why₀ i₀ sums registers picks out core taken written why i =
-    Going (marksOf marked marks) samples out₀ (whole core₀ sums₀ registers₀ picks₀) out (whole core sums registers picks) taken written why i
+    Going (marks_of marked marks) samples out₀ (whole core₀ sums₀ registers₀ picks₀) out (whole core sums registers picks) taken written why i
 
 abbrev decreases-loop : tie.decreases-loop
 decreases-loop marked marks samples sums₀ registers₀ picks₀ out₀ chart core₀ taken₀ written₀ why₀ i₀ sums registers picks out core taken written why i =
@@ -27,7 +27,7 @@ loop-holds : tie.Need-loop-init invariant-loop decreases-loop
 loop-holds c =
     let s = c.before.before.before.before.before in
     let a = s.args in
-    start (marksOf a.marked a.marks.now) a.samples.now a.out.now (whole a.start a.sums.now a.registers.now a.picks.now) s.requires.1 s.requires.0 s.requires.2
+    start (marks_of a.marked a.marks.now) a.samples.now a.out.now (whole a.start a.sums.now a.registers.now a.picks.now) s.requires.1 s.requires.0 s.requires.2
 
 mark-at-requires : tie.Need-mark-at-requires invariant-loop decreases-loop
 mark-at-requires c κs = search rules
@@ -50,7 +50,7 @@ symbol-requires c κs =
     let n = m.before in
     let l = n.before in
     let g = l.loop.invariant in
-    ((l.before.chart.ensures ∙ ap chartOf (sym g.accord), four-more _ _ _ _ _ _ _ _ _ _ g n.loop-test.true _ m.mark-at.ensures), (g.fit, g.picks))
+    ((l.before.chart.ensures ∙ ap chart_of (sym g.accord), four-more _ _ _ _ _ _ _ _ _ _ g n.loop-test.true _ m.mark-at.ensures), (g.fit, g.picks))
 
 -- ---- after the call of `symbol`: the way back to it, from it into the loop, and from there to the start
 
@@ -115,7 +115,7 @@ returns : tie.Need-returns invariant-loop decreases-loop
 returns c =
     let at = c.before in
     let s = at.before.before.before.before.before.before in
-    end (marksOf s.args.marked s.args.marks.now) s.args.samples.now s.args.out.now _ at.loop.out _ _ _ _ _ _ _ _ at.loop.invariant c.loop-test.false
+    end (marks_of s.args.marked s.args.marks.now) s.args.samples.now s.args.out.now _ at.loop.out _ _ _ _ _ _ _ _ at.loop.invariant c.loop-test.false
 
 same-length-3 : tie.Need-same-length-3 invariant-loop decreases-loop
 same-length-3 c =

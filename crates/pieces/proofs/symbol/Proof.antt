@@ -4,7 +4,7 @@ use borrow.Author.Rules.{rules}
 use Rattle.nearest.specs.Line.{BothInRange}
 use Rattle.machine.specs.Parts.{whole}
 use Rattle.machine.proofs.Sound.{sound-ready}
-use Rattle.piece_input.specs.Looks.{symbolIn}
+use Rattle.piece_input.specs.Looks.{symbol_in}
 use Rattle.pieces.proofs.Kept.{faulty-took, good-taking, good-took}
 use Rattle.pieces.proofs.symbol.Statement.{statement}
 use Rattle.pieces.proofs.symbol.Tie as tie
@@ -16,7 +16,7 @@ returns : tie.Need-returns
 returns c =
     let looked = c.before in
     let a = looked.before.before.before.args in
-    faulty-took a.core a.sums.now a.registers.now a.picks.now a.out.now (symbolIn a.mark a.samples.now a.i) looked.look.result.place looked.look.ensures.place
+    faulty-took a.core a.sums.now a.registers.now a.picks.now a.out.now (symbol_in a.mark a.samples.now a.i) looked.look.result.place looked.look.ensures.place
     c.if1.true
 
 take-symbol-requires : tie.Need-take-symbol-requires
@@ -25,7 +25,7 @@ take-symbol-requires c κs =
     let looked = left.before in
     let s = looked.before.before.before in
     let a = s.args in
-    let y = symbolIn a.mark a.samples.now a.i in
+    let y = symbol_in a.mark a.samples.now a.i in
     let good = (good-taking a.core a.sums.now a.registers.now a.picks.now a.out.now y looked.look.result.place looked.look.ensures.place left.if1.false).1 in
     let g = subst BothInRange (sym looked.look.ensures.points) good in
     ((s.requires.0.0, g.first-in, g.second-in), (sound-ready (whole a.core a.sums.now a.registers.now a.picks.now) s.requires.1.0, s.requires.1.1))
@@ -42,7 +42,7 @@ returns-2 c =
     let left = taken.before.before.before.before.before in
     let looked = left.before in
     let a = looked.before.before.before.args in
-    let y = symbolIn a.mark a.samples.now a.i in
+    let y = symbol_in a.mark a.samples.now a.i in
     let is = looked.look.ensures in
     good-took a.core a.sums.now a.registers.now a.picks.now a.out.now y looked.look.result.place is.place _ is.points left.if1.false _ _ _ _ _
     taken.take-symbol.ensures

@@ -7,7 +7,7 @@ use lib.IntN.{ℤ, pos}
 use lib.ListN.{get_or}
 use mir.Syntax.{w8, w32}
 use mir.Val.{SFits, to_z, of_z}
-use Rattle.points.specs.Points.{coordinates, aPoint}
+use Rattle.points.specs.Points.{coordinates, a_point}
 use Rattle.points.proofs.Signed.{fits, reads}
 use Rattle.points.proofs.Rule.{entry}
 use borrow.Author.Rules.{rules}
@@ -47,7 +47,7 @@ cast-t13 : tie.Need-overflow-cast-t13
 cast-t13 c = let s = c.before.before in cast s.args.t.now (s.args.w * 2 + 1) s.requires.0 (omega arith)
 
 returns : tie.Need-returns
-unfolding aPoint
+unfolding a_point
 returns c =
     let s = c.before.before in
     ap₂ (λ (a b : ℤ). record { x = a; y = b }) (value s.args.t.now (s.args.w * 2) s.requires.0 (omega arith)) (value s.args.t.now (s.args.w * 2 + 1) s.requires.0 (omega arith))

@@ -4,14 +4,14 @@ use Prim.Native.Nat.{ℕ, ◌-◌, ◌≤◌}
 use native.Mathlib.Numerals.{add-one}
 use native.Mathlib.Omega.{arith}
 use borrow.Author.Rules.{rules}
-use Rattle.points.specs.Points.{aPoint}
+use Rattle.points.specs.Points.{a_point}
 use Rattle.points.specs.Turn.{turned, turns, point_of, Small}
 use Rattle.points.proofs.Turns.{small-turns}
 use Rattle.points.proofs.point_of.Statement.{statement}
 use Rattle.points.proofs.point_of.Tie as tie
 
 abbrev invariant-loop : tie.invariant-loop
-invariant-loop t l w p₀ k₀ p k = (k ≤ l) × (p ≡ turns k (aPoint w))
+invariant-loop t l w p₀ k₀ p k = (k ≤ l) × (p ≡ turns k (a_point w))
 
 abbrev decreases-loop : tie.decreases-loop
 decreases-loop t l w p₀ k₀ p k = l - k
@@ -36,7 +36,7 @@ loop-again c = (search rules, c.quarter-turn.ensures ∙ ap turned c.before.befo
 
 returns : tie.Need-returns invariant-loop decreases-loop
 unfolding point_of
-returns c = let e : c.before.loop.k ≡ c.before.before.before.args.l = omega arith in c.before.loop.invariant.1 ∙ ap (λ (k : ℕ). turns k (aPoint c.before.before.before.args.w)) e
+returns c = let e : c.before.loop.k ≡ c.before.before.before.args.l = omega arith in c.before.loop.invariant.1 ∙ ap (λ (k : ℕ). turns k (a_point c.before.before.before.args.w)) e
 
 pub point-of-spec : {M : Type 1} → statement M
 point-of-spec =

@@ -6,9 +6,9 @@ use borrow.Author.Rules.{rules}
 use Rattle.machine.specs.declared.Receiver.{Receiver}
 use Rattle.machine.specs.Machine.{sound}
 use Rattle.machine.proofs.Sound.{sound-live}
-use Rattle.receiver_meaning.specs.Piece.{Piece, pieceWith}
+use Rattle.receiver_meaning.specs.Piece.{Piece, piece_with}
 use Rattle.piece_input.proofs.Marks.{fits-even}
-use Rattle.receiver.specs.Promise.{parts_of, lentLive}
+use Rattle.receiver.specs.Promise.{parts_of, lent_live}
 use Rattle.receiver.proofs.Doors.{hear-closed, hear-uneven, hear-parts, lent-all}
 use Rattle.receiver.proofs.hear_piece_lent.Statement.{statement}
 use Rattle.receiver.proofs.hear_piece_lent.Tie as tie
@@ -18,11 +18,11 @@ first f = f.before.before.before.before.before.before
 
 -- the receiver whose parts are lent
 abbrev rx : tie.Start → Receiver
-rx s = let a = s.args in parts_of (lentLive a.live a.picks.now) a.core a.sums.now a.registers.now a.picks.now
+rx s = let a = s.args in parts_of (lent_live a.live a.picks.now) a.core a.sums.now a.registers.now a.picks.now
 
 -- and the piece
 abbrev piece : tie.Start → Piece
-piece s = let a = s.args in pieceWith a.marked a.marks.now a.samples.now
+piece s = let a = s.args in piece_with a.marked a.marks.now a.samples.now
 
 -- the test of the parts says whether it is open
 open_by : (f : tie.After-lent-fit) → sound (rx (first f)) ≡ f.lent-fit.result
@@ -94,7 +94,7 @@ returns-3 c =
     let e = i.before.before in
     let s = first e.before in
     let a = s.args in
-    hear-parts (lentLive a.live a.picks.now) a.core a.sums.now a.registers.now a.picks.now a.out.now (piece s)
+    hear-parts (lent_live a.live a.picks.now) a.core a.sums.now a.registers.now a.picks.now a.out.now (piece s)
     (opened e) (whole-symbols i) _ _ _ _ _ h.hear-symbols.ensures
 
 pub hear-piece-lent-spec : {M : Type 1} → statement M

@@ -5,13 +5,13 @@ use native.Mathlib.Omega.{arith}
 use borrow.Author.Tests.{ne_eqb, not-true, not-false}
 use borrow.Author.Rules.{rules}
 use lib.ListN.{length, get_or, drop}
-use Rattle.records.specs.Values.{fitsFrom, bodyFits}
+use Rattle.records.specs.Values.{fits_from, body_fits}
 use Rattle.records.proofs.Fits.{plain_fits, fit-here, unfit-here, fit-end}
 use Rattle.record_front.proofs.fits.Statement.{statement}
 use Rattle.record_front.proofs.fits.Tie as tie
 
 abbrev invariant-loop : tie.invariant-loop
-invariant-loop kind body i₀ i = (i ≤ length body) × (fitsFrom kind (get_or body 0 0) i (drop i body) ≡ bodyFits kind body)
+invariant-loop kind body i₀ i = (i ≤ length body) × (fits_from kind (get_or body 0 0) i (drop i body) ≡ body_fits kind body)
 
 abbrev decreases-loop : tie.decreases-loop
 decreases-loop kind body i₀ i = length body - i

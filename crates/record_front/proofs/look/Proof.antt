@@ -5,7 +5,7 @@ use mathlib.Core.Bool.{true}
 use native.Mathlib.Omega.{arith}
 use borrow.Author.Tests.{not-true, not-false}
 use borrow.Author.Rules.{rules}
-use Rattle.records.specs.Kinds.{mayStand}
+use Rattle.records.specs.Kinds.{may_stand}
 use Rattle.record_front.proofs.Fronts.{front-none, front-bad, front_cut, front-unfit, front-whole}
 use Rattle.record_front.proofs.look.Statement.{statement}
 use Rattle.record_front.proofs.look.Tie as tie
@@ -39,7 +39,7 @@ returns-3 c = front_cut _ _ _ _ _ c.before.before.before.before.before.kind-of.e
 abbrev to-kind : tie.Else3 → tie.After-kind-of
 to-kind c = c.before.before.before.before
 
-may : (c : tie.Else3) → mayStand c.before.before.before.before.before.before.before.before.args.phase (to-kind c).kind-of.result.role ≡ true
+may : (c : tie.Else3) → may_stand c.before.before.before.before.before.before.before.before.args.phase (to-kind c).kind-of.result.role ≡ true
 may c = sym c.before.before.before.may-stand.ensures ∙ not-false _ c.before.before.if2.false
 
 shared-slice-read-fits : tie.Need-shared-slice-read-fits

@@ -1,6 +1,6 @@
 -- `put_end`: one store.
 use mathlib.Core.List.{[], ◌∷◌}
-use Rattle.records.specs.Values.{bytes_of, finishEntry}
+use Rattle.records.specs.Values.{bytes_of, finish_entry}
 use Rattle.record_write.proofs.Fronts.{fronted}
 use borrow.Author.Rules.{rules}
 use Rattle.record_write.proofs.put_end.Statement.{statement}
@@ -14,7 +14,7 @@ same_length c = search rules
 
 returns : tie.Need-returns
 unfolding bytes_of
-returns c = fronted (finishEntry ∷ []) c.args.bytes.now c.requires
+returns c = fronted (finish_entry ∷ []) c.args.bytes.now c.requires
 
 pub put-end-spec : {M : Type 1} → statement M
 put-end-spec = tie.close (tie.spec slice-write-bytes same_length returns)

@@ -1,6 +1,6 @@
 -- `put_finish`: the finish, and then its words where the rest of the bytes is lent.
 use mathlib.Core.Path.{◌∙◌}
-use Rattle.records.specs.Values.{finishEntry}
+use Rattle.records.specs.Values.{finish_entry}
 use Rattle.record_write.proofs.Fronts.{one_byte, then-words}
 use borrow.Author.Rules.{rules}
 use Rattle.record_write.proofs.put_finish.Statement.{statement}
@@ -28,7 +28,7 @@ returns : tie.Need-returns
 returns c =
     let p = c.before.before.before.before.before.before in
     let s = p.before.before.before.before in
-    then-words finishEntry s.args.words.now s.args.bytes.now _ _ 1 one_byte (p.put-end.ensures ∙ rw one_byte) c.before.before.put-words.ensures
+    then-words finish_entry s.args.words.now s.args.bytes.now _ _ 1 one_byte (p.put-end.ensures ∙ rw one_byte) c.before.before.put-words.ensures
 
 pub put-finish-spec : {M : Type 1} → statement M
 put-finish-spec =

@@ -2,7 +2,7 @@
 use mathlib.Core.List.{[], ◌∷◌}
 use native.Mathlib.Omega.{arith}
 use lib.ListN.{length-set}
-use Rattle.records.specs.Values.{bytes_of, openEntry}
+use Rattle.records.specs.Values.{bytes_of, open_entry}
 use Rattle.record_write.proofs.Fronts.{fronted}
 use borrow.Author.Rules.{rules}
 use Rattle.record_write.proofs.put_open.Statement.{statement}
@@ -39,7 +39,7 @@ returns : tie.Need-returns
 unfolding bytes_of
 returns c =
     let s = c.before.before.before in
-    rw c.before.open-kind.ensures (fronted (openEntry s.args.k s.args.window s.args.start ∷ []) s.args.bytes.now s.requires.0)
+    rw c.before.open-kind.ensures (fronted (open_entry s.args.k s.args.window s.args.start ∷ []) s.args.bytes.now s.requires.0)
 
 pub put-open-spec : {M : Type 1} → statement M
 put-open-spec =

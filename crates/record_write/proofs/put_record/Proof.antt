@@ -5,8 +5,8 @@ use Prim.Native.Nat.{ℕ}
 use native.Mathlib.Omega.{arith}
 use lib.IntN.{ℤ, pos}
 use lib.ListN.{get_or, length, drop}
-use Rattle.receiver_meaning.specs.Piece.{firstMissing, secondMissing}
-use Rattle.records.specs.Values.{Entry, markedEntry, bytes_of}
+use Rattle.receiver_meaning.specs.Piece.{first_missing, second_missing}
+use Rattle.records.specs.Values.{Entry, marked_entry, bytes_of}
 use Rattle.record_write.proofs.Fronts.{small-bits, kept-reads, kept_small, small-first, small-second, small-heard, plain-record, marked-record, nine-bytes, ten-bytes}
 use borrow.Author.Rules.{rules}
 use Rattle.record_write.proofs.put_record.Statement.{statement}
@@ -89,10 +89,10 @@ put-marked-requires c κs =
     let f = small-first s.args.mark s.args.four.now s.requires.1 in
     let g = small-second s.args.mark s.args.four.now s.requires.1 in (
       omega (arith, s.requires.2, ten-bytes s.args.mark s.args.four.now some.if1.false),
-      kept_small (firstMissing s.args.mark) (given s 0) _ f.0 h.before.before.before.before.before.before.heard.ensures,
-      kept_small (firstMissing s.args.mark) (given s 1) _ f.1 h.before.before.before.before.heard2.ensures,
-      kept_small (secondMissing s.args.mark) (given s 2) _ g.0 h.before.before.heard3.ensures,
-      kept_small (secondMissing s.args.mark) (given s 3) _ g.1 h.heard4.ensures,
+      kept_small (first_missing s.args.mark) (given s 0) _ f.0 h.before.before.before.before.before.before.heard.ensures,
+      kept_small (first_missing s.args.mark) (given s 1) _ f.1 h.before.before.before.before.heard2.ensures,
+      kept_small (second_missing s.args.mark) (given s 2) _ g.0 h.before.before.heard3.ensures,
+      kept_small (second_missing s.args.mark) (given s 3) _ g.1 h.heard4.ensures,
     )
 
 same-length-2 : tie.Need-same-length-2
@@ -106,13 +106,13 @@ returns-2 c =
     let s = some.before.before in
     let f = small-first s.args.mark s.args.four.now s.requires.1 in
     let g = small-second s.args.mark s.args.four.now s.requires.1 in
-    let k0 = kept-reads (firstMissing s.args.mark) (given s 0) _ f.0 h.before.before.before.before.before.before.heard.ensures in
-    let k1 = kept-reads (firstMissing s.args.mark) (given s 1) _ f.1 h.before.before.before.before.heard2.ensures in
-    let k2 = kept-reads (secondMissing s.args.mark) (given s 2) _ g.0 h.before.before.heard3.ensures in
-    let k3 = kept-reads (secondMissing s.args.mark) (given s 3) _ g.1 h.heard4.ensures in
+    let k0 = kept-reads (first_missing s.args.mark) (given s 0) _ f.0 h.before.before.before.before.before.before.heard.ensures in
+    let k1 = kept-reads (first_missing s.args.mark) (given s 1) _ f.1 h.before.before.before.before.heard2.ensures in
+    let k2 = kept-reads (second_missing s.args.mark) (given s 2) _ g.0 h.before.before.heard3.ensures in
+    let k3 = kept-reads (second_missing s.args.mark) (given s 3) _ g.1 h.heard4.ensures in
     p.put-marked.ensures
     ∙ ap (at_front s.args.bytes.now)
-    ((λ i. markedEntry (p.before.before.one-of-four.ensures i) (k0 i) (k1 i) (k2 i) (k3 i)) ∙ sym (marked-record s.args.mark s.args.four.now some.if1.false))
+    ((λ i. marked_entry (p.before.before.one-of-four.ensures i) (k0 i) (k1 i) (k2 i) (k3 i)) ∙ sym (marked-record s.args.mark s.args.four.now some.if1.false))
 
 pub put-record-spec : {M : Type 1} → statement M
 put-record-spec =

@@ -1,7 +1,7 @@
 -- `put_taken`: the symbol, and then its words where the rest of the bytes is lent.
 use mathlib.Core.Path.{sym, ◌∙◌}
 use native.Mathlib.Omega.{arith}
-use Rattle.record_write.specs.Front.{symbolIn, symbolRecord}
+use Rattle.record_write.specs.Front.{symbol_in, symbol_record}
 use Rattle.record_write.proofs.Fronts.{then-words}
 use borrow.Author.Rules.{rules}
 use Rattle.record_write.proofs.put_taken.Statement.{statement}
@@ -36,7 +36,7 @@ returns c =
     let z = p.before.before in
     let s = z.before.before.before in
     let size = z.symbol-space.ensures in
-    then-words (symbolRecord (symbolIn s.args.mark s.args.four.now)) s.args.words.now s.args.bytes.now _ _ _ (sym size)
+    then-words (symbol_record (symbol_in s.args.mark s.args.four.now)) s.args.words.now s.args.bytes.now _ _ _ (sym size)
     (p.put_record.ensures ∙ rw size) c.before.before.put-words.ensures
 
 pub put-taken-spec : {M : Type 1} → statement M

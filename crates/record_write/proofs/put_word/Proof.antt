@@ -2,7 +2,7 @@
 use mathlib.Core.List.{[], ◌∷◌}
 use native.Mathlib.Omega.{arith}
 use lib.ListN.{length-set}
-use Rattle.records.specs.Values.{bytes_of, wordEntry}
+use Rattle.records.specs.Values.{bytes_of, word_entry}
 use Rattle.record_write.proofs.Fronts.{fronted}
 use borrow.Author.Rules.{rules}
 use Rattle.record_write.proofs.put_word.Statement.{statement}
@@ -40,7 +40,7 @@ same_length c = search rules
 
 returns : tie.Need-returns
 unfolding bytes_of
-returns c = fronted (wordEntry c.args.w ∷ []) c.args.bytes.now c.requires
+returns c = fronted (word_entry c.args.w ∷ []) c.args.bytes.now c.requires
 
 pub put-word-spec : {M : Type 1} → statement M
 put-word-spec =

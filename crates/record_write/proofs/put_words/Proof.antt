@@ -5,21 +5,21 @@ use Prim.Native.Nat.{ℕ, ◌+◌, ◌*◌, ◌-◌, ◌≤◌}
 use native.Mathlib.Omega.{arith}
 use lib.ListN.{get_or, take, drop, length, length-append, length-drop}
 use lib.Seq.{take_all, length-take-le}
-use Rattle.records.specs.Values.{wordEntry, bytes_of}
+use Rattle.records.specs.Values.{word_entry, bytes_of}
 use Rattle.lists.proofs.Lent.{lent, placed}
-use Rattle.record_write.specs.Front.{wordEntries}
+use Rattle.record_write.specs.Front.{word_entries}
 use Rattle.record_write.proofs.Fronts.{word_bytes, words_more}
 use Rattle.record_write.proofs.put_words.Statement.{statement}
 use Rattle.record_write.proofs.put_words.Tie as tie
 
 abbrev invariant-loop : tie.invariant-loop
-invariant-loop words bytes₀ i₀ at₀ bytes i at = (i ≤ length words) × (at ≡ 5 * i) × (bytes ≡ bytes_of (wordEntries (take i words)) ++ drop at bytes₀)
+invariant-loop words bytes₀ i₀ at₀ bytes i at = (i ≤ length words) × (at ≡ 5 * i) × (bytes ≡ bytes_of (word_entries (take i words)) ++ drop at bytes₀)
 
 abbrev decreases-loop : tie.decreases-loop
 decreases-loop words bytes₀ i₀ at₀ bytes i at = length words - i
 
 -- the bytes of the words so far
-so_far : (p : tie.At-loop invariant-loop decreases-loop) → length (bytes_of (wordEntries (take p.loop.i p.before.before.before.args.words.now))) ≡ p.loop.at
+so_far : (p : tie.At-loop invariant-loop decreases-loop) → length (bytes_of (word_entries (take p.loop.i p.before.before.before.args.words.now))) ≡ p.loop.at
 so_far p =
     let ws = p.before.before.before.args.words.now in
     word_bytes (take p.loop.i ws) ∙ ap (λ n. 5 * n) (length-take-le p.loop.i ws p.loop.invariant.0) ∙ sym p.loop.invariant.1
@@ -27,7 +27,7 @@ so_far p =
 whole : (p : tie.At-loop invariant-loop decreases-loop) → length p.loop.bytes ≡ length p.before.before.before.args.bytes.now
 whole p =
     let s = p.before.before.before in
-    ap length p.loop.invariant.2 ∙ length-append (bytes_of (wordEntries (take p.loop.i s.args.words.now))) (drop p.loop.at s.args.bytes.now)
+    ap length p.loop.invariant.2 ∙ length-append (bytes_of (word_entries (take p.loop.i s.args.words.now))) (drop p.loop.at s.args.bytes.now)
     ∙ rw (so_far p, length-drop) (omega (arith, s.requires, p.loop.invariant.0, p.loop.invariant.1))
 
 loop-holds : tie.Need-loop-init invariant-loop decreases-loop
@@ -73,7 +73,7 @@ loop-again c =
     let w = get_or ws p.loop.i 0 in (
       omega arith,
       omega arith,
-      placed l₀ (bytes_of (wordEntries (take p.loop.i ws))) p.loop.at (so_far p) p.loop.invariant.2 (bytes_of (wordEntry w ∷ [])) (length (bytes_of (wordEntry w ∷ []))) k
+      placed l₀ (bytes_of (word_entries (take p.loop.i ws))) p.loop.at (so_far p) p.loop.invariant.2 (bytes_of (word_entry w ∷ [])) (length (bytes_of (word_entry w ∷ []))) k
           ∙ ap₂ (λ (l : List ℕ) (n : ℕ). l ++ drop (p.loop.at + n) l₀) (sym (words_more ws p.loop.i (omega arith))) (word_bytes (w ∷ [])),
     )
 

@@ -8,7 +8,7 @@ use lib.ListN.{length}
 use lib.Seq.{length-take-le}
 use Rattle.machine.specs.Machine.{sound}
 use Rattle.machine.proofs.Sound.{sound-core}
-use Rattle.reasons.specs.Reason.{isDone}
+use Rattle.reasons.specs.Reason.{is_done}
 use Rattle.receiver.proofs.Laws.{finishes-fit}
 use Rattle.recorder.proofs.Ends.{finish-closed, finish-short, finish-refused, finish-written, finish-done}
 use borrow.Author.Rules.{rules}
@@ -31,7 +31,7 @@ fits f =
 abbrev finished : tie.Else3 → tie.After-finish
 finished e = e.before.before.before.before
 
-done : (e : tie.Else3) → isDone (finished e).finish.result.why ≡ true
+done : (e : tie.Else3) → is_done (finished e).finish.result.why ≡ true
 done e = sym e.before.is-done.ensures ∙ not-false _ e.if3.false
 
 written : (e : tie.Else3) → (finished e).finish.result.written ≡ (first (finished e)).args.rx.core.pending

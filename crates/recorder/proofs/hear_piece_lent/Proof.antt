@@ -5,11 +5,11 @@ use borrow.Author.Tests.{not-true, not-false}
 use Rattle.machine.specs.declared.Receiver.{Receiver}
 use Rattle.machine.specs.Machine.{sound}
 use Rattle.machine.proofs.Sound.{sound-live}
-use Rattle.receiver_meaning.specs.Piece.{Piece, pieceWith}
+use Rattle.receiver_meaning.specs.Piece.{Piece, piece_with}
 use Rattle.piece_input.proofs.Marks.{fits-even}
 use Rattle.receiver.specs.Promise.{parts_of}
 use Rattle.receiver.proofs.Doors.{lent-live, lent_none}
-use Rattle.recorder.specs.Promise.{asLent}
+use Rattle.recorder.specs.Promise.{as_lent}
 use Rattle.recorder.proofs.Ends.{tape-closed, tape-uneven, tape-parts}
 use borrow.Author.Rules.{rules}
 use Rattle.recorder.proofs.hear_piece_lent.Statement.{statement}
@@ -20,11 +20,11 @@ first f = f.before.before.before.before.before.before.before
 
 -- the receiver whose parts are lent
 abbrev rx : tie.Start → Receiver
-rx s = let a = s.args in asLent (parts_of a.live a.core a.sums.now a.registers.now a.picks.now)
+rx s = let a = s.args in as_lent (parts_of a.live a.core a.sums.now a.registers.now a.picks.now)
 
 -- and the piece
 abbrev piece : tie.Start → Piece
-piece s = let a = s.args in pieceWith a.marked a.marks.now a.samples.now
+piece s = let a = s.args in piece_with a.marked a.marks.now a.samples.now
 
 -- other picks than 72 are no receiver's
 none : (c : tie.Then1) → sound (rx c.before.before.before.before.before) ≡ false

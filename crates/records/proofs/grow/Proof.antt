@@ -4,7 +4,7 @@ use native.Mathlib.Omega.{arith}
 use borrow.Author.Tests.{not-true, not-false}
 use mathlib.Core.Bool.{true}
 use Prim.Native.Nat.{◌<◌}
-use Rattle.records.specs.Frames.{mayGrow, grown}
+use Rattle.records.specs.Frames.{may_grow, grown}
 use Rattle.records.proofs.Asked.{has_room}
 use borrow.Author.Rules.{rules}
 use Rattle.records.proofs.grow.Statement.{statement}
@@ -18,7 +18,7 @@ unfolding grown
 returns c = simp (sym c.before.may-grow.ensures ∙ not-true _ c.if1.true)
 
 -- the byte may come, so there is room for it
-may : (e : tie.Else1) → mayGrow e.before.before.before.args.f e.before.before.before.args.b ≡ true
+may : (e : tie.Else1) → may_grow e.before.before.before.args.f e.before.before.before.args.b ≡ true
 may e = sym e.before.may-grow.ensures ∙ not-false _ e.if1.false
 
 roomy : (e : tie.Else1) → e.before.before.before.args.f.have < 9

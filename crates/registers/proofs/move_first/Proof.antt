@@ -5,13 +5,13 @@ use Prim.Native.Nat.{ℕ, ◌+◌, ◌-◌, ◌*◌, ◌%◌, ◌≤◌}
 use native.Mathlib.Omega.{arith}
 use lib.ListN.{get_or, set}
 use Rattle.registers.specs.Registers.{longer}
-use Rattle.registers.specs.Put.{putBelow}
+use Rattle.registers.specs.Put.{put_below}
 use Rattle.registers.proofs.Places.{put-none, put-more}
 use Rattle.registers.proofs.move_first.Statement.{statement}
 use Rattle.registers.proofs.move_first.Tie as tie
 
 abbrev invariant-loop : tie.invariant-loop
-invariant-loop registers₀ ways steps s₀ registers s = (s ≤ 16) × (registers ≡ putBelow 0 (λ s. longer (get_or ways s 0) (get_or steps s 0 % 8)) registers₀ s)
+invariant-loop registers₀ ways steps s₀ registers s = (s ≤ 16) × (registers ≡ put_below 0 (λ s. longer (get_or ways s 0) (get_or steps s 0 % 8)) registers₀ s)
 
 abbrev decreases-loop : tie.decreases-loop
 decreases-loop registers₀ ways steps s₀ registers s = 16 - s
@@ -62,7 +62,7 @@ returns : tie.Need-returns invariant-loop decreases-loop
 returns c =
     let at = c.before in
     let end : at.loop.s ≡ 16 = omega arith in
-    at.loop.invariant.1 ∙ ap (putBelow 0 _ at.before.before.before.args.registers.now) end
+    at.loop.invariant.1 ∙ ap (put_below 0 _ at.before.before.before.args.registers.now) end
 
 pub move-first-spec : {M : Type 1} → statement M
 move-first-spec =

@@ -5,13 +5,13 @@ use Prim.Native.Nat.{ℕ, ◌+◌, ◌-◌, ◌*◌, ◌/◌, ◌%◌, ◌^◌, 
 use native.Mathlib.Omega.{arith}
 use lib.ListN.{get_or, set}
 use Rattle.registers.specs.Registers.{longer}
-use Rattle.registers.specs.Put.{putBelow}
+use Rattle.registers.specs.Put.{put_below}
 use Rattle.registers.proofs.Places.{put-none, put-more}
 use Rattle.registers.proofs.move_up.Statement.{statement}
 use Rattle.registers.proofs.move_up.Tie as tie
 
 abbrev invariant-loop : tie.invariant-loop
-invariant-loop registers₀ b ways below s₀ registers s = (s ≤ 16) × (registers ≡ putBelow b (λ s. longer (get_or ways s 0) (get_or below s 0 / 2 ^ 61 % 8)) registers₀ s)
+invariant-loop registers₀ b ways below s₀ registers s = (s ≤ 16) × (registers ≡ put_below b (λ s. longer (get_or ways s 0) (get_or below s 0 / 2 ^ 61 % 8)) registers₀ s)
 
 abbrev decreases-loop : tie.decreases-loop
 decreases-loop registers₀ b ways below s₀ registers s = 16 - s
@@ -67,7 +67,7 @@ returns c =
     let at = c.before in
     let a = at.before.before.before.args in
     let end : at.loop.s ≡ 16 = omega arith in
-    at.loop.invariant.1 ∙ ap (putBelow a.b _ a.registers.now) end
+    at.loop.invariant.1 ∙ ap (put_below a.b _ a.registers.now) end
 
 pub move_up_spec : {M : Type 1} → statement M
 move_up_spec =

@@ -4,7 +4,7 @@ use Prim.Native.Nat.{ℕ, ◌-◌}
 use native.Mathlib.Omega.{arith}
 use borrow.Author.Rules.{rules}
 use lib.Count.{count_leading_zeros, leading_le}
-use Rattle.registers.specs.Registers.{lowest, partedOf}
+use Rattle.registers.specs.Registers.{lowest, parted_of}
 use Rattle.registers.proofs.parted.Statement.{statement}
 use Rattle.registers.proofs.parted.Tie as tie
 
@@ -21,7 +21,7 @@ sub-result : tie.Need-overflow-sub-result
 sub-result c = leading_le 64 c.lowest-of.result
 
 returns : tie.Need-returns
-unfolding partedOf
+unfolding parted_of
 returns c =
     let s = c.before.before.args in
     (ap (λ (d : ℕ). 64 - count_leading_zeros 64 d) (c.lowest-of.ensures ∙ ap (λ (d : ℕ). lowest d s.n) c.before.apart.ensures), omega arith)

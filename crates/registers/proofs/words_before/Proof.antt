@@ -7,12 +7,12 @@ use native.Mathlib.Omega.{arith}
 use lib.ListN.{length, get_or, drop, replicate}
 use Rattle.lists.specs.Tabled.{tabled}
 use Rattle.lists.proofs.Filled.{tabled-more}
-use Rattle.registers.specs.Registers.{wordBefore, wordsBefore}
+use Rattle.registers.specs.Registers.{word_before, words_before}
 use Rattle.registers.proofs.words_before.Statement.{statement}
 use Rattle.registers.proofs.words_before.Tie as tie
 
 abbrev invariant-loop : tie.invariant-loop
-invariant-loop registers steps b ways₀ s₀ ways s = (s ≤ 16) × (length ways₀ ≡ 16) × (ways ≡ tabled (wordBefore registers steps b) s ++ drop s ways₀)
+invariant-loop registers steps b ways₀ s₀ ways s = (s ≤ 16) × (length ways₀ ≡ 16) × (ways ≡ tabled (word_before registers steps b) s ++ drop s ways₀)
 
 abbrev decreases-loop : tie.decreases-loop
 decreases-loop registers steps b ways₀ s₀ ways s = 16 - s
@@ -55,17 +55,17 @@ loop-again : tie.Need-loop-preserved invariant-loop decreases-loop
 loop-again c =
     let at = c.before.before.before.before in
     let a = at.before.args in
-    let f = wordBefore a.registers.now a.steps.now a.b in
+    let f = word_before a.registers.now a.steps.now a.b in
     let x = ap (λ (n : ℕ). get_or a.registers.now (16 * a.b + n) 0) c.before.came_from.ensures.0 in
     (omega arith, refl, rw (at.loop.invariant.2, x, add-one at.loop.s) (tabled-more f at.loop.s _ (omega arith)))
 
 returns : tie.Need-returns invariant-loop decreases-loop
-unfolding wordsBefore
+unfolding words_before
 returns c =
     let at = c.before in
     let a = at.before.args in
     let end : at.loop.s ≡ 16 = omega arith in
-    at.loop.invariant.2 ∙ ap (λ (n : ℕ). tabled (wordBefore a.registers.now a.steps.now a.b) n ++ drop n (replicate 16 0)) end ∙ append-nil _
+    at.loop.invariant.2 ∙ ap (λ (n : ℕ). tabled (word_before a.registers.now a.steps.now a.b) n ++ drop n (replicate 16 0)) end ∙ append-nil _
 
 pub words-before-spec : {M : Type 1} → statement M
 words-before-spec =

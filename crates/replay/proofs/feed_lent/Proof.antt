@@ -4,14 +4,14 @@ use native.Mathlib.Omega.{arith}
 use mathlib.Core.Path.{◌≡◌, refl, sym, ◌∙◌}
 use Prim.Native.Nat.{◌≤◌, ◌<◌, ◌-◌, ◌+◌}
 use lib.ListN.{length, drop}
-use Rattle.replay.specs.Course.{courseOf, feedings}
+use Rattle.replay.specs.Course.{course_of, feedings}
 use Rattle.replay.proofs.Feeds.{again, runs, done}
 use Rattle.replay.proofs.feed_lent.Statement.{statement}
 use Rattle.replay.proofs.feed_lent.Tie as tie
 
 abbrev invariant-loop : tie.invariant-loop
 invariant-loop bytes sums₀ registers₀ picks₀ due₀ f₀ j₀ i₀ sums registers picks due f j i =
-    (i ≤ length bytes) × (length due ≡ length due₀) × (feedings (courseOf f₀ j₀ sums₀ registers₀ picks₀ due₀) bytes ≡ feedings (courseOf f j sums registers picks due) (drop i bytes))
+    (i ≤ length bytes) × (length due ≡ length due₀) × (feedings (course_of f₀ j₀ sums₀ registers₀ picks₀ due₀) bytes ≡ feedings (course_of f j sums registers picks due) (drop i bytes))
 
 abbrev decreases-loop : tie.decreases-loop
 decreases-loop bytes sums₀ registers₀ picks₀ due₀ f₀ j₀ i₀ sums registers picks due f j i = length bytes - i

@@ -6,7 +6,7 @@ use native.Mathlib.Omega.{arith}
 use borrow.Author.Tests.{lt-ltb, le-ltb}
 use borrow.Author.Rules.{rules}
 use lib.Dec.{ltb}
-use Rattle.round_columns.specs.Cells.{apartOf}
+use Rattle.round_columns.specs.Cells.{apart_of}
 use Rattle.round_columns.proofs.are_near.Statement.{statement}
 use Rattle.round_columns.proofs.are_near.Tie as tie
 
@@ -27,15 +27,15 @@ returns : tie.Need-returns
 returns c =
     let p = c.before.before in
     let a = p.before.args in
-    let h : apartOf a.x 12160 < 4737 = omega (arith, c.before.if1.true, p.apart.ensures) in
-    ap (λ (n : ℕ). ltb n 4737) c.apart2.ensures ∙ held (apartOf a.x 12160) (apartOf a.y 12160) h
+    let h : apart_of a.x 12160 < 4737 = omega (arith, c.before.if1.true, p.apart.ensures) in
+    ap (λ (n : ℕ). ltb n 4737) c.apart2.ensures ∙ held (apart_of a.x 12160) (apart_of a.y 12160) h
 
 returns-2 : tie.Need-returns-2
 returns-2 c =
     let p = c.before in
     let a = p.before.args in
-    let h : 4737 ≤ apartOf a.x 12160 = omega (arith, c.if1.false, p.apart.ensures) in
-    le-ltb p.apart.result 4737 c.if1.false ∙ failed (apartOf a.x 12160) (apartOf a.y 12160) h
+    let h : 4737 ≤ apart_of a.x 12160 = omega (arith, c.if1.false, p.apart.ensures) in
+    le-ltb p.apart.result 4737 c.if1.false ∙ failed (apart_of a.x 12160) (apart_of a.y 12160) h
 
 pub are-near-spec : {M : Type 1} → statement M
 are-near-spec = tie.close (tie.spec apart-requires apart-requires-2 returns returns-2)

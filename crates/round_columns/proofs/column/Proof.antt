@@ -3,7 +3,7 @@ use mathlib.Core.Path.{◌≡◌, ap, ap₂, subst, ◌∙◌}
 use Prim.Native.Nat.{ℕ, ◌+◌, ◌*◌, ◌/◌, ◌%◌, ◌≤◌, ◌<◌}
 use native.Mathlib.Omega.{arith}
 use borrow.Author.Rules.{rules}
-use Rattle.round_places.specs.Places.{number_at, rimOf, columnOf, top_of}
+use Rattle.round_places.specs.Places.{number_at, rim_of, column_of, top_of}
 use Rattle.round_places.proofs.Rule.{rim-in, in_table}
 use Rattle.round_columns.specs.Cells.{gap_of, Lesser, first, second, off_of, Placed}
 use Rattle.round_columns.proofs.Gaps.{gap_below}
@@ -31,13 +31,13 @@ module _ (c : tie.After-lesser) where
   abbrev k : ℕ
   k = c.before.before.rim.result
 
-  k-is : k ≡ rimOf u o i
+  k-is : k ≡ rim_of u o i
   k-is = c.before.before.rim.ensures
 
-  column-is : k / 16 ≡ columnOf u o i
+  column-is : k / 16 ≡ column_of u o i
   column-is = ap (λ (n : ℕ). n / 16) k-is
 
-  ends : (columnOf u o i < 10) × (top_of u o i < 10)
+  ends : (column_of u o i < 10) × (top_of u o i < 10)
   ends = rim-in u o start.pre.1.u-in start.pre.1.o-in i start.pre.2
 
   row : Placed start.args.s.short (top_of u o i) c.lesser.result

@@ -6,7 +6,7 @@ use native.Mathlib.Omega.{arith}
 use lib.ListN.{get_or}
 use lib.Pow.{shl_exact}
 use Rattle.round_places.specs.Places.{listed}
-use Rattle.round_columns.specs.Cells.{apartOf, place_of, nearNumber}
+use Rattle.round_columns.specs.Cells.{apart_of, place_of, near_number}
 use Rattle.round_columns.proofs.Shown.{near-counted, place-range, place-near, read_is, read-most, shown-least, hidden-out}
 use borrow.Author.Rules.{rules}
 use Rattle.round_columns.proofs.near_key.Statement.{statement}
@@ -43,7 +43,7 @@ module _ (c : tie.After-number) where
   abbrev y : ℕ
   y = start.args.y
 
-  number_is : c.number.result ≡ nearNumber x y
+  number_is : c.number.result ≡ near_number x y
   number_is =
       read_is u x y start.pre.1 start.pre.2 start.pre.3 c.number.result
       (c.number.ensures ∙ ap₂ (λ (a b : ℕ). get_or listed (a * 19 + b - 300) 0) c.before.before.placed.ensures c.before.placed2.ensures)
@@ -56,11 +56,11 @@ module _ (c : tie.After-apart2) where
   abbrev read : tie.After-number
   read = c.before.before.before
 
-  a-is : c.before.apart.result ≡ apartOf (x read) (512 * place_of (x read))
-  a-is = c.before.apart.ensures ∙ ap (λ (m : ℕ). apartOf (x read) (512 * m)) read.before.before.placed.ensures
+  a-is : c.before.apart.result ≡ apart_of (x read) (512 * place_of (x read))
+  a-is = c.before.apart.ensures ∙ ap (λ (m : ℕ). apart_of (x read) (512 * m)) read.before.before.placed.ensures
 
-  b-is : c.apart2.result ≡ apartOf (y read) (512 * place_of (y read))
-  b-is = c.apart2.ensures ∙ ap (λ (m : ℕ). apartOf (y read) (512 * m)) read.before.placed2.ensures
+  b-is : c.apart2.result ≡ apart_of (y read) (512 * place_of (y read))
+  b-is = c.apart2.ensures ∙ ap (λ (m : ℕ). apart_of (y read) (512 * m)) read.before.placed2.ensures
 
   squares : c.before.apart.result * c.before.apart.result + c.apart2.result * c.apart2.result ≤ 131072
   squares =
@@ -122,7 +122,7 @@ returns c =
     let s = start n in
     let a = c.before.apart.result in
     let b = c.apart2.result in
-    let h : nearNumber (x n) (y n) + 2 < 2 ^ u n = omega (arith, c.before.before.if1.true, number_is n, shifted (u n) s.pre.1.high) in
+    let h : near_number (x n) (y n) + 2 < 2 ^ u n = omega (arith, c.before.before.if1.true, number_is n, shifted (u n) s.pre.1.high) in
     shown-least (u n) (x n) (y n) s.pre.1 s.pre.2 s.pre.3 h a b (a * a + b * b + n.number.result) (a-is c) (b-is c)
     (ap (λ (w : ℕ). a * a + b * b + w) (number_is n))
 
@@ -130,7 +130,7 @@ outer-requires : tie.Need-outer-requires
 outer-requires c κs =
     let n = c.before in
     let s = start n in
-    let h : 2 ^ u n ≤ nearNumber (x n) (y n) + 2 = omega (arith, c.if1.false, number_is n, shifted (u n) s.pre.1.high) in
+    let h : 2 ^ u n ≤ near_number (x n) (y n) + 2 = omega (arith, c.if1.false, number_is n, shifted (u n) s.pre.1.high) in
     let out = hidden-out (u n) (x n) (y n) s.pre.1 s.pre.2 s.pre.3 h in
     (s.pre.0, s.pre.1, near-counted (x n) s.pre.2, near-counted (y n) s.pre.3, out)
 

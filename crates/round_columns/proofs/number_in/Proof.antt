@@ -3,7 +3,7 @@ use mathlib.Core.Path.{◌≡◌, ap, ap₂, ◌∙◌}
 use Prim.Native.Nat.{ℕ, ◌+◌, ◌-◌, ◌*◌, ◌≤◌}
 use native.Mathlib.Omega.{arith}
 use lib.ListN.{get_or}
-use Rattle.round_places.specs.Places.{listed, ahead_of, backOf, riseOf, fallOf, number_at}
+use Rattle.round_places.specs.Places.{listed, ahead_of, back_of, rise_of, fall_of, number_at}
 use Rattle.round_places.proofs.Rule.{in_table}
 use Rattle.round_columns.proofs.number_in.Statement.{statement}
 use Rattle.round_columns.proofs.number_in.Tie as tie
@@ -25,10 +25,10 @@ module _ (c : tie.Start) where
   abbrev backwards : ℕ
   backwards = c.args.s.back * m + c.args.s.fall * e
 
-  onwards-is : onwards ≡ ahead_of o * m + riseOf o * e
+  onwards-is : onwards ≡ ahead_of o * m + rise_of o * e
   onwards-is = ap₂ (λ (a b : ℕ). a * m + b * e) c.requires.1.ahead-is c.requires.1.rise-is
 
-  backwards-is : backwards ≡ backOf o * m + fallOf o * e
+  backwards-is : backwards ≡ back_of o * m + fall_of o * e
   backwards-is = ap₂ (λ (a b : ℕ). a * m + b * e) c.requires.1.back_is c.requires.1.fall-is
 
   bounds : (onwards ≤ 180) × (backwards ≤ 180)

@@ -7,7 +7,7 @@ use lib.IntN.{ℤ, pos, nat_abs, ◌-ℤ◌}
 use lib.ListN.{get_or}
 use mir.Syntax.{w32}
 use mir.Val.{to_z, of_z}
-use Rattle.points.specs.Points.{aPoint}
+use Rattle.points.specs.Points.{a_point}
 use Rattle.points.proofs.Signed.{reads}
 use Rattle.points.proofs.Rule.{small}
 use Rattle.round_places.specs.Places.{listed}
@@ -58,8 +58,8 @@ returns c =
     let l = small w (omega (arith, s.requires.1)) in
     let x = c.before.uncounted in
     let y = c.uncounted2 in
-    let a = value s.args.t.now _ x.result (aPoint w).x s.requires.0 x.ensures (near-x w s.requires.1).0 l.x-small in
-    let b = value s.args.t.now _ y.result (aPoint w).y s.requires.0 y.ensures (near-y w s.requires.1).0 l.y-small in
+    let a = value s.args.t.now _ x.result (a_point w).x s.requires.0 x.ensures (near-x w s.requires.1).0 l.x-small in
+    let b = value s.args.t.now _ y.result (a_point w).y s.requires.0 y.ensures (near-y w s.requires.1).0 l.y-small in
     ap₂ (λ (a b : ℤ). record { x = a; y = b }) a b
 
 pub near-point-spec : {M : Type 1} → statement M

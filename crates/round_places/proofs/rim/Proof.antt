@@ -1,5 +1,5 @@
 -- `rim`: the entry is the definition's.
-use Rattle.round_places.specs.Places.{rimOf}
+use Rattle.round_places.specs.Places.{rim_of}
 use borrow.Author.Rules.{rules}
 use Rattle.round_places.proofs.rim.Statement.{statement}
 use Rattle.round_places.proofs.rim.Tie as tie
@@ -26,7 +26,7 @@ number-requires : tie.Need-number-requires
 number-requires c κs = search rules
 
 returns : tie.Need-returns
-unfolding rimOf
+unfolding rim_of
 returns c = c.number.ensures
 
 pub rim-spec : {M : Type 1} → statement M

@@ -3,7 +3,7 @@ use Prim.Native.Nat.{ℕ, ◌%◌, ◌≤◌}
 use mathlib.Core.Path.{◌≡◌, sym, ap, subst, ◌∙◌}
 use mathlib.Core.List.{[], ◌∷◌}
 use native.Mathlib.Omega.{arith}
-use Rattle.points.specs.Points.{aPoint}
+use Rattle.points.specs.Points.{a_point}
 use Rattle.points.specs.Turn.{Small}
 use Rattle.points.proofs.Rule.{small}
 use Rattle.trellis.specs.Pick.{near, gap_of}
@@ -11,18 +11,18 @@ use Rattle.distance.specs.declared.Spot.{Spot}
 use Rattle.round_columns.specs.declared.Keys.{Keys}
 use Rattle.round_search.specs.declared.key.Candidate.{Candidate}
 use Rattle.distance.specs.Distance.{distance}
-use Rattle.distance.specs.Found.{foundBy}
-use Rattle.round_search.specs.Key.{roundDistance, keys_of, candidateOf}
-use Rattle.round_search.proofs.Keys.{nearKey, rest_le, read, keys-near}
+use Rattle.distance.specs.Found.{found_by}
+use Rattle.round_search.specs.Key.{round_distance, keys_of, candidate_of}
+use Rattle.round_search.proofs.Keys.{near_key, rest_le, read, keys-near}
 use Rattle.round_search.proofs.search.Statement.{statement}
 use Rattle.round_search.proofs.search.Tie as tie
 
-rest-is : (c : tie.After-distance-from) → c.distance-from.result ≡ distance c.before.before.args.h (aPoint 0)
+rest-is : (c : tie.After-distance-from) → c.distance-from.result ≡ distance c.before.before.args.h (a_point 0)
 rest-is c = c.distance-from.ensures ∙ ap (distance c.before.before.args.h) c.before.near-point.ensures
 
 -- what is found for a label
 abbrev found : ℕ → Spot → ℕ → Candidate
-found u h l = record { w = near u roundDistance h l; d = gap_of u roundDistance h l }
+found u h l = record { w = near u round_distance h l; d = gap_of u round_distance h l }
 
 -- what reading off asks and gives, for each label
 module _ (c : tie.After-keys-below) where
@@ -35,17 +35,17 @@ module _ (c : tie.After-keys-below) where
   small-u : u ≤ 8
   small-u = c.before.before.before.requires.1
 
-  keys-are : c.keys_below.result ≡ keys_of (nearKey u h)
+  keys-are : c.keys_below.result ≡ keys_of (near_key u h)
   keys-are = c.keys_below.ensures ∙ keys-near u h
 
-  module _ (l key : ℕ) (e : key ≡ nearKey u h l) where
+  module _ (l key : ℕ) (e : key ≡ near_key u h l) where
     asked : c.before.distance-from.result % 256 ≤ key
     asked = rest_le u h small-u l key c.before.distance-from.result e (rest-is c.before)
 
-    given : candidateOf key (c.before.distance-from.result % 256) ≡ found u h l
+    given : candidate_of key (c.before.distance-from.result % 256) ≡ found u h l
     given = read u h small-u l key c.before.distance-from.result e (rest-is c.before)
 
-  keys-at : (f : Keys → ℕ) → f c.keys_below.result ≡ f (keys_of (nearKey u h))
+  keys-at : (f : Keys → ℕ) → f c.keys_below.result ≡ f (keys_of (near_key u h))
   keys-at f = ap f keys-are
 
 near-point-requires : tie.Need-near-point-requires
@@ -71,8 +71,8 @@ read-off-requires-4 c κs = asked c.before.before.before 3 c.before.before.befor
 
 -- the four candidates, as rows
 rows : (u : ℕ) (h : Spot) (a c b d : Candidate) → a ≡ found u h 0 → c ≡ found u h 1 → b ≡ found u h 2 → d ≡ found u h 3 →
-    record { w = a.w ∷ c.w ∷ b.w ∷ d.w ∷ []; d = a.d ∷ c.d ∷ b.d ∷ d.d ∷ [] } ≡ foundBy u roundDistance h
-unfolding foundBy
+    record { w = a.w ∷ c.w ∷ b.w ∷ d.w ∷ []; d = a.d ∷ c.d ∷ b.d ∷ d.d ∷ [] } ≡ found_by u round_distance h
+unfolding found_by
 rows u h a c b d p q r s = rw (p, q, r, s)
 
 returns : tie.Need-returns

@@ -11,14 +11,14 @@ use lib.ListN.{length, take, drop, length-drop}
 use lib.Seq.{take-add, take_all}
 use Rattle.records.proofs.Fits.{both_true}
 use Rattle.lists.proofs.Lent.{lent}
-use Rattle.salvage.specs.Working.{Held, Feeds, feedings, salvageAt}
+use Rattle.salvage.specs.Working.{Held, Feeds, feedings, salvage_at}
 use Rattle.salvage.proofs.Feeds.{feedings-append, feeds-some}
 use Rattle.salvage_files.proofs.hear.Statement.{statement}
 use Rattle.salvage_files.proofs.hear.Tie as tie
 
 abbrev invariant-loop : tie.invariant-loop
 invariant-loop t to bytes page₀ s₀ some₀ fine₀ i₀ page s some fine i =
-    (i ≤ length bytes) × (length page ≡ length page₀) × (salvageAt s ≡ feedings (salvageAt s₀) (take i bytes))
+    (i ≤ length bytes) × (length page ≡ length page₀) × (salvage_at s ≡ feedings (salvage_at s₀) (take i bytes))
 
 abbrev decreases-loop : tie.decreases-loop
 decreases-loop t to bytes page₀ s₀ some₀ fine₀ i₀ page s some fine i = length bytes - i
@@ -59,10 +59,10 @@ module _ (p : tie.After-feed invariant-loop decreases-loop) where
   abbrev bytes : List ℕ
   bytes = (to_start here).args.bytes.now
 
-  fed : Feeds (salvageAt here.loop.s) (drop here.loop.i bytes) here.loop.page (salvageAt p.feed.result.salvage) p.feed.result.used p.feed.result.size
+  fed : Feeds (salvage_at here.loop.s) (drop here.loop.i bytes) here.loop.page (salvage_at p.feed.result.salvage) p.feed.result.used p.feed.result.size
       p.feed.last.1.1.0
   fed =
-      subst (λ (ds : List ℕ). Feeds (salvageAt here.loop.s) ds here.loop.page (salvageAt p.feed.result.salvage) p.feed.result.used p.feed.result.size
+      subst (λ (ds : List ℕ). Feeds (salvage_at here.loop.s) ds here.loop.page (salvage_at p.feed.result.salvage) p.feed.result.used p.feed.result.size
       p.feed.last.1.1.0) (lent bytes (length bytes) here.loop.i refl) p.feed.ensures
 
   few : here.loop.i + p.feed.result.used ≤ length bytes
@@ -110,7 +110,7 @@ returns : tie.Need-returns invariant-loop decreases-loop
 returns c =
     let p = c.before in
     let bs = (to_start p).args.bytes.now in
-    λ k. p.loop.invariant.2 ∙ ap (feedings (salvageAt (to_start p).args.t.salvage)) (take_all p.loop.i bs (over p.loop.i (length bs) p.loop.fine c.loop-test.false k))
+    λ k. p.loop.invariant.2 ∙ ap (feedings (salvage_at (to_start p).args.t.salvage)) (take_all p.loop.i bs (over p.loop.i (length bs) p.loop.fine c.loop-test.false k))
 
 pub hear-spec : {M : Type 1} → statement M
 hear-spec =

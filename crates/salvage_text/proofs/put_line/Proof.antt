@@ -1,7 +1,7 @@
 -- `put_line`: the four, one after the other, and a newline.
 use native.Mathlib.Omega.{arith}
 use Rattle.page.proofs.Pages.{joined}
-use Rattle.salvage_text.specs.Says.{changesLine}
+use Rattle.salvage_text.specs.Says.{changes_line}
 use borrow.Author.Rules.{rules}
 use Rattle.salvage_text.proofs.put_line.Statement.{statement}
 use Rattle.salvage_text.proofs.put_line.Tie as tie
@@ -37,7 +37,7 @@ same_length : tie.Need-same-length
 same_length c = search rules
 
 returns : tie.Need-returns
-unfolding changesLine
+unfolding changes_line
 returns c =
     let n = c.before.before in
     let d = n.before.before.before.before in

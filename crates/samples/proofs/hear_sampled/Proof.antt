@@ -8,9 +8,9 @@ use borrow.Author.Rules.{rules}
 use Rattle.samples.specs.declared.Pair.{Pair}
 use Rattle.samples.specs.declared.Sampled.{Sampled}
 use Rattle.samples.specs.declared.Sampled.TheVariants as sampled
-use Rattle.samples.specs.Given.{GivenSample, sampleGiven, bothDone}
-use Rattle.samples.specs.Heard.{heardSample}
-use Rattle.samples.specs.Sampled.{GivenSampled, heardSampled}
+use Rattle.samples.specs.Given.{GivenSample, sample_given, both_done}
+use Rattle.samples.specs.Heard.{heard_sample}
+use Rattle.samples.specs.Sampled.{GivenSampled, heard_sampled}
 use Rattle.samples.proofs.hear_sampled.Statement.{statement}
 use Rattle.samples.proofs.hear_sampled.Tie as tie
 
@@ -18,8 +18,8 @@ abbrev heard : GivenSample → GivenSampled
 heard g = record { missing = false; given = g }
 
 -- what is given of the floats x and y of a sample, of which the answer p turned out to be q
-known : {s : Sampled} {x y : Float} {p q : Pair} → s ≡ sampled.Heard x y → p ≡ q → sampleGiven p ≡ heardSample x y → heard (sampleGiven q) ≡ heardSampled s
-known e f h = ap heard (sym (ap sampleGiven f) ∙ h) ∙ sym (ap heardSampled e)
+known : {s : Sampled} {x y : Float} {p q : Pair} → s ≡ sampled.Heard x y → p ≡ q → sample_given p ≡ heard_sample x y → heard (sample_given q) ≡ heard_sampled s
+known e f h = ap heard (sym (ap sample_given f) ∙ h) ∙ sym (ap heard_sampled e)
 
 enum-known-s : tie.Need-enum-known-s
 enum-known-s c = search rules
@@ -46,7 +46,7 @@ returns-2 c =
     let k = c.known-told2.given in
     let x = to_z-of_z w32 g.0.0 (record { sfits = k.0.1 }) in
     let y = to_z-of_z w32 g.0.1.0 (record { sfits = k.1.0.1 }) in
-    (λ i. heard (bothDone (x i) (y i))) ∙ known answer.before.before.s.given.1 g.1 answer.hear-sample.ensures
+    (λ i. heard (both_done (x i) (y i))) ∙ known answer.before.before.s.given.1 g.1 answer.hear-sample.ensures
 
 returns-3 : tie.Need-returns-3
 returns-3 c =

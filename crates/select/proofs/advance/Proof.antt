@@ -3,7 +3,7 @@ use borrow.Author.Rules.{rules}
 use mathlib.Core.Path.{◌≡◌, sym, ap, ◌∙◌}
 use Prim.Native.Nat.{ℕ, ◌/◌}
 use Rattle.sums.specs.Sums.{lowest}
-use Rattle.select.specs.Ways.{sumsIn}
+use Rattle.select.specs.Ways.{sums_in}
 use Rattle.select.proofs.CodeSelect.{lowest-is, all-kept, all-followed, advanced}
 use Rattle.select.proofs.advance.Statement.{statement}
 use Rattle.select.proofs.advance.Tie as tie
@@ -18,7 +18,7 @@ all-reached-requires : tie.Need-all-reached-requires
 all-reached-requires c κs = search rules
 
 -- the least sum
-low : (c : tie.After-lowest) → c.lowest.result / 128 ≡ lowest (sumsIn c.before.before.select.result)
+low : (c : tie.After-lowest) → c.lowest.result / 128 ≡ lowest (sums_in c.before.before.select.result)
 low c = ap (λ (n : ℕ). n / 128) c.lowest.ensures ∙ lowest-is c.before.before.select.result
 
 sums-less-requires : tie.Need-sums-less-requires

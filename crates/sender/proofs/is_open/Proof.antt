@@ -4,7 +4,7 @@ use mathlib.Core.Bool.{true, false}
 use native.Mathlib.Omega.{arith}
 use borrow.Author.Tests.{lt-ltb, le-ltb, not-true, not-false}
 use borrow.Author.Rules.{rules}
-use Rattle.points.specs.Agreed.{isAccord}
+use Rattle.points.specs.Agreed.{is_accord}
 use Rattle.sender.specs.declared.Sender.{Sender}
 use Rattle.sender.proofs.is_open.Statement.{statement}
 use Rattle.sender.proofs.is_open.Tie as tie
@@ -23,7 +23,7 @@ module _ (e : tie.After-is-accord) where
   live : s.live ≡ true
   live = not-false s.live e.before.before.if1.left
 
-  is : isAccord s.accord ≡ e.is-accord.result
+  is : is_accord s.accord ≡ e.is-accord.result
   is = sym e.is-accord.ensures
 
 returns-2 : tie.Need-returns-2

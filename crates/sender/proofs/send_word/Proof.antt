@@ -2,7 +2,7 @@
 use mathlib.Core.Path.{◌≡◌, sym, ◌∙◌}
 use mathlib.Core.Bool.{true}
 use borrow.Author.Tests.{not-true, not-false}
-use Rattle.wei.specs.Word.{isWord}
+use Rattle.wei.specs.Word.{is_word}
 use Rattle.sender.proofs.Sound.{Ranges, ranges, wide}
 use Rattle.sender.proofs.Cases.{sends-bad, sends-short, sends-done}
 use borrow.Author.Rules.{rules}
@@ -12,7 +12,7 @@ use Rattle.sender.proofs.send_word.Tie as tie
 range : (c : tie.Start) → Ranges c.args.s
 range c = ranges c.args.s c.requires.1
 
-word-is : (c : tie.Else1) → isWord c.before.before.args.s.accord.u c.before.before.args.word ≡ true
+word-is : (c : tie.Else1) → is_word c.before.before.args.s.accord.u c.before.before.args.word ≡ true
 word-is c = sym c.before.is_IsWord.ensures ∙ not-false c.before.is_IsWord.result c.if1.false
 
 is-word-requires : tie.Need-is-word-requires

@@ -7,7 +7,7 @@ use Rattle.text.specs.Bytes.{bytes}
 use Rattle.page.proofs.Pages.{joined}
 use Rattle.phrases.specs.Phrase.{decimal}
 use Rattle.phrases.proofs.Phrases.{puts-as}
-use Rattle.show_text.specs.Shown.{openText}
+use Rattle.show_text.specs.Shown.{open_text}
 use borrow.Author.Rules.{rules}
 use Rattle.show_text.proofs.put_open.Statement.{statement}
 use Rattle.show_text.proofs.put_open.Tie as tie
@@ -37,7 +37,7 @@ same_length : tie.Need-same-length
 same_length c = search rules
 
 returns : tie.Need-returns
-unfolding openText
+unfolding open_text
 returns c =
     let start = c.before.before.put-start.ensures in
     let at-window = c.before.before.before.before.before.before.before in

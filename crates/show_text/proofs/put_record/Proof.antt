@@ -1,7 +1,7 @@
 -- `put_record`: number, offset, values, and the end of the line.
 use native.Mathlib.Omega.{arith}
 use Rattle.page.proofs.Pages.{joined}
-use Rattle.show_text.specs.Shown.{recordLine}
+use Rattle.show_text.specs.Shown.{record_line}
 use borrow.Author.Rules.{rules}
 use Rattle.show_text.proofs.put_record.Statement.{statement}
 use Rattle.show_text.proofs.put_record.Tie as tie
@@ -28,7 +28,7 @@ same_length : tie.Need-same-length
 same_length c = search rules
 
 returns : tie.Need-returns
-unfolding recordLine
+unfolding record_line
 returns c =
     let end = c.before.before.end.ensures in
     let at-values = c.before.before.before.before.before.before in

@@ -2,7 +2,7 @@
 use native.Mathlib.Omega.{arith}
 use Rattle.phrases.proofs.Phrases.{puts-as}
 use Rattle.records.specs.declared.Role.TheVariants.{Open, Symbol, Word, Finish, Unknown}
-use Rattle.show_text.specs.Shown.{valuesText}
+use Rattle.show_text.specs.Shown.{values_text}
 use Rattle.show_text.proofs.Lines.{values-as}
 use borrow.Author.Rules.{rules}
 use Rattle.show_text.proofs.put_values.Statement.{statement}
@@ -51,7 +51,7 @@ same_length : tie.Need-same-length
 same_length c = search rules
 
 returns : tie.Need-returns
-unfolding valuesText
+unfolding values_text
 returns c =
     let told = c.before.before.before.before in
     let row = told.before.before.kind-of in
@@ -62,7 +62,7 @@ same-length-2 : tie.Need-same-length-2
 same-length-2 c = search rules
 
 returns-2 : tie.Need-returns-2
-unfolding valuesText
+unfolding values_text
 returns-2 c =
     let told = c.before.before.before.before in
     let row = told.before.before.kind-of in
@@ -73,7 +73,7 @@ same-length-3 : tie.Need-same-length-3
 same-length-3 c = search rules
 
 returns-3 : tie.Need-returns-3
-unfolding valuesText
+unfolding values_text
 returns-3 c =
     let told = c.before.before.before.before in
     let row = told.before.before.kind-of in
@@ -84,7 +84,7 @@ same-length-4 : tie.Need-same-length-4
 same-length-4 c = search rules
 
 returns-4 : tie.Need-returns-4
-unfolding valuesText
+unfolding values_text
 returns-4 c =
     let told = c.before.before.before.before.before in
     let row = told.before.before.kind-of in
@@ -95,7 +95,7 @@ same-length-5 : tie.Need-same-length-5
 same-length-5 c = search rules
 
 returns-5 : tie.Need-returns-5
-unfolding valuesText
+unfolding values_text
 returns-5 c =
     let told = c.before.before.before.before.before in
     let row = told.before.before.kind-of in

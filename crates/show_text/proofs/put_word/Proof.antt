@@ -8,7 +8,7 @@ use Rattle.text.specs.Bytes.{bytes}
 use Rattle.phrases.proofs.Phrases.{puts-as}
 use Rattle.replay_text.specs.Says.{hex}
 use Rattle.replay_text.proofs.Lines.{hex-few, hex-put, hex-length}
-use Rattle.show_text.specs.Shown.{wordText}
+use Rattle.show_text.specs.Shown.{word_text}
 use borrow.Author.Rules.{rules}
 use Rattle.show_text.proofs.put_word.Statement.{statement}
 use Rattle.show_text.proofs.put_word.Tie as tie
@@ -55,7 +55,7 @@ same_length : tie.Need-same-length
 same_length c = search rules
 
 returns : tie.Need-returns
-unfolding wordText
+unfolding word_text
 returns c =
     let at-hex = c.before.before.before.before.before in
     let digits = at-hex.hex.ensures in

@@ -9,7 +9,7 @@ use borrow.Author.Rules.{rules}
 use Rattle.points.proofs.Signed.{reads}
 use Rattle.square_search.specs.declared.Stop.{Stop}
 use Rattle.square_search.specs.declared.Stops.{Stops}
-use Rattle.square_search.specs.Axis.{origin_of, stopOf, stopsOf}
+use Rattle.square_search.specs.Axis.{origin_of, stop_of, stops_of}
 use Rattle.square_search.proofs.Signed.{origin-in}
 use Rattle.square_search.proofs.both_stops.Statement.{statement}
 use Rattle.square_search.proofs.both_stops.Tie as tie
@@ -24,10 +24,10 @@ module _ (r : ℤ) (h : nat_abs r ≤ 8192) (g : ℕ) (o : g ≡ origin_of (to_z
   high : g ≤ 16768
   high = omega (arith, origin-is, (origin-in r h).1)
 
-  made : (m : ℕ) (a b : Stop) → a ≡ stopOf m 0 g → b ≡ stopOf m 1 (g - 256) → record { zero = a; one = b } ≡ stopsOf m r
-  unfolding stopsOf
+  made : (m : ℕ) (a b : Stop) → a ≡ stop_of m 0 g → b ≡ stop_of m 1 (g - 256) → record { zero = a; one = b } ≡ stops_of m r
+  unfolding stops_of
   made m a b e f =
-      ap₂ {C = Stops} (λ (a b : Stop). record { zero = a; one = b }) (e ∙ ap (stopOf m 0) origin-is) (f ∙ ap (λ (g : ℕ). stopOf m 1 (g - 256)) origin-is)
+      ap₂ {C = Stops} (λ (a b : Stop). record { zero = a; one = b }) (e ∙ ap (stop_of m 0) origin-is) (f ∙ ap (λ (g : ℕ). stop_of m 1 (g - 256)) origin-is)
 
 origin-requires : tie.Need-origin-requires
 origin-requires c κs = search rules

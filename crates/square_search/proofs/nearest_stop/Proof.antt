@@ -11,7 +11,7 @@ use borrow.Author.Rules.{rules}
 use Rattle.wei.proofs.Words.{bit_at, masked}
 use Rattle.maps.specs.SquareBits.{spread}
 use Rattle.square_search.specs.declared.Stop.{Stop}
-use Rattle.square_search.specs.Axis.{betweenOf, roundedOf, clampedOf, nearestPlace, field_at, far, farSquared, stopOf}
+use Rattle.square_search.specs.Axis.{between_of, rounded_of, clamped_of, nearest_place, field_at, far, far_squared, stop_of}
 use Rattle.square_search.proofs.Places.{field_below}
 use Rattle.square_search.proofs.Axis.{place_in}
 use Rattle.square_search.proofs.nearest_stop.Statement.{statement}
@@ -33,10 +33,10 @@ module _ (m e g : ℕ) (p : (m < 5) × (e < 2) × (g ≤ 16768)) where
   abbrev low : ℕ
   low = 17 - (side + e) / 2
 
-  module _ (q t : ℕ) (a : q ≡ roundedOf g) (b : t ≡ clampedOf q low (low + (side - 1))) where
-    place_is : t ≡ nearestPlace m e g
-    unfolding nearestPlace
-    place_is = b ∙ ap₂ (λ (q s : ℕ). clampedOf q (17 - (s + e) / 2) (17 - (s + e) / 2 + (s - 1))) a side-is
+  module _ (q t : ℕ) (a : q ≡ rounded_of g) (b : t ≡ clamped_of q low (low + (side - 1))) where
+    place_is : t ≡ nearest_place m e g
+    unfolding nearest_place
+    place_is = b ∙ ap₂ (λ (q s : ℕ). clamped_of q (17 - (s + e) / 2) (17 - (s + e) / 2 + (s - 1))) a side-is
 
     place-le : t ≤ 24
     place-le =
@@ -52,9 +52,9 @@ module _ (m e g : ℕ) (p : (m < 5) × (e < 2) × (g ≤ 16768)) where
         let s : 2 ^ m ≤ 16 = pow_mono (let z : m ≤ 4 = omega (arith, p.0) in z) in
         omega (arith, field_is, field_below m t)
 
-    module _ (d : ℕ) (f : d ≡ betweenOf g (t * 512 % 2 ^ 32)) where
+    module _ (d : ℕ) (f : d ≡ between_of g (t * 512 % 2 ^ 32)) where
       far-is : d ≡ far g t
-      far-is = f ∙ ap (betweenOf g) (let z : t * 512 % 2 ^ 32 ≡ 512 * t = omega (arith, place-le) in z)
+      far-is = f ∙ ap (between_of g) (let z : t * 512 % 2 ^ 32 ≡ 512 * t = omega (arith, place-le) in z)
 
       far-le : d ≤ 16768
       far-le = omega (arith, far-is, place-le, p.2)
@@ -62,11 +62,11 @@ module _ (m e g : ℕ) (p : (m < 5) × (e < 2) × (g ≤ 16768)) where
       square-fits : Fits w32 (d * d)
       square-fits = record { fits = omega (arith, mul-le-mul far-le far-le) }
 
-      stop_is : (s : ℕ) → s ≡ spread (bit_and (t + 15) (side - 1)) → record { s = s; d = d * d } ≡ stopOf m e g
-      unfolding stopOf
+      stop_is : (s : ℕ) → s ≡ spread (bit_and (t + 15) (side - 1)) → record { s = s; d = d * d } ≡ stop_of m e g
+      unfolding stop_of
       stop_is s h =
           ap₂ {C = Stop} (λ (s d : ℕ). record { s = s; d = d * d }) (h ∙ ap spread field_is) far-is
-          ∙ ap (λ (t : ℕ). record { s = spread (field_at m t); d = farSquared g t }) place_is
+          ∙ ap (λ (t : ℕ). record { s = spread (field_at m t); d = far_squared g t }) place_is
 
 shl-side : tie.Need-overflow-shl-side
 shl-side c = search rules

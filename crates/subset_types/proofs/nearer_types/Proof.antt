@@ -4,7 +4,7 @@ use mathlib.Core.Path.{◌≡◌}
 use mathlib.Core.List.{[], ◌∷◌}
 use borrow.Author.Rules.{rules}
 use Rattle.subset_types.specs.declared.Nearer.{Nearer}
-use Rattle.subset_types.specs.Types.{sum_of, nearerOf, choicesOf}
+use Rattle.subset_types.specs.Types.{sum_of, nearer_of, choices_of}
 use Rattle.subset_types.proofs.nearer_types.Statement.{statement}
 use Rattle.subset_types.proofs.nearer_types.Tie as tie
 
@@ -38,14 +38,14 @@ rows : (n : ℕ → ℕ → ℕ → Nearer) (s0 s1 s2 s3 s4 s5 s6 s7 : Nearer)
     → record {
       costs = s0.cost ∷ s1.cost ∷ s2.cost ∷ s3.cost ∷ s4.cost ∷ s5.cost ∷ s6.cost ∷ s7.cost ∷ [];
       i3 = s0.i3 ∷ s1.i3 ∷ s2.i3 ∷ s3.i3 ∷ s4.i3 ∷ s5.i3 ∷ s6.i3 ∷ s7.i3 ∷ [];
-    } ≡ choicesOf n
+    } ≡ choices_of n
 rows n s0 s1 s2 s3 s4 s5 s6 s7 e0 e1 e2 e3 e4 e5 e6 e7 = rw (e0, e1, e2, e3, e4, e5, e6, e7)
 
 returns : tie.Need-returns
 returns c =
     let a = c.before.before.before.before in
     let s = a.before.before.before.before in
-    rows (λ y0 i1 i2. nearerOf (sum_of s.args.d1 s.args.d2 y0 i1 i2)) _ _ _ _ _ _ _ _
+    rows (λ y0 i1 i2. nearer_of (sum_of s.args.d1 s.args.d2 y0 i1 i2)) _ _ _ _ _ _ _ _
     a.before.before.before.nearer-type.ensures
     a.before.before.nearer-type2.ensures
     a.before.nearer-type3.ensures

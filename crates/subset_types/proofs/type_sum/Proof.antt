@@ -3,7 +3,7 @@ use mathlib.Core.Path.{◌≡◌, ap}
 use native.Mathlib.Omega.{arith}
 use borrow.Author.Rules.{rules}
 use Rattle.wei.specs.declared.label.LabelPair.{LabelPair}
-use Rattle.wei.specs.Label.{turn_of, secondLabel}
+use Rattle.wei.specs.Label.{turn_of, second_label}
 use Rattle.subset_types.specs.Types.{sum_of}
 use Rattle.subset_types.proofs.type_sum.Statement.{statement}
 use Rattle.subset_types.proofs.type_sum.Tie as tie
@@ -11,7 +11,7 @@ use Rattle.subset_types.proofs.type_sum.Tie as tie
 first-is : (c : tie.After-labels) → c.labels.result.first ≡ turn_of c.before.args.i2 c.before.args.i3
 first-is c = ap (λ (l : LabelPair). l.first) c.labels.ensures
 
-second_is : (c : tie.After-labels) → c.labels.result.second ≡ secondLabel (turn_of c.before.args.i2 c.before.args.i3) c.before.args.y0 c.before.args.i1
+second_is : (c : tie.After-labels) → c.labels.result.second ≡ second_label (turn_of c.before.args.i2 c.before.args.i3) c.before.args.y0 c.before.args.i1
 second_is c = ap (λ (l : LabelPair). l.second) c.labels.ensures
 
 mul-labels : tie.Need-overflow-mul-labels
@@ -39,7 +39,7 @@ mul-result-2 : tie.Need-overflow-mul-result-2
 mul-result-2 c = search rules
 
 array-read-result-2 : tie.Need-array-read-result-2
-unfolding secondLabel
+unfolding second_label
 array-read-result-2 c = omega (arith, second_is c.before.before)
 
 add-result : tie.Need-overflow-add-result

@@ -5,13 +5,13 @@ use Prim.Native.Nat.{◌-◌, ◌≤◌}
 use native.Mathlib.Omega.{arith}
 use lib.Dec.{ltb}
 use lib.ListN.{drop}
-use Rattle.lists.specs.UpTo.{allUpTo}
+use Rattle.lists.specs.UpTo.{all_up_to}
 use Rattle.sums.proofs.Together.{high, together, together-ends}
 use Rattle.sums.proofs.all_reached.Statement.{statement}
 use Rattle.sums.proofs.all_reached.Tie as tie
 
 abbrev invariant-loop : tie.invariant-loop
-invariant-loop keys bits₀ s₀ bits s = (s ≤ 16) × (allUpTo (high - 1) keys ≡ (ltb bits high && allUpTo (high - 1) (drop s keys)))
+invariant-loop keys bits₀ s₀ bits s = (s ≤ 16) × (all_up_to (high - 1) keys ≡ (ltb bits high && all_up_to (high - 1) (drop s keys)))
 
 abbrev decreases-loop : tie.decreases-loop
 decreases-loop keys bits₀ s₀ bits s = 16 - s

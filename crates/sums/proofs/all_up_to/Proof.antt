@@ -3,13 +3,13 @@ use mathlib.Core.Path.{◌≡◌, refl, sym, ◌∙◌}
 use Prim.Native.Nat.{◌-◌, ◌≤◌}
 use native.Mathlib.Omega.{arith}
 use lib.ListN.{drop}
-use Rattle.lists.specs.UpTo.{allUpTo}
+use Rattle.lists.specs.UpTo.{all_up_to}
 use Rattle.lists.proofs.UpTo.{passes, fails, ends}
 use Rattle.sums.proofs.all_up_to.Statement.{statement}
 use Rattle.sums.proofs.all_up_to.Tie as tie
 
 abbrev invariant-loop : tie.invariant-loop
-invariant-loop sums top s₀ s = (s ≤ 16) × (allUpTo top sums ≡ allUpTo top (drop s sums))
+invariant-loop sums top s₀ s = (s ≤ 16) × (all_up_to top sums ≡ all_up_to top (drop s sums))
 
 abbrev decreases-loop : tie.decreases-loop
 decreases-loop sums top s₀ s = 16 - s

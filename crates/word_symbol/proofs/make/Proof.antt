@@ -4,12 +4,12 @@ use Prim.Native.Nat.{ℕ, ◌%◌, ◌<◌}
 use native.Mathlib.Omega.{arith}
 use lib.Bits.{and_mask, mask_lt}
 use Rattle.points.proofs.Agreed.{accord-width}
-use Rattle.maps.specs.PointMap.{pointAt, first_at, secondAt}
+use Rattle.maps.specs.PointMap.{point_at, first_at, second_at}
 use Rattle.wei.specs.declared.word.Parts.{Parts}
-use Rattle.wei.specs.State.{nextState}
+use Rattle.wei.specs.State.{next_state}
 use Rattle.wei.specs.Word.{InRange}
-use Rattle.wei.specs.Label.{turnOn, secondLabel}
-use Rattle.wei.specs.Symbol.{lastLabel, symbol_of}
+use Rattle.wei.specs.Label.{turn_on, second_label}
+use Rattle.wei.specs.Symbol.{last_label, symbol_of}
 use Rattle.wei.proofs.Labels.{second_below}
 use Rattle.word_symbol.proofs.Parts.{parts_in, turn_is}
 use Rattle.word_symbol.proofs.make.Statement.{statement}
@@ -46,23 +46,23 @@ next-requires : tie.Need-next-requires
 next-requires c κs = let t = c.before.before.before in let b = t.before in (b.before.requires.2, (parts b).i1-below, mask_lt t.turn_on.result 1)
 
 returns : tie.Need-returns
-unfolding symbol_of first_at secondAt lastLabel
+unfolding symbol_of first_at second_at last_label
 returns c =
     let l = c.before.before.before in
     let t = l.before in
     let b = t.before in
     let a = b.before.args in
     let p = b.unpack.ensures in
-    let r = t.turn_on.ensures ∙ ap (λ (v : Parts). turnOn a.turn v.i2 v.i3) p in
+    let r = t.turn_on.ensures ∙ ap (λ (v : Parts). turn_on a.turn v.i2 v.i3) p in
     let q = r ∙ turn_is a.k.u a.state a.turn a.word in
     let e = l.labels.ensures in
     let made = symbol_of a.k.u a.state a.turn a.word in
-    let f = c.before.before.point-on.ensures ∙ (λ i. pointAt a.k (e i).first (p i).w1) ∙ ap (λ (n : ℕ). pointAt a.k n made.w1) q in
+    let f = c.before.before.point-on.ensures ∙ (λ i. point_at a.k (e i).first (p i).w1) ∙ ap (λ (n : ℕ). point_at a.k n made.w1) q in
     let g =
-    c.before.point-on2.ensures ∙ (λ i. pointAt a.k (e i).second (p i).w2)
-    ∙ (λ i. pointAt a.k (secondLabel (q i) (and_mask a.state 1 i) (p i).i1) made.w2) in
+    c.before.point-on2.ensures ∙ (λ i. point_at a.k (e i).second (p i).w2)
+    ∙ (λ i. point_at a.k (second_label (q i) (and_mask a.state 1 i) (p i).i1) made.w2) in
     let low = and_mask t.turn_on.result 1 ∙ ap (λ (n : ℕ). n % 2) r in
-    let h = c.next.ensures ∙ (λ i. nextState a.state (p i).i1 (low i)) in
+    let h = c.next.ensures ∙ (λ i. next_state a.state (p i).i1 (low i)) in
     λ i. record { turn = q i; state = h i; first = f i; second = g i }
 
 pub make_spec : {M : Type 1} → statement M

@@ -4,7 +4,7 @@ use native.Mathlib.Omega.{arith}
 use lib.ListN.{get_or}
 use Rattle.c_replay_state.specs.Table.{limits}
 use Rattle.c_replay_state.proofs.Limits.{within-at}
-use Rattle.c_replay_state.specs.Numbers.{coreIn}
+use Rattle.c_replay_state.specs.Numbers.{core_in}
 use borrow.Author.Rules.{rules}
 use Rattle.c_replay_state.proofs.numbers.core_of.Statement.{statement}
 use Rattle.c_replay_state.proofs.numbers.core_of.Tie as tie
@@ -34,7 +34,7 @@ array-read-t21 : tie.Need-array-read-t21
 array-read-t21 c = search rules
 
 returns : tie.Need-returns
-unfolding coreIn
+unfolding core_in
 returns c = rw c.accord-in.ensures
 
 pub core-of-spec : {M : Type 1} → statement M

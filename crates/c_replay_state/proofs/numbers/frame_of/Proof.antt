@@ -5,7 +5,7 @@ use native.Mathlib.Omega.{arith}
 use lib.ListN.{get_or}
 use Rattle.c_replay_state.specs.Table.{limits}
 use Rattle.c_replay_state.proofs.Limits.{within-at}
-use Rattle.c_replay_state.specs.Numbers.{frameIn}
+use Rattle.c_replay_state.specs.Numbers.{frame_in}
 use Rattle.c_replay_state.proofs.numbers.frame_of.Statement.{statement}
 use Rattle.c_replay_state.proofs.numbers.frame_of.Tie as tie
 
@@ -94,7 +94,7 @@ array-read-t61 : tie.Need-array-read-t61
 array-read-t61 c = search rules
 
 returns : tie.Need-returns
-unfolding frameIn
+unfolding frame_in
 returns c = rw (c.phase-of.ensures, c.before.stage-of.ensures)
 
 pub frame-of-spec : {M : Type 1} → statement M

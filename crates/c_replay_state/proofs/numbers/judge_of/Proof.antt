@@ -5,7 +5,7 @@ use native.Mathlib.Omega.{arith}
 use lib.ListN.{get_or}
 use Rattle.c_replay_state.specs.Table.{limits}
 use Rattle.c_replay_state.proofs.Limits.{within-at}
-use Rattle.c_replay_state.specs.Numbers.{judgeIn}
+use Rattle.c_replay_state.specs.Numbers.{judge_in}
 use Rattle.c_replay_state.proofs.numbers.judge_of.Statement.{statement}
 use Rattle.c_replay_state.proofs.numbers.judge_of.Tie as tie
 
@@ -49,7 +49,7 @@ verdict-of-requires : tie.Need-verdict-of-requires
 verdict-of-requires c κs = search rules
 
 returns : tie.Need-returns
-unfolding judgeIn
+unfolding judge_in
 returns c = rw (c.verdict-of.ensures, c.before.core-of.ensures)
 
 pub judge-of-spec : {M : Type 1} → statement M

@@ -5,7 +5,7 @@ use mathlib.Core.List.{List, [], ◌∷◌}
 use Prim.Native.Nat.{ℕ, ◌≤◌}
 use native.Mathlib.Omega.{arith}
 use Rattle.c_replay_state.specs.Table.{half, limits, within}
-use Rattle.c_replay_state.specs.Numbers.{numbersOf}
+use Rattle.c_replay_state.specs.Numbers.{numbers_of}
 use Rattle.c_replay_state.proofs.NumbersBack.{Bytes, fit}
 use borrow.Author.Rules.{rules}
 use Rattle.c_replay_state.proofs.numbers.numbers_of.Statement.{statement}
@@ -105,7 +105,7 @@ count-of-requires : tie.Need-count-of-requires
 count-of-requires c κs = search rules
 
 returns : tie.Need-returns
-unfolding numbersOf
+unfolding numbers_of
 returns c =
     let d = c.before.before.before.before.before.before in
     let s = d.before.before.before.before.before.before.before.before.before.before.before.before.before.before.before.before in
@@ -123,11 +123,11 @@ returns c =
       omega (arith, d.before.byte9.ensures, d.before.byte9.type-inv),
     ) in
     let kind = d.before.before.before.before.before.before.before.before.before.before.struct_known.given in
-    let none : within limits (numbersOf f j) ≡ true = fit f j (omega (arith, kind)) bytes (wide s)
+    let none : within limits (numbers_of f j) ≡ true = fit f j (omega (arith, kind)) bytes (wide s)
     (omega (arith, c.before.before.before.before.struct-known2.given))
     (omega (arith, c.before.before.got_of.ensures, c.before.before.got_of.type-inv)) (omega (arith, c.before.wanted-of.ensures, c.before.wanted-of.type-inv)) in
     let k = j.core in
-    let same : _ ≡ numbersOf f j = λ i.
+    let same : _ ≡ numbers_of f j = λ i.
     d.before.before.before.before.before.before.before.before.before.before.before.before.stage-number.ensures i ∷
     d.before.before.before.before.before.before.before.before.before.before.before.phase-number.ensures i ∷
     f.kind ∷

@@ -4,13 +4,13 @@ use mathlib.Core.Path.{◌≡◌, refl, sym, ◌∙◌}
 use native.Mathlib.Omega.{arith}
 use borrow.Author.Rules.{rules}
 use lib.ListN.{length, drop}
-use Rattle.line_fields.specs.Row.{allMarks}
+use Rattle.line_fields.specs.Row.{all_marks}
 use Rattle.line_fields.proofs.Rows.{too-low, too-high, one_more, all_seen}
 use Rattle.line_fields.proofs.marks.are_marks.Statement.{statement}
 use Rattle.line_fields.proofs.marks.are_marks.Tie as tie
 
 abbrev invariant-loop : tie.invariant-loop
-invariant-loop row i₀ i = (i ≤ length row) × (allMarks (drop i row) ≡ allMarks row)
+invariant-loop row i₀ i = (i ≤ length row) × (all_marks (drop i row) ≡ all_marks row)
 
 abbrev decreases-loop : tie.decreases-loop
 decreases-loop row i₀ i = length row - i

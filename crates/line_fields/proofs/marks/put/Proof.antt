@@ -5,13 +5,13 @@ use Prim.Native.Nat.{◌-◌, ◌≤◌}
 use native.Mathlib.Omega.{arith}
 use borrow.Author.Rules.{rules}
 use lib.ListN.{length, take, drop}
-use Rattle.line_fields.specs.Row.{marksOf}
+use Rattle.line_fields.specs.Row.{marks_of}
 use Rattle.line_fields.proofs.Rows.{row-byte, filled-length, filled_more, all-filled}
 use Rattle.line_fields.proofs.marks.put.Statement.{statement}
 use Rattle.line_fields.proofs.marks.put.Tie as tie
 
 abbrev invariant-loop : tie.invariant-loop
-invariant-loop row marks₀ i₀ marks i = (i ≤ length row) × (marks ≡ take i (marksOf row) ++ drop i marks₀)
+invariant-loop row marks₀ i₀ marks i = (i ≤ length row) × (marks ≡ take i (marks_of row) ++ drop i marks₀)
 
 abbrev decreases-loop : tie.decreases-loop
 decreases-loop row marks₀ i₀ marks i = length row - i

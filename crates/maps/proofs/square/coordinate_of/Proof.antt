@@ -7,7 +7,7 @@ use mir.Syntax.{w32}
 use mir.Val.{to_z, of_z}
 use borrow.Author.Rules.{rules}
 use Rattle.maps.specs.SquareBits.{coordinate}
-use Rattle.maps.proofs.SquareTests.{sameZ, equalZ, less}
+use Rattle.maps.proofs.SquareTests.{same_z, equal_z, less}
 use Rattle.maps.proofs.square.coordinate_of.Statement.{statement}
 use Rattle.maps.proofs.square.coordinate_of.Tie as tie
 
@@ -43,8 +43,8 @@ sub-result : tie.Need-overflow-sub-result
 sub-result c = record { sfits = less side (λ m k. mag (code m k)) (λ m k. 2 ^ 31) tt c.args.m c.args.k c.requires.0 c.requires.1 }
 
 returns : tie.Need-returns
-unfolding sameZ coordinate
-returns c = equalZ side (λ m k. to_z w32 (of_z w32 (code m k))) coordinate tt c.args.m c.args.k c.requires.0 c.requires.1
+unfolding same_z coordinate
+returns c = equal_z side (λ m k. to_z w32 (of_z w32 (code m k))) coordinate tt c.args.m c.args.k c.requires.0 c.requires.1
 
 pub coordinate-of-spec : {M : Type 1} → statement M
 coordinate-of-spec =

@@ -11,7 +11,7 @@ use Rattle.points.specs.declared.Point.{Point}
 use Rattle.points.proofs.Signed.{reads}
 use Rattle.wei.proofs.Finite.{equal1, equal2}
 use Rattle.maps.specs.declared.square.Place.{Place}
-use Rattle.maps.specs.SquareMap.{isWidth, low_bits, OnGrid}
+use Rattle.maps.specs.SquareMap.{is_width, low_bits, OnGrid}
 use Rattle.maps.specs.SquareInverse.{IsPlace}
 use Rattle.maps.specs.SquareBits.{spread, woven, field_of, bits_of, label_of}
 use Rattle.maps.proofs.SquareLaws.{half-below, side-is, i-below, j-below, place}
@@ -23,13 +23,13 @@ joined : (i j : ℕ) → i < 32 → j < 32 → bit_or (spread i * 2 % 2 ^ 32) (s
 unfolding spread
 joined = equal2 32 32 (λ i j. bit_or (spread i * 2 % 2 ^ 32) (spread j)) woven tt
 
-abbrev labelCode : ℕ → ℕ
-labelCode v = bit_xor (bit_and v 3) (bit_and v 3 / 2)
+abbrev label_code : ℕ → ℕ
+label_code v = bit_xor (bit_and v 3) (bit_and v 3 / 2)
 
-label-code : (v : ℕ) → labelCode v ≡ label_of v
+label-code : (v : ℕ) → label_code v ≡ label_of v
 label-code v = ap (λ (n : ℕ). bit_xor n (n / 2)) (and_mask v 2) ∙ equal1 4 (λ n. bit_xor n (n / 2)) low_bits tt (v % 4) (omega arith)
 
-module _ (u : ℕ) (p : Point) (h : (isWidth u ≡ true) × OnGrid u p) where
+module _ (u : ℕ) (p : Point) (h : (is_width u ≡ true) × OnGrid u p) where
   small-x : nat_abs p.x < 2 ^ 31
   small-x = omega (arith, side-is u h.0, h.1.x-in)
 
@@ -56,7 +56,7 @@ module _ (u : ℕ) (p : Point) (h : (isWidth u ≡ true) × OnGrid u p) where
     y-low : j < 32
     y-low = omega (arith, y-is, j-below u h.0 p h.1)
 
-  answered : (v : ℕ) → v ≡ bits_of (u / 2) p → IsPlace u p (record { l = labelCode v; w = v / 4 })
+  answered : (v : ℕ) → v ≡ bits_of (u / 2) p → IsPlace u p (record { l = label_code v; w = v / 4 })
   answered v e = subst (IsPlace u p) (ap₂ {C = Place} (λ (l w : ℕ). record { l = l; w = w }) (ap label_of (sym e) ∙ sym (label-code v)) (ap (λ (n : ℕ). n / 4) (sym e))) (place u h.0 p h.1)
 
   made : (i j x y : ℕ) → i ≡ field_of (u / 2) (to_z w32 (of_z w32 p.x)) → j ≡ field_of (u / 2) (to_z w32 (of_z w32 p.y)) → x ≡ spread i → y ≡ spread j → bit_or (x * 2 % 2 ^ 32) y ≡ bits_of (u / 2) p

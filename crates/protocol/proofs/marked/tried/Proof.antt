@@ -1,6 +1,6 @@
 -- `marked::tried`: this verb, or one that is tried after it; the lists are as they were then.
 use mathlib.Core.Path.{sym, ◌∙◌}
-use Rattle.protocol.specs.Request.{verbOf}
+use Rattle.protocol.specs.Request.{verb_of}
 use borrow.Author.Rules.{rules}
 use Rattle.protocol.proofs.marked.tried.Statement.{statement}
 use Rattle.protocol.proofs.marked.tried.Tie as tie
@@ -21,7 +21,7 @@ same-length-2 : tie.Need-same-length-2
 same-length-2 c = search rules
 
 returns : tie.Need-returns
-unfolding verbOf
+unfolding verb_of
 returns c =
     let r = c.before.before.before in
     let f = r.before.before.before in
@@ -38,7 +38,7 @@ same-length-4 : tie.Need-same-length-4
 same-length-4 c = search rules
 
 returns-2 : tie.Need-returns-2
-unfolding verbOf
+unfolding verb_of
 returns-2 c =
     let r = c.before.before.before in
     let f = r.before.before.before in

@@ -5,14 +5,14 @@ use native.Mathlib.Omega.{arith}
 use borrow.Author.Tests.{not-true, not-false}
 use lib.ListN.{length}
 use Rattle.machine.specs.Parts.{whole}
-use Rattle.receiver_meaning.specs.Piece.{marksOf}
+use Rattle.receiver_meaning.specs.Piece.{marks_of}
 use Rattle.recorder.proofs.Going.{Given, Stand, Going, Turn, start, end, go_on, stop, four, four-long, more-fits, more-space, more-length, more-wide}
 use Rattle.recorder.proofs.piece.record_symbols.Statement.{statement}
 use Rattle.recorder.proofs.piece.record_symbols.Tie as tie
 
 abbrev invariant-loop : tie.invariant-loop
 invariant-loop marked marks samples sums₀ registers₀ picks₀ out₀ bytes₀ core₀ taken₀ written₀ recorded₀ why₀ i₀ sums registers picks out bytes core taken written recorded why i =
-    Going (record { ms = marksOf marked marks; xs = samples; out = out₀; bytes = bytes₀; rx = whole core₀ sums₀ registers₀ picks₀ })
+    Going (record { ms = marks_of marked marks; xs = samples; out = out₀; bytes = bytes₀; rx = whole core₀ sums₀ registers₀ picks₀ })
     (record { out = out; bytes = bytes; rx = whole core sums registers picks; taken = taken; written = written; recorded = recorded; why = why; i = i })
 
 abbrev decreases-loop : tie.decreases-loop
@@ -28,7 +28,7 @@ abbrev given : tie.Start invariant-loop decreases-loop → Given
 given s =
     let a = s.args in
     record {
-      ms = marksOf a.marked a.marks.now;
+      ms = marks_of a.marked a.marks.now;
       xs = a.samples.now;
       out = a.out.now;
       bytes = a.bytes.now;

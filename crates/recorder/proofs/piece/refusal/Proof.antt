@@ -9,7 +9,7 @@ use Rattle.machine.specs.declared.Receiver.{Receiver}
 use Rattle.machine.specs.Machine.{sound}
 use Rattle.machine.specs.Parts.{whole}
 use Rattle.reasons.specs.declared.Why.TheVariants.{NoRoom}
-use Rattle.record_write.specs.Front.{symbolIn}
+use Rattle.record_write.specs.Front.{symbol_in}
 use Rattle.recorder.specs.Lent.{Refuses}
 use Rattle.recorder.proofs.Prefix.{copied}
 use Rattle.recorder.proofs.One.{Asked, refuses-eight, refuses-so}
@@ -77,14 +77,14 @@ returns : tie.Need-returns
 returns c =
     let d = c.before.before.before.before in
     let s = first (copy_at d) in
-    subst (λ (l : List ℕ). Refuses (with-picks s l) (symbolIn s.args.mark s.args.four.now) NoRoom) (all-copied (copy_at d))
+    subst (λ (l : List ℕ). Refuses (with-picks s l) (symbol_in s.args.mark s.args.four.now) NoRoom) (all-copied (copy_at d))
     (refuses-eight _ _ _ _ (asked d) refl (sym c.before.is-done.ensures ∙ c.if1.true))
 
 returns-2 : tie.Need-returns-2
 returns-2 c =
     let d = c.before.before.before.before in
     let s = first (copy_at d) in
-    subst (λ (l : List ℕ). Refuses (with-picks s l) (symbolIn s.args.mark s.args.four.now) d.hear-symbols.result.why) (all-copied (copy_at d))
+    subst (λ (l : List ℕ). Refuses (with-picks s l) (symbol_in s.args.mark s.args.four.now) d.hear-symbols.result.why) (all-copied (copy_at d))
     (refuses-so _ _ _ _ (asked d) refl (sym c.before.is-done.ensures ∙ c.if1.false))
 
 pub refusal-spec : {M : Type 1} → statement M

@@ -8,7 +8,7 @@ use Rattle.number_lists.specs.Many.{number_in, Lists}
 use Rattle.number_lists.specs.declared.Many.{Many}
 use Rattle.number_lists.specs.declared.Many.TheVariants as many
 use Rattle.requests.specs.declared.Request.TheVariants as request
-use Rattle.requests.specs.Verb.{sentOf}
+use Rattle.requests.specs.Verb.{sent_of}
 use Rattle.requests.proofs.Readers.{list-bad, list-alone, list-more}
 use borrow.Author.Rules.{rules}
 use Rattle.requests.proofs.list.read.Statement.{statement}
@@ -18,10 +18,10 @@ use Rattle.requests.proofs.list.read.Tie as tie
 lists-as : {s list list' : List ℕ} {m k : Many} → m ≡ k → Lists number_in s list m list' → Lists number_in s list k list'
 lists-as e l = record { answer = sym e ∙ l.answer; filled = l.filled }
 
-too_many : (c n : ℕ) → 1024 < n → request.Unread ≡ sentOf (number.Got c) (many.Got n)
+too_many : (c n : ℕ) → 1024 < n → request.Unread ≡ sent_of (number.Got c) (many.Got n)
 too_many c n h = rw (lt-leb n 1024 h)
 
-so-many : (c n : ℕ) → n ≤ 1024 → request.List c n ≡ sentOf (number.Got c) (many.Got n)
+so-many : (c n : ℕ) → n ≤ 1024 → request.List c n ≡ sent_of (number.Got c) (many.Got n)
 so-many c n h = rw (le-leb n 1024 h)
 
 before-requires : tie.Need-before-requires

@@ -5,8 +5,8 @@ use lib.ListN.{take}
 use Rattle.text.specs.Token.{tokens}
 use Rattle.text.specs.declared.number.Number.{Number}
 use Rattle.requests.specs.declared.Request.TheVariants as request
-use Rattle.requests.specs.Verb.{both, sampleOf}
-use Rattle.text.specs.Number.{hexOf}
+use Rattle.requests.specs.Verb.{both, sample_of}
+use Rattle.text.specs.Number.{hex_of}
 use Rattle.text.proofs.Cut.{after}
 use Rattle.requests.proofs.Readers.{hex-reader, two-read, sample-alone, sample-more}
 use borrow.Author.Rules.{rules}
@@ -23,7 +23,7 @@ same-requires : tie.Need-same-requires
 same-requires c κs = search rules
 
 -- what a token alone asks for
-alone-read : (d : tie.After-same) (b : Bool) → d.same.result ≡ b → cond b request.Missing request.Unread ≡ sampleOf (tokens d.before.before.before.before.before.args.rest.now)
+alone-read : (d : tie.After-same) (b : Bool) → d.same.result ≡ b → cond b request.Missing request.Unread ≡ sample_of (tokens d.before.before.before.before.before.args.rest.now)
 alone-read d b e = sample-alone d.before.before.before.before2.ensures b d.before.before.if1.true (sym e ∙ d.same.ensures)
 
 returns : tie.Need-returns
@@ -46,11 +46,11 @@ enum_told c = search rules
 
 -- what the first token and the text behind it write
 both_read : (d : tie.After-hex) {o o' : Number} → let s = d.before.before.before.before.before.args.rest.now in let n = d.before.before.before.before2.result in
-    o ≡ hexOf (take n s) → o' ≡ hexOf (after n s) → both request.Sample o o' ≡ sampleOf (tokens s)
+    o ≡ hex_of (take n s) → o' ≡ hex_of (after n s) → both request.Sample o o' ≡ sample_of (tokens s)
 both_read d e e' =
     let cut = d.before.before.before.before2.ensures in
     let h = d.before.before.if1.false in
-    two-read hex-reader request.Sample hexOf cut h e e' ∙ sample-more cut h
+    two-read hex-reader request.Sample hex_of cut h e e' ∙ sample-more cut h
 
 returns-3 : tie.Need-returns-3
 returns-3 c = both_read c.before.before (sym c.enum_told.given.1 ∙ c.before.before.hex.ensures) refl

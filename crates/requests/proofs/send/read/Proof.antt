@@ -4,7 +4,7 @@ use lib.ListN.{take}
 use Rattle.text.specs.Token.{tokens}
 use Rattle.text.specs.declared.number.Number.{Number}
 use Rattle.requests.specs.declared.Request.TheVariants as request
-use Rattle.requests.specs.Verb.{anyNumber, capNumber, both, sendOf}
+use Rattle.requests.specs.Verb.{any_number, cap_number, both, send_of}
 use Rattle.text.proofs.Cut.{after}
 use Rattle.requests.proofs.Readers.{cap-reader, two-alone, two-read}
 use borrow.Author.Rules.{rules}
@@ -31,8 +31,8 @@ enum_told c = search rules
 
 -- what the first token and the text behind it write
 both_read : (d : tie.After-number-of) {o o' : Number} → let s = d.before.before.before.before.before.args.rest.now in let n = d.before.before.before.before2.result in
-    o ≡ anyNumber (take n s) → o' ≡ capNumber (after n s) → both request.Send o o' ≡ sendOf (tokens s)
-both_read d = two-read cap-reader request.Send anyNumber d.before.before.before.before2.ensures d.before.before.if1.false
+    o ≡ any_number (take n s) → o' ≡ cap_number (after n s) → both request.Send o o' ≡ send_of (tokens s)
+both_read d = two-read cap-reader request.Send any_number d.before.before.before.before2.ensures d.before.before.if1.false
 
 returns-2 : tie.Need-returns-2
 returns-2 c = both_read c.before.before (sym c.enum_told.given.1 ∙ c.before.before.number-of.ensures) refl

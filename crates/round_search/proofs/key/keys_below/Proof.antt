@@ -4,7 +4,7 @@ use mathlib.Core.Path.{◌≡◌, ap, ◌∙◌}
 use native.Mathlib.Nat.{one-mul}
 use native.Mathlib.Omega.{arith}
 use lib.Pow.{pow_mono, shl_exact}
-use Rattle.round_search.specs.Key.{leastKeys}
+use Rattle.round_search.specs.Key.{least_keys}
 use Rattle.round_search.proofs.Columns.{column-keys}
 use borrow.Author.Rules.{rules}
 use Rattle.round_search.proofs.key.keys_below.Statement.{statement}
@@ -28,7 +28,7 @@ least-keys-requires c κs =
 returns : tie.Need-returns
 returns c =
     let s = c.before.before in
-    c.least-keys.ensures ∙ ap (leastKeys s.args.h) (shifted s.args.u c.before.if1.true)
+    c.least-keys.ensures ∙ ap (least_keys s.args.h) (shifted s.args.u c.before.if1.true)
 
 nearest-keys-requires : tie.Need-nearest-keys-requires
 nearest-keys-requires c κs = search rules

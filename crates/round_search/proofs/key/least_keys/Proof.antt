@@ -4,22 +4,22 @@ use mathlib.Core.Path.{◌≡◌, sym, ap, ap₂, subst, ◌∙◌}
 use native.Mathlib.Omega.{arith}
 use borrow.Author.Rules.{rules}
 use Rattle.points.specs.declared.Point.{Point}
-use Rattle.points.specs.Points.{aPoint}
+use Rattle.points.specs.Points.{a_point}
 use Rattle.points.specs.Turn.{Small}
 use Rattle.points.proofs.Rule.{small}
-use Rattle.round_search.specs.Key.{keysFrom, lesserKeys, leastKeys}
+use Rattle.round_search.specs.Key.{keys_from, lesser_keys, least_keys}
 use Rattle.round_search.proofs.Keys.{first-keys, next_keys}
 use Rattle.round_search.proofs.key.least_keys.Statement.{statement}
 use Rattle.round_search.proofs.key.least_keys.Tie as tie
 
 abbrev invariant-loop : tie.invariant-loop
-invariant-loop t h n best₀ k₀ best k = (k ≤ n) × (best ≡ leastKeys h k)
+invariant-loop t h n best₀ k₀ best k = (k ≤ n) × (best ≡ least_keys h k)
 
 abbrev decreases-loop : tie.decreases-loop
 decreases-loop t h n best₀ k₀ best k = n - k
 
 -- a point of the table is small
-small-read : (p : Point) (k : ℕ) → p ≡ aPoint k → k < 256 → Small p
+small-read : (p : Point) (k : ℕ) → p ≡ a_point k → k < 256 → Small p
 small-read p k e h = subst Small (sym e) (small k h)
 
 near-point-requires : tie.Need-near-point-requires invariant-loop decreases-loop
@@ -31,7 +31,7 @@ keys-from-requires c κs = (c.before.requires.1, small-read c.near-point.result 
 loop-holds : tie.Need-loop-init invariant-loop decreases-loop
 loop-holds c =
     let h = c.before.before.args.h in
-    (omega arith, c.keys_from.ensures ∙ ap (λ (p : Point). keysFrom h p 0) c.before.near-point.ensures ∙ first-keys h)
+    (omega arith, c.keys_from.ensures ∙ ap (λ (p : Point). keys_from h p 0) c.before.near-point.ensures ∙ first-keys h)
 
 near-point-requires-2 : tie.Need-near-point-requires-2 invariant-loop decreases-loop
 near-point-requires-2 c κs = search rules
@@ -58,14 +58,14 @@ loop-again c =
     let l = c.before.before.before.before in
     let h = l.before.before.before.args.h in
     let k = l.loop.k in
-    let here = c.before.keys-from2.ensures ∙ ap (λ (p : Point). keysFrom h p k) c.before.before.near-point2.ensures in
-    (search rules, c.lesser-keys.ensures ∙ ap₂ lesserKeys l.loop.invariant.1 here ∙ next_keys h k (omega arith))
+    let here = c.before.keys-from2.ensures ∙ ap (λ (p : Point). keys_from h p k) c.before.before.near-point2.ensures in
+    (search rules, c.lesser-keys.ensures ∙ ap₂ lesser_keys l.loop.invariant.1 here ∙ next_keys h k (omega arith))
 
 returns : tie.Need-returns invariant-loop decreases-loop
 returns c =
     let s = c.before.before.before.before in
     let e : c.before.loop.k ≡ s.args.n = omega arith in
-    c.before.loop.invariant.1 ∙ ap (leastKeys s.args.h) e
+    c.before.loop.invariant.1 ∙ ap (least_keys s.args.h) e
 
 pub least-keys-spec : {M : Type 1} → statement M
 least-keys-spec =

@@ -1,6 +1,6 @@
 -- `lesser_keys`: label by label.
 use borrow.Author.Rules.{rules}
-use Rattle.round_search.specs.Key.{lesserKeys}
+use Rattle.round_search.specs.Key.{lesser_keys}
 use Rattle.round_search.proofs.key.lesser_keys.Statement.{statement}
 use Rattle.round_search.proofs.key.lesser_keys.Tie as tie
 
@@ -17,7 +17,7 @@ lesser-requires-4 : tie.Need-lesser-requires-4
 lesser-requires-4 c κs = search rules
 
 returns : tie.Need-returns
-unfolding lesserKeys
+unfolding lesser_keys
 returns c = cc
 
 pub lesser-keys-spec : {M : Type 1} → statement M

@@ -6,7 +6,7 @@ use mir.Syntax.{w32}
 use Rattle.points.proofs.Signed.{reads, neg-fits, neg-reads}
 use Rattle.distance.specs.declared.Spot.{Spot}
 use Rattle.distance.specs.Distance.{SpotInRange}
-use Rattle.round_search.specs.Key.{turnedBack}
+use Rattle.round_search.specs.Key.{turned_back}
 use Rattle.round_search.proofs.Distances.{back-in-range}
 use Rattle.round_search.proofs.line.turned_back.Statement.{statement}
 use Rattle.round_search.proofs.line.turned_back.Tie as tie
@@ -15,7 +15,7 @@ sub-t2 : tie.Need-overflow-sub-t2
 sub-t2 c = let h = c.before.before.args.h in neg-fits w32 h.y (omega arith)
 
 returns : tie.Need-returns
-unfolding turnedBack
+unfolding turned_back
 returns c =
     let s = c.before.before.before in
     let is = ap₂ {C = Spot} (λ (a b : ℤ). record { x = a; y = b }) (neg-reads w32 s.args.h.y (omega arith)) (reads w32 s.args.h.x (omega arith)) in

@@ -2,7 +2,7 @@
 use mathlib.Core.Path.{sym, ap, ◌∙◌}
 use borrow.Author.Tests.{not-true, not-false}
 use Rattle.records.specs.declared.Kind.{Kind}
-use Rattle.salvage_meaning.specs.Salvage.{isWordRole}
+use Rattle.salvage_meaning.specs.Salvage.{is_word_role}
 use Rattle.salvage.proofs.Takes.{off-is, word-is, run_is}
 use borrow.Author.Rules.{rules}
 use Rattle.salvage.proofs.record.take.Statement.{statement}
@@ -48,7 +48,7 @@ returns-2 c =
     let k = q.before.before in
     let e = k.before in
     word-is _ _ _ _ _ _ _ _ (sym e.before.is-agreed.ensures ∙ not-false _ e.if1.false)
-    (ap (λ (x : Kind). isWordRole x.role) (sym k.kind-of.ensures) ∙ sym q.before.is_IsWord.ensures ∙ q.if2.true) _ n.number.ensures _ c.take-word.ensures
+    (ap (λ (x : Kind). is_word_role x.role) (sym k.kind-of.ensures) ∙ sym q.before.is_IsWord.ensures ∙ q.if2.true) _ n.number.ensures _ c.take-word.ensures
 
 run-requires : tie.Need-run-requires
 run-requires c κs = search rules
@@ -63,7 +63,7 @@ returns-3 c =
     let k = q.before.before in
     let e = k.before in
     run_is _ _ _ _ _ _ _ _ (sym e.before.is-agreed.ensures ∙ not-false _ e.if1.false)
-    (ap (λ (x : Kind). isWordRole x.role) (sym k.kind-of.ensures) ∙ sym q.before.is_IsWord.ensures ∙ q.if2.false) _ r.run.ensures
+    (ap (λ (x : Kind). is_word_role x.role) (sym k.kind-of.ensures) ∙ sym q.before.is_IsWord.ensures ∙ q.if2.false) _ r.run.ensures
 
 pub take_spec : {M : Type 1} → statement M
 take_spec =

@@ -4,15 +4,15 @@ use mathlib.Core.Path.{◌≡◌, refl, sym, ap, ◌∙◌}
 use native.Mathlib.Omega.{arith}
 use lib.ListN.{get_or}
 use Rattle.trellis.specs.Search.{range}
-use Rattle.select.specs.Select.{limit, reachedOf, live_of, head_of}
-use Rattle.select.specs.Ways.{sumsIn}
+use Rattle.select.specs.Select.{limit, reached_of, live_of, head_of}
+use Rattle.select.specs.Ways.{sums_in}
 use Rattle.select.proofs.CodeSelect.{sum-at}
 use Rattle.select.proofs.Followed.{head-here, head-later}
 use Rattle.select.proofs.follow.first_live.Statement.{statement}
 use Rattle.select.proofs.follow.first_live.Tie as tie
 
 abbrev invariant-loop : tie.invariant-loop
-invariant-loop keys s₀ s = (s ≤ 16) × (head_of (live_of (sumsIn keys)) ≡ head_of (reachedOf (sumsIn keys) (range s (16 - s))))
+invariant-loop keys s₀ s = (s ≤ 16) × (head_of (live_of (sums_in keys)) ≡ head_of (reached_of (sums_in keys) (range s (16 - s))))
 
 abbrev decreases-loop : tie.decreases-loop
 decreases-loop keys s₀ s = 16 - s
@@ -32,8 +32,8 @@ returns c =
     let at = c.before.before.before in
     let more = c.before.before.loop-test.true in
     let keys = at.before.args.keys.now in
-    let here : get_or (sumsIn keys) at.loop.s 0 < limit = omega (arith, sum-at keys at.loop.s more, c.if1.true) in
-    (sym (at.loop.invariant.1 ∙ head-here (sumsIn keys) at.loop.s more here), more)
+    let here : get_or (sums_in keys) at.loop.s 0 < limit = omega (arith, sum-at keys at.loop.s more, c.if1.true) in
+    (sym (at.loop.invariant.1 ∙ head-here (sums_in keys) at.loop.s more here), more)
 
 add-s : tie.Need-overflow-add-s invariant-loop decreases-loop
 add-s c = omega arith
@@ -46,15 +46,15 @@ loop-again c =
     let at = c.before.before.before in
     let more = c.before.before.loop-test.true in
     let keys = at.before.args.keys.now in
-    let later : limit ≤ get_or (sumsIn keys) at.loop.s 0 = omega (arith, sum-at keys at.loop.s more, c.if1.false) in
-    (omega arith, at.loop.invariant.1 ∙ head-later (sumsIn keys) at.loop.s more later)
+    let later : limit ≤ get_or (sums_in keys) at.loop.s 0 = omega (arith, sum-at keys at.loop.s more, c.if1.false) in
+    (omega arith, at.loop.invariant.1 ∙ head-later (sums_in keys) at.loop.s more later)
 
 returns-2 : tie.Need-returns-2 invariant-loop decreases-loop
-unfolding reachedOf range
+unfolding reached_of range
 returns-2 c =
     let at = c.before in
     let none : 16 - at.loop.s ≡ 0 = omega arith in
-    (sym (at.loop.invariant.1 ∙ ap (λ (n : ℕ). head_of (reachedOf (sumsIn at.before.args.keys.now) (range at.loop.s n))) none), omega arith)
+    (sym (at.loop.invariant.1 ∙ ap (λ (n : ℕ). head_of (reached_of (sums_in at.before.args.keys.now) (range at.loop.s n))) none), omega arith)
 
 pub first-live-spec : {M : Type 1} → statement M
 first-live-spec =

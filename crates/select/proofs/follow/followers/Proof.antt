@@ -5,7 +5,7 @@ use mathlib.Core.List.{◌++◌}
 use native.Mathlib.Numerals.{add-one}
 use native.Mathlib.Omega.{arith}
 use lib.ListN.{length, drop}
-use Rattle.select.specs.Ways.{sumsIn, stepsIn, followedStep}
+use Rattle.select.specs.Ways.{sums_in, steps_in, followed_step}
 use Rattle.lists.specs.Tabled.{tabled}
 use Rattle.lists.proofs.Filled.{tabled-more}
 use Rattle.select.proofs.CodeSelect.{follows}
@@ -13,7 +13,7 @@ use Rattle.select.proofs.follow.followers.Statement.{statement}
 use Rattle.select.proofs.follow.followers.Tie as tie
 
 abbrev invariant-loop : tie.invariant-loop
-invariant-loop keys head other all₀ s₀ all s = (s ≤ 16) × (length all₀ ≡ 16) × (all ≡ tabled (followedStep (sumsIn keys) (stepsIn keys)) s ++ drop s all₀)
+invariant-loop keys head other all₀ s₀ all s = (s ≤ 16) × (length all₀ ≡ 16) × (all ≡ tabled (followed_step (sums_in keys) (steps_in keys)) s ++ drop s all₀)
 
 abbrev decreases-loop : tie.decreases-loop
 decreases-loop keys head other all₀ s₀ all s = 16 - s
@@ -59,7 +59,7 @@ loop-again c =
     let keys = first.before.args.keys.now in
     let f = first.first_live in
     let x = follows keys at.loop.s c.before.before.loop-test.true f.result c.step-if-reached.result f.ensures.0 f.ensures.1 c.step-if-reached.ensures in
-    (omega arith, at.loop.invariant.1, rw (at.loop.invariant.2, x, add-one at.loop.s) (tabled-more (followedStep (sumsIn keys) (stepsIn keys)) at.loop.s _ (omega arith)))
+    (omega arith, at.loop.invariant.1, rw (at.loop.invariant.2, x, add-one at.loop.s) (tabled-more (followed_step (sums_in keys) (steps_in keys)) at.loop.s _ (omega arith)))
 
 returns : tie.Need-returns invariant-loop decreases-loop
 unfolding tabled

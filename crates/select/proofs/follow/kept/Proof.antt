@@ -6,7 +6,7 @@ use native.Mathlib.Numerals.{add-one}
 use native.Mathlib.Omega.{arith}
 use lib.ListN.{length, drop}
 use Rattle.select.specs.Select.{lowered}
-use Rattle.select.specs.Ways.{sumsIn}
+use Rattle.select.specs.Ways.{sums_in}
 use Rattle.lists.specs.Tabled.{tabled}
 use Rattle.lists.proofs.Filled.{tabled-more}
 use Rattle.select.proofs.CodeSelect.{low_fits, kept-is}
@@ -14,7 +14,7 @@ use Rattle.select.proofs.follow.kept.Statement.{statement}
 use Rattle.select.proofs.follow.kept.Tie as tie
 
 abbrev invariant-loop : tie.invariant-loop
-invariant-loop keys low all₀ s₀ all s = (s ≤ 16) × (length all₀ ≡ 16) × (all ≡ tabled (lowered (sumsIn keys)) s ++ drop s all₀)
+invariant-loop keys low all₀ s₀ all s = (s ≤ 16) × (length all₀ ≡ 16) × (all ≡ tabled (lowered (sums_in keys)) s ++ drop s all₀)
 
 abbrev decreases-loop : tie.decreases-loop
 decreases-loop keys low all₀ s₀ all s = 16 - s
@@ -51,7 +51,7 @@ loop-again c =
     let at = c.before.before.before in
     let a = at.before.args in
     let x = kept-is a.keys.now at.loop.s c.before.before.loop-test.true a.low c.sum-if-reached.result at.before.requires c.sum-if-reached.ensures in
-    (omega arith, at.loop.invariant.1, rw (at.loop.invariant.2, x, add-one at.loop.s) (tabled-more (lowered (sumsIn a.keys.now)) at.loop.s _ (omega arith)))
+    (omega arith, at.loop.invariant.1, rw (at.loop.invariant.2, x, add-one at.loop.s) (tabled-more (lowered (sums_in a.keys.now)) at.loop.s _ (omega arith)))
 
 returns : tie.Need-returns invariant-loop decreases-loop
 unfolding tabled

@@ -5,7 +5,7 @@ use lib.ListN.{get_or}
 use borrow.Author.Rules.{rules}
 use Rattle.wei.proofs.States.{before-below, between-below}
 use Rattle.select.specs.Select.{limit, arrive}
-use Rattle.select.specs.Ways.{keyBy}
+use Rattle.select.specs.Ways.{key_by}
 use Rattle.select.proofs.ways.key_by.Statement.{statement}
 use Rattle.select.proofs.ways.key_by.Tie as tie
 
@@ -62,7 +62,7 @@ add-result-3 : tie.Need-overflow-add-result-3
 add-result-3 c = let d = c.before.before in record { fits = omega (arith, sum-most d, cost-most d, state-below d.before, subset-below d) }
 
 returns : tie.Need-returns
-unfolding keyBy arrive
+unfolding key_by arrive
 returns c = rw (c.before.before.subset-between.ensures, c.before.before.before.before-state.ensures)
 
 pub key-by-spec : {M : Type 1} → statement M

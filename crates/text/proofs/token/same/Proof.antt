@@ -3,14 +3,14 @@ use Prim.Native.Nat.{◌-◌, ◌≤◌}
 use mathlib.Core.Path.{◌≡◌, refl, sym, ◌∙◌}
 use native.Mathlib.Omega.{arith}
 use lib.ListN.{length, drop}
-use Rattle.text.specs.Token.{sameBytes}
+use Rattle.text.specs.Token.{same_bytes}
 use Rattle.text.proofs.Tokens.{other_length, differ, agree, all-agree}
 use borrow.Author.Rules.{rules}
 use Rattle.text.proofs.token.same.Statement.{statement}
 use Rattle.text.proofs.token.same.Tie as tie
 
 abbrev invariant-loop : tie.invariant-loop
-invariant-loop a b i₀ i = (i ≤ length a) × (sameBytes (drop i a) (drop i b) ≡ sameBytes a b)
+invariant-loop a b i₀ i = (i ≤ length a) × (same_bytes (drop i a) (drop i b) ≡ same_bytes a b)
 
 abbrev decreases-loop : tie.decreases-loop
 decreases-loop a b i₀ i = length a - i

@@ -2,7 +2,7 @@
 use Prim.Native.Nat.{◌+◌, ◌*◌}
 use mathlib.Core.Path.{ap}
 use lib.Bits.{and_mask}
-use Rattle.wei.specs.Label.{secondLabel, pair_of}
+use Rattle.wei.specs.Label.{second_label, pair_of}
 use borrow.Author.Rules.{rules}
 use Rattle.wei.proofs.label.labels.Statement.{statement}
 use Rattle.wei.proofs.label.labels.Tie as tie
@@ -17,7 +17,7 @@ add-t6 : tie.Need-overflow-add-t6
 add-t6 c = search rules
 
 returns : tie.Need-returns
-unfolding secondLabel
+unfolding second_label
 returns c = ap (pair_of c.args.q) (and_mask (c.args.q + c.args.y0 + 2 * c.args.i1) 2)
 
 pub labels-spec : {M : Type 1} → statement M

@@ -1,7 +1,7 @@
 -- `state::next`: at all sixteen states and four inputs.
 use Prim.Native.Nat.{ℕ, ◌*◌, ◌/◌, ◌%◌, ◌^◌}
 use lib.Bits.{bit_and, bit_or, bit_xor}
-use Rattle.wei.specs.State.{nextState}
+use Rattle.wei.specs.State.{next_state}
 use Rattle.wei.proofs.Finite.{equal3}
 use Rattle.wei.proofs.state.next.Statement.{statement}
 use Rattle.wei.proofs.state.next.Tie as tie
@@ -13,8 +13,8 @@ code s a b =
     (bit_xor (bit_xor (s / 8) (bit_and (s / 2) 1)) a)
 
 returns : tie.Need-returns
-unfolding code nextState
-returns c = equal3 16 2 2 code nextState tt c.args.s c.args.i1 c.args.i2 c.requires.0 c.requires.1 c.requires.2
+unfolding code next_state
+returns c = equal3 16 2 2 code next_state tt c.args.s c.args.i1 c.args.i2 c.requires.0 c.requires.1 c.requires.2
 
 pub next-spec : {M : Type 1} → statement M
 next-spec = tie.close (tie.spec returns)

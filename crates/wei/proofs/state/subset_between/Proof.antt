@@ -1,7 +1,7 @@
 -- `state::subset_between`: at all pairs of states.
 use Prim.Native.Nat.{ℕ, ◌*◌, ◌/◌, ◌%◌, ◌^◌}
 use lib.Bits.{bit_and, bit_or, bit_xor}
-use Rattle.wei.specs.State.{between, carryI1, carryI2}
+use Rattle.wei.specs.State.{between, carry_i1, carry_i2}
 use Rattle.wei.proofs.Finite.{equal2}
 use Rattle.wei.proofs.state.subset_between.Statement.{statement}
 use Rattle.wei.proofs.state.subset_between.Tie as tie
@@ -13,7 +13,7 @@ code s t =
     (bit_and (bit_xor (t / 2) (s / 4)) 1)
 
 returns : tie.Need-returns
-unfolding code between carryI1 carryI2
+unfolding code between carry_i1 carry_i2
 returns c = equal2 16 16 code between tt c.args.s c.args.t c.requires.0 c.requires.1
 
 pub subset-between-spec : {M : Type 1} → statement M

@@ -3,7 +3,7 @@ use mathlib.Core.Path.{sym}
 use native.Mathlib.Omega.{arith}
 use lib.Seq.{length-take-le}
 use Rattle.receiver.specs.Doors.{finishing}
-use Rattle.desk.specs.Desk.{ranGives, acting}
+use Rattle.desk.specs.Desk.{ran_gives, acting}
 use Rattle.desk.proofs.Desks.{within, at_cap, short}
 use borrow.Author.Rules.{rules}
 use Rattle.desk.proofs.verbs.finish.finish.Statement.{statement}
@@ -28,7 +28,7 @@ returns : tie.Need-returns
 unfolding acting
 returns c =
     let start = c.before.before.before.before.before.before.before.before.before in
-    at_cap (λ n. ranGives start.args.desk (finishing start.args.desk.receiver n)) (length-take-le _ _ start.requires.0)
+    at_cap (λ n. ran_gives start.args.desk (finishing start.args.desk.receiver n)) (length-take-le _ _ start.requires.0)
     (within (omega (arith, short start.args.cap start.args.words.now start.requires.1)) c.before.before.before.before.finished.ensures)
 
 pub finish_spec : {M : Type 1} → statement M

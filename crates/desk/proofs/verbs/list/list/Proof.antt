@@ -3,8 +3,8 @@ use mathlib.Core.Path.{sym}
 use native.Mathlib.Omega.{arith}
 use lib.ListN.{take, length-take}
 use lib.Seq.{length-take-le}
-use Rattle.sender.specs.SendList.{sendingList}
-use Rattle.desk.specs.Desk.{lent, listGives, acting}
+use Rattle.sender.specs.SendList.{sending_list}
+use Rattle.desk.specs.Desk.{lent, list_gives, acting}
 use Rattle.desk.proofs.Desks.{within, at_cap}
 use borrow.Author.Rules.{rules}
 use Rattle.desk.proofs.verbs.list.list.Statement.{statement}
@@ -32,7 +32,7 @@ returns : tie.Need-returns
 unfolding acting
 returns c =
     let s = c.before.before.before.before.before.before.before.before.before in
-    at_cap (λ n. listGives s.args.desk (sendingList s.args.desk.sender (take s.args.count s.args.words.now) (lent n))) (length-take-le _ _ s.requires.0)
+    at_cap (λ n. list_gives s.args.desk (sending_list s.args.desk.sender (take s.args.count s.args.words.now) (lent n))) (length-take-le _ _ s.requires.0)
     (within (omega (arith, s.requires.1, length-take s.args.cap s.args.coordinates.now)) c.before.before.before.sent.ensures)
 
 pub list-spec : {M : Type 1} → statement M

@@ -3,9 +3,9 @@ use mathlib.Core.Path.{sym}
 use native.Mathlib.Omega.{arith}
 use lib.ListN.{take}
 use lib.Seq.{length-take-le}
-use Rattle.receiver_meaning.specs.Piece.{markedPiece}
+use Rattle.receiver_meaning.specs.Piece.{marked_piece}
 use Rattle.receiver.specs.Doors.{hearing}
-use Rattle.desk.specs.Desk.{ranGives, acting}
+use Rattle.desk.specs.Desk.{ran_gives, acting}
 use Rattle.desk.proofs.Desks.{within, at_cap, short}
 use borrow.Author.Rules.{rules}
 use Rattle.desk.proofs.verbs.marked.hear.Statement.{statement}
@@ -39,8 +39,8 @@ unfolding acting
 returns c =
     let call = c.before.before.before.before in
     let start = call.before.before.before.before.before.before.before.before in
-    let piece = markedPiece (take start.args.row start.args.marks.now) (take start.args.count start.args.coordinates.now) in
-    at_cap (λ n. ranGives start.args.desk (hearing start.args.desk.receiver piece n)) (length-take-le _ _ start.requires.0)
+    let piece = marked_piece (take start.args.row start.args.marks.now) (take start.args.count start.args.coordinates.now) in
+    at_cap (λ n. ran_gives start.args.desk (hearing start.args.desk.receiver piece n)) (length-take-le _ _ start.requires.0)
     (within (omega (arith, short start.args.cap start.args.words.now start.requires.1)) call.heard.ensures)
 
 pub hear-spec : {M : Type 1} → statement M

@@ -1,5 +1,5 @@
 -- `verbs::open_receiver::open_plain`: what the receiver's opening gave.
-use Rattle.openings.specs.Opening.{plainOpening}
+use Rattle.openings.specs.Opening.{plain_opening}
 use Rattle.desk.specs.Desk.{acting}
 use borrow.Author.Rules.{rules}
 use Rattle.desk.proofs.verbs.open_receiver.open_plain.Statement.{statement}
@@ -19,7 +19,7 @@ unfolding acting
 returns c =
     let o = c.before.before.before.before in
     let a = o.before.before.args in
-    c.before.before.opened.ensures (plainOpening a.accord) o.open_plain.ensures.always-given o.open_plain.ensures.always-receiver
+    c.before.before.opened.ensures (plain_opening a.accord) o.open_plain.ensures.always-given o.open_plain.ensures.always-receiver
 
 pub open-plain-spec : {M : Type 1} → statement M
 open-plain-spec = tie.close (tie.spec open-plain-requires opened-requires same_length returns)

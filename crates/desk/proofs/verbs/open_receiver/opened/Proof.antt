@@ -2,8 +2,8 @@
 use mathlib.Core.Path.{ap, ◌∙◌}
 use native.Mathlib.Omega.{arith}
 use Rattle.reasons.specs.Reason.{Reason}
-use Rattle.answers.specs.Answer.{numberLine}
-use Rattle.desk.specs.Desk.{withReceiver}
+use Rattle.answers.specs.Answer.{number_line}
+use Rattle.desk.specs.Desk.{with_receiver}
 use Rattle.answers.proofs.Answers.{number-near}
 use Rattle.desk.proofs.Desks.{does}
 use borrow.Author.Rules.{rules}
@@ -29,7 +29,7 @@ returns : tie.Need-returns
 returns c =
     λ g given same.
     let n = c.before.before.before.before in
-    does c.with-receiver.ensures (ap (withReceiver n.before.before.before.before.args.desk) same) (ap numberLine (n.before.number.ensures ∙ ap (λ (r : Reason). r.number) given))
+    does c.with-receiver.ensures (ap (with_receiver n.before.before.before.before.args.desk) same) (ap number_line (n.before.number.ensures ∙ ap (λ (r : Reason). r.number) given))
     (omega (arith, number-near _ n.number2.ensures)) n.number2.ensures
 
 pub opened-spec : {M : Type 1} → statement M

@@ -1,8 +1,8 @@
 -- `verbs::open_sender::open_sender`: the sender and the number of the opening.
 use mathlib.Core.Path.{ap, ◌∙◌}
 use native.Mathlib.Omega.{arith}
-use Rattle.answers.specs.Answer.{numberLine}
-use Rattle.desk.specs.Desk.{withSender, acting}
+use Rattle.answers.specs.Answer.{number_line}
+use Rattle.desk.specs.Desk.{with_sender, acting}
 use Rattle.answers.proofs.Answers.{number-near}
 use Rattle.desk.proofs.Desks.{does}
 use borrow.Author.Rules.{rules}
@@ -32,8 +32,8 @@ unfolding acting
 returns c =
     let at-number2 = c.before.before.before.before in
     let opened = at-number2.before.before.before.open-sender.ensures in
-    does c.with-sender.ensures (ap (withSender at-number2.before.before.before.before.before.args.desk) opened.sender)
-    (ap numberLine (at-number2.before.number.ensures ∙ opened.number))
+    does c.with-sender.ensures (ap (with_sender at-number2.before.before.before.before.before.args.desk) opened.sender)
+    (ap number_line (at-number2.before.number.ensures ∙ opened.number))
     (omega (arith, number-near _ at-number2.number2.ensures)) at-number2.number2.ensures
 
 pub open-sender-spec : {M : Type 1} → statement M

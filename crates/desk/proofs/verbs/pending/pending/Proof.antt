@@ -1,7 +1,7 @@
 -- `verbs::pending::pending`: the receiver's count.
 use mathlib.Core.Path.{refl, ap}
 use native.Mathlib.Omega.{arith}
-use Rattle.answers.specs.Answer.{numberLine}
+use Rattle.answers.specs.Answer.{number_line}
 use Rattle.answers.proofs.Answers.{number-near}
 use Rattle.desk.specs.Desk.{acting}
 use Rattle.desk.proofs.Desks.{does}
@@ -21,7 +21,7 @@ same_length c = search rules
 returns : tie.Need-returns
 unfolding acting
 returns c =
-    does refl refl (ap numberLine c.before.before.before.before.pending.ensures) (omega (arith, number-near _ c.before.before.number.ensures)) c.before.before.number.ensures
+    does refl refl (ap number_line c.before.before.before.before.pending.ensures) (omega (arith, number-near _ c.before.before.number.ensures)) c.before.before.number.ensures
 
 pub pending-spec : {M : Type 1} → statement M
 pending-spec = tie.close (tie.spec pending-requires number-requires same_length returns)

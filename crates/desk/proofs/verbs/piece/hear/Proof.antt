@@ -5,7 +5,7 @@ use lib.ListN.{take}
 use lib.Seq.{length-take-le}
 use Rattle.receiver_meaning.specs.Piece.{piece_of}
 use Rattle.receiver.specs.Doors.{hearing}
-use Rattle.desk.specs.Desk.{ranGives, acting}
+use Rattle.desk.specs.Desk.{ran_gives, acting}
 use Rattle.desk.proofs.Desks.{within, at_cap, short}
 use borrow.Author.Rules.{rules}
 use Rattle.desk.proofs.verbs.piece.hear.Statement.{statement}
@@ -35,7 +35,7 @@ returns : tie.Need-returns
 unfolding acting
 returns c =
     let start = c.before.before.before.before.before.before.before.before.before.before in
-    at_cap (λ n. ranGives start.args.desk (hearing start.args.desk.receiver (piece_of (take start.args.count start.args.coordinates.now)) n)) (length-take-le _ _ start.requires.0)
+    at_cap (λ n. ran_gives start.args.desk (hearing start.args.desk.receiver (piece_of (take start.args.count start.args.coordinates.now)) n)) (length-take-le _ _ start.requires.0)
     (within (omega (arith, short start.args.cap start.args.words.now start.requires.1)) c.before.before.before.before.heard.ensures)
 
 pub hear-spec : {M : Type 1} → statement M

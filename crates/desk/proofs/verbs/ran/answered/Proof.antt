@@ -2,7 +2,7 @@
 use mathlib.Core.Path.{ap, sym}
 use native.Mathlib.Omega.{arith}
 use lib.Seq.{length-take-le}
-use Rattle.desk.specs.Desk.{withReceiver}
+use Rattle.desk.specs.Desk.{with_receiver}
 use Rattle.desk.proofs.Desks.{does, heard-text, short}
 use Rattle.answers.proofs.Answers.{heard-near}
 use borrow.Author.Rules.{rules}
@@ -29,7 +29,7 @@ returns c =
     let heard = c.before.before.before.before in
     let start = heard.before.before.before.before.before in
     let few = short start.args.a.written start.args.out.now start.requires.0 in
-    does c.with-receiver.ensures (ap (withReceiver start.args.desk) is.receiver) (heard-text is)
+    does c.with-receiver.ensures (ap (with_receiver start.args.desk) is.receiver) (heard-text is)
     (omega (arith, heard-near _ _ _ heard.heard.ensures)) heard.heard.ensures
 
 pub answered-spec : {M : Type 1} → statement M

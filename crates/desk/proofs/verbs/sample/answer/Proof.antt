@@ -1,6 +1,6 @@
 -- `verbs::sample::answer`: two numbers, the place at fault, or that the sample is missing.
 use mathlib.Core.Path.{◌∙◌}
-use Rattle.answers.specs.Answer.{sampleLine}
+use Rattle.answers.specs.Answer.{sample_line}
 use Rattle.phrases.proofs.Phrases.{puts-as}
 use Rattle.answers.proofs.Answers.{pair-back}
 use Rattle.desk.proofs.Desks.{answer-text}
@@ -33,7 +33,7 @@ same_length : tie.Need-same-length
 same_length c = search rules
 
 returns : tie.Need-returns
-unfolding sampleLine
+unfolding sample_line
 returns c =
     let at-heard = c.before.before.before.before.before in
     let told = c.before.before.before.before.known-told.given in
@@ -46,7 +46,7 @@ same-length-2 : tie.Need-same-length-2
 same-length-2 c = search rules
 
 returns-2 : tie.Need-returns-2
-unfolding sampleLine
+unfolding sample_line
 returns-2 c =
     let at-heard = c.before.before.before.before.before in
     puts-as (answer-text at-heard.heard2.given.1 at-heard.before.before.hear-sampled.ensures) c.before.before.refused.ensures

@@ -2,7 +2,7 @@
 use mathlib.Core.Path.{sym}
 use lib.Seq.{length-take-le}
 use Rattle.requests.specs.declared.Request.TheVariants as request
-use Rattle.requests.specs.Named.{noneNamed}
+use Rattle.requests.specs.Named.{none_named}
 use Rattle.desk.specs.Desk.{acting}
 use Rattle.desk.proofs.Desks.{at_cap}
 use borrow.Author.Rules.{rules}
@@ -27,7 +27,7 @@ same-length-2 c = search rules
 returns : tie.Need-returns
 returns c =
     let start = c.before.before.before.before.before.before.before in
-    at_cap (λ n. acting start.args.desk (request.Send start.args.word n) noneNamed) (length-take-le _ _ start.requires.0) c.before.before.before.sent.ensures
+    at_cap (λ n. acting start.args.desk (request.Send start.args.word n) none_named) (length-take-le _ _ start.requires.0) c.before.before.before.sent.ensures
 
 pub send-spec : {M : Type 1} → statement M
 send-spec =

@@ -13,7 +13,7 @@ ghost use Rattle.c_replay.specs.Saying.{Room, Tells, Says, Heard};
 use replay_judge::Verdict;
 
 // What a call is to say: nothing, and which number it gives; or the line of a verdict.
-#[derive(Drop)]
+#[derive(Clone, Copy)]
 enum Said {
     Nothing(u32),
     Line(Verdict),

@@ -22,7 +22,7 @@ pub fn tell(told: &mut [u64], taken: usize, written: usize, place: usize)
 
 // What was heard of a sample: the number, both coordinates, and the place at fault, which is 0 where there is none. Of a missing one both
 // coordinates are 0.
-#[derive(Drop)]
+#[derive(Clone, Copy)]
 struct Heard {
     number: u32,
     x: i32,
@@ -81,7 +81,7 @@ pub fn convert_sample(x: f32, y: f32, out: &mut [i32]) -> u32
 }
 
 // How a list of coordinates went: how many were written, and where it stopped.
-#[derive(Drop)]
+#[derive(Clone, Copy)]
 struct Converted {
     number: u32,
     written: usize,

@@ -21,7 +21,7 @@ pub fn holds_receiver(words: &[u64]) -> bool
 }
 
 // What is copied of a receiver.
-#[derive(Drop)]
+#[derive(Clone, Copy)]
 pub struct Copied {
     pub core: Core,
     pub sums: [u32; 16],

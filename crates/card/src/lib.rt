@@ -18,7 +18,7 @@ use nearest::{Chart, Received};
 use points::Accord;
 
 // What a symbol of the card's sequence counts for, or that something about it does not hold.
-#[derive(Drop)]
+#[derive(Clone, Copy)]
 pub enum Step {
     Counts(u32),
     Fails,
@@ -38,7 +38,7 @@ fn lengths_fit(n: usize, coordinates: usize, states: usize, symbols: usize, numb
 }
 
 // A symbol as it was heard: its two points.
-#[derive(Drop)]
+#[derive(Clone, Copy)]
 pub struct Pair {
     pub first: Spot,
     pub second: Spot,

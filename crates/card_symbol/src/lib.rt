@@ -19,7 +19,7 @@ use distance::Spot;
 use points::Accord;
 
 // The six numbers of a symbol, whatever a card sent.
-#[derive(Drop)]
+#[derive(Clone, Copy)]
 pub struct Chosen {
     pub y0: u32,
     pub i1: u32,

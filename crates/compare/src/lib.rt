@@ -12,7 +12,7 @@ use records::Phase;
 use text::token;
 
 // How far one capture is read for its form: what stands next, what may stand there, its offset, and how many bytes of the lump are used.
-#[derive(Drop)]
+#[derive(Clone, Copy)]
 pub struct Formed {
     pub sign: Sign,
     pub phase: Phase,
@@ -22,7 +22,7 @@ pub struct Formed {
 
 // How far both are read: what was told, what may stand next in each, the number of the next records, the lines so far, and how many bytes
 // of the first lump (`here`) and of the second (`there`) are used.
-#[derive(Drop)]
+#[derive(Clone, Copy)]
 pub struct Pass {
     pub event: Event,
     pub first: Phase,

@@ -6,7 +6,7 @@ ghost use Rattle.compare_events.specs.Events.{judge as Events·judge};
 use record_front::Sign;
 
 // A line of the comparison, with its number.
-#[derive(Drop)]
+#[derive(Clone, Copy)]
 pub enum Line {
     Differs(u64),
     OnlyFirst(u64),
@@ -17,7 +17,7 @@ pub enum Line {
 }
 
 // What two lumps told: two records that are the same; a line; the last line; nothing before more bytes come; that one is malformed.
-#[derive(Drop)]
+#[derive(Clone, Copy)]
 pub enum Event {
     Same,
     Said(Line),

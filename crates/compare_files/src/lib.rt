@@ -15,7 +15,7 @@ use records::Phase;
 
 // One file: its descriptor, the place in its chunk from which bytes wait and the one up to which they do, whether it has ended, and whether
 // all went well.
-#[derive(Drop)]
+#[derive(Clone, Copy)]
 struct Side {
     fd: i32,
     from: usize,
@@ -25,7 +25,7 @@ struct Side {
 }
 
 // What a file read for its form is: well formed, or malformed at an offset; or it could not be read.
-#[derive(Drop)]
+#[derive(Clone, Copy)]
 enum Shape {
     Clean,
     Malformed(u64),
@@ -33,7 +33,7 @@ enum Shape {
 }
 
 // How far the page is filled, whether more bytes are wanted, and whether to go on.
-#[derive(Drop)]
+#[derive(Clone, Copy)]
 struct Out {
     at: usize,
     waits: bool,
@@ -41,7 +41,7 @@ struct Out {
 }
 
 // Both files, how far they are compared, and the page.
-#[derive(Drop)]
+#[derive(Clone, Copy)]
 struct Both {
     pass: Pass,
     first: Side,
@@ -113,7 +113,7 @@ fn passed(s: Side, n: usize) -> Side
 }
 
 // How far a file is read for its form, what it is if that is known, and whether to go on.
-#[derive(Drop)]
+#[derive(Clone, Copy)]
 struct Reading {
     side: Side,
     phase: Phase,

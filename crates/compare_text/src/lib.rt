@@ -8,7 +8,7 @@ ghost use Rattle.compare_text.specs.Says.{line_text, Spells};
 use compare_events::Line;
 
 // A line's number, and the words before and after it: so many bytes of each text, the rest of which is blank.
-#[derive(Drop)]
+#[derive(Clone, Copy)]
 struct Parts {
     head: [u8; 17],
     front: usize,

@@ -12,14 +12,14 @@ use sender::Sender;
 mod ends;
 mod verbs;
 
-#[derive(Drop)]
+#[derive(Clone, Copy)]
 pub struct Desk {
     pub sender: Sender,
     pub receiver: Receiver,
 }
 
 // The desk after a request, and the free place of the page after its answer.
-#[derive(Drop)]
+#[derive(Clone, Copy)]
 pub struct Done {
     pub desk: Desk,
     pub at: usize,

@@ -3,7 +3,7 @@ ghost use Rattle.std.specs.Prelude.{◌≡◌, List, ◌++◌, ℕ, ◌≤◌, l
 ghost use Rattle.line_buffer.specs.Part.{Gathered, no_part};
 
 // The line so far: how many bytes of it are in the buffer, or that it is too long and is skipped.
-#[derive(Drop)]
+#[derive(Clone, Copy)]
 pub struct Part {
     pub held: usize,
     pub long: bool,

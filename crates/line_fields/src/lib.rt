@@ -14,14 +14,14 @@ use text::number::{Number, Whole};
 use text::{number, token};
 
 // The place after a field, or that the field is none.
-#[derive(Drop)]
+#[derive(Clone, Copy)]
 pub enum Place {
     At(usize),
     Bad,
 }
 
 // A number of 64 bits, or none.
-#[derive(Drop)]
+#[derive(Clone, Copy)]
 pub enum Wide {
     Got(u64),
     Bad,

@@ -10,13 +10,13 @@ use points::Map;
 use text::number::Number;
 use text::{number, token};
 
-#[derive(Drop)]
+#[derive(Clone, Copy)]
 pub enum Which {
     On(Map),
     Unread,
 }
 
-#[derive(Drop)]
+#[derive(Clone, Copy)]
 pub enum Numbered {
     On { map: Map, number: u32 },
     Unread,

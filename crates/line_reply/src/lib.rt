@@ -11,7 +11,7 @@ use desk::{Desk, Done};
 use line_buffer::Part;
 
 // The desk, the line so far, how much of the page is filled, and whether the input is to be read on.
-#[derive(Drop)]
+#[derive(Clone, Copy)]
 pub struct Lab {
     pub desk: Desk,
     pub part: Part,

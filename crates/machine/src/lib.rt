@@ -10,7 +10,7 @@ ghost use Rattle.machine.specs.Parts.{CoreFits};
 use points::Accord;
 
 // The part of the receiver that is a handful of numbers.
-#[derive(Drop)]
+#[derive(Clone, Copy)]
 pub struct Core {
     pub accord: Accord,
     pub window: usize,
@@ -20,7 +20,7 @@ pub struct Core {
 }
 
 // The receiver: what each state keeps of its sum, three registers of each state, and what was picked of the pending symbols.
-#[derive(Drop)]
+#[derive(Clone, Copy)]
 pub struct Receiver {
     pub live: bool,
     pub core: Core,

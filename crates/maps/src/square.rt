@@ -14,7 +14,7 @@ ghost use Rattle.maps.specs.SquareInverse.{IsPlace};
 use points::Point;
 
 // A label and a number.
-#[derive(Drop)]
+#[derive(Clone, Copy)]
 pub struct Place {
     pub l: u32,
     pub w: u32,

@@ -22,7 +22,7 @@ use distance::{Found, Spot};
 use points::{Accord, Map};
 
 // A received point.
-#[derive(Drop)]
+#[derive(Clone, Copy)]
 pub enum Received {
     Heard(Spot),
     Missing,
@@ -32,7 +32,7 @@ pub enum Received {
 pub const CAP: u32 = 262144;
 
 // For each label the number of the nearest point, its squared distance and what that counts for.
-#[derive(Drop)]
+#[derive(Clone, Copy)]
 pub struct Nearest {
     pub w: [u8; 4],
     pub d: [u32; 4],
@@ -41,7 +41,7 @@ pub struct Nearest {
 
 // For each subset, by its number 4·Y0 + 2·I1 + I2', what its best symbol counts for and that symbol's I3'; for each label the
 // number of the nearest point to the first and to the second received point.
-#[derive(Drop)]
+#[derive(Clone, Copy)]
 pub struct Weighed {
     pub costs: [u32; 8],
     pub i3: [u8; 8],

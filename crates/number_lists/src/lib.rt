@@ -6,7 +6,7 @@ use text::number::{Number, Whole};
 use text::{number, token};
 
 // What a list of tokens writes: so many numbers, or something else.
-#[derive(Drop)]
+#[derive(Clone, Copy)]
 pub enum Many {
     Got(usize),
     Bad,

@@ -16,7 +16,7 @@ use nearest::{Chart, Received};
 use reasons::Why;
 
 // What became of a symbol: the numbers of the receiver after it, and how many words it wrote.
-#[derive(Drop)]
+#[derive(Clone, Copy)]
 pub struct Took {
     pub core: Core,
     pub written: usize,
@@ -25,7 +25,7 @@ pub struct Took {
 
 // What a symbol would make of the receiver: what the states keep then, the step into each state and the first word of the state before it, what is
 // picked, how many pending symbols are agreed then, and a state whose way begins with them.
-#[derive(Drop)]
+#[derive(Clone, Copy)]
 pub struct Outlook {
     pub sums: [u32; 16],
     pub steps: [u8; 16],

@@ -15,13 +15,13 @@ use points::{Accord, Map};
 use reasons::Why;
 
 // Any first state, or the named one.
-#[derive(Drop)]
+#[derive(Clone, Copy)]
 pub enum Start {
     Free,
     At(u32),
 }
 
-#[derive(Drop)]
+#[derive(Clone, Copy)]
 pub struct Opened {
     pub receiver: Receiver,
     pub why: Why,

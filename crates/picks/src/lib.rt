@@ -9,7 +9,7 @@ ghost use Rattle.picks.specs.Picks.{byte_at, numbers_of, type_at, symbol_by, sym
 use wei::word::Parts;
 
 // A word, and the turn after it.
-#[derive(Drop)]
+#[derive(Clone, Copy)]
 pub struct Said {
     pub word: u32,
     pub turn: u32,

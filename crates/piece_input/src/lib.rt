@@ -76,7 +76,7 @@ fn fault(first: Received, second: Received) -> u32
 }
 
 // The two points of a symbol, and the place of its first coordinate out of range, or 4.
-#[derive(Drop)]
+#[derive(Clone, Copy)]
 pub struct Looked {
     pub first: Received,
     pub second: Received,

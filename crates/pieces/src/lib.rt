@@ -49,7 +49,7 @@ fn symbol(
 }
 
 // How a piece went, where the receiver's arrays are lent: the numbers of the receiver after it stand beside the answer.
-#[derive(Drop)]
+#[derive(Clone, Copy)]
 pub struct Heard {
     pub core: Core,
     pub taken: usize,

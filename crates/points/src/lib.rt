@@ -11,14 +11,14 @@ ghost use Rattle.points.specs.Points.{coordinates, a_point};
 ghost use Rattle.points.specs.Turn.{turned, point_of, Small};
 
 // Which points a line has.
-#[derive(Drop)]
+#[derive(Clone, Copy)]
 pub enum Map {
     Round,
     Square,
 }
 
 // What both ends of a line must agree on before the first word: the map, and the width u, the number of bits in w1 and in w2.
-#[derive(Drop)]
+#[derive(Clone, Copy)]
 pub struct Accord {
     pub map: Map,
     pub u: u32,
@@ -36,7 +36,7 @@ pub fn is_accord(a: Accord) -> bool
     }
 }
 
-#[derive(Drop)]
+#[derive(Clone, Copy)]
 pub struct Point {
     pub x: i32,
     pub y: i32,

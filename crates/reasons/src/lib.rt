@@ -4,7 +4,7 @@ ghost use Rattle.std.specs.Prelude.{◌≡◌};
 ghost use Rattle.reasons.specs.Reason.{given_of, is_done};
 
 // A bad sample carries the place of the first coordinate at fault, 0 to 3.
-#[derive(Drop)]
+#[derive(Clone, Copy)]
 pub enum Why {
     Done,
     BadWidth,

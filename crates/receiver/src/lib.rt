@@ -16,7 +16,7 @@ use machine::{Core, Receiver};
 use pieces::Heard;
 use reasons::Why;
 
-#[derive(Drop)]
+#[derive(Clone, Copy)]
 pub struct Answer {
     pub receiver: Receiver,
     pub taken: usize,

@@ -9,7 +9,7 @@ use record_text::Noted;
 use text::token;
 
 // The receiver, whether its opening is recorded, the line so far, and whether to read on.
-#[derive(Drop)]
+#[derive(Clone, Copy)]
 struct Progress {
     receiver: Receiver,
     begun: bool,

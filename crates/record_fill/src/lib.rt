@@ -11,7 +11,7 @@ ghost use Rattle.record_fill.specs.Runs.{inside, gathered, Advances};
 use records::{Frame, Stage};
 
 // The frame after some bytes, and how many there were.
-#[derive(Drop)]
+#[derive(Clone, Copy)]
 pub struct Moved {
     pub frame: Frame,
     pub count: usize,

@@ -8,7 +8,7 @@ ghost use Rattle.record_front.specs.Fronts.{empty_of, cut_of, front_of};
 use records::{Phase, after, byte_fits, kind_of, may_stand};
 
 // A whole record; the capture's end, after a record; more bytes are wanted to tell; malformed here.
-#[derive(Drop)]
+#[derive(Clone, Copy)]
 pub enum Sign {
     Record,
     Gone,
@@ -17,7 +17,7 @@ pub enum Sign {
 }
 
 // What stands there, how many bytes the record has, and what may stand after it.
-#[derive(Drop)]
+#[derive(Clone, Copy)]
 pub struct Front {
     pub sign: Sign,
     pub length: usize,

@@ -23,7 +23,7 @@ use requests::Request;
 
 // What a line left: the receiver, whether an opening is recorded, how many bytes there are of records and of the answer, and whether the
 // recording ends here.
-#[derive(Drop)]
+#[derive(Clone, Copy)]
 pub struct Noted {
     pub receiver: Receiver,
     pub begun: bool,

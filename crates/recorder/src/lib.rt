@@ -14,7 +14,7 @@ use points::Accord;
 use reasons::Why;
 
 // The answer of a recorded call: beside the receiver's own, how many bytes were written.
-#[derive(Drop)]
+#[derive(Clone, Copy)]
 pub struct Taped {
     pub receiver: Receiver,
     pub taken: usize,

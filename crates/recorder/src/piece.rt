@@ -17,7 +17,7 @@ use machine::Core;
 use reasons::Why;
 
 // How a recorded piece went, where the receiver's arrays are lent: the numbers of the receiver after it stand beside the answer.
-#[derive(Drop)]
+#[derive(Clone, Copy)]
 pub struct Kept {
     pub core: Core,
     pub taken: usize,
@@ -27,7 +27,7 @@ pub struct Kept {
 }
 
 // How one symbol went.
-#[derive(Drop)]
+#[derive(Clone, Copy)]
 struct Step {
     core: Core,
     written: usize,

@@ -11,7 +11,7 @@ ghost use Rattle.records.specs.Frames.{capped, stage_at, begun, may_grow, grown,
 use points::Map;
 
 // What a record is for.
-#[derive(Drop)]
+#[derive(Clone, Copy)]
 pub enum Role {
     Open,
     Symbol,
@@ -21,7 +21,7 @@ pub enum Role {
 }
 
 // What may stand next: an open; a symbol or a finish; one of these or a word; a word.
-#[derive(Drop)]
+#[derive(Clone, Copy)]
 pub enum Phase {
     Start,
     Opened,
@@ -30,14 +30,14 @@ pub enum Phase {
 }
 
 // A row of the table of kinds: what the kind is for, and how many bytes its body has.
-#[derive(Drop)]
+#[derive(Clone, Copy)]
 pub struct Kind {
     pub role: Role,
     pub size: usize,
 }
 
 // No byte yet; inside a record; a record has just become whole; the capture is malformed.
-#[derive(Drop)]
+#[derive(Clone, Copy)]
 pub enum Stage {
     Fresh,
     Part,
@@ -47,7 +47,7 @@ pub enum Stage {
 
 // The record that is being read: its kind, the `have` bytes of its body that have come, and `at`, the offset of its kind byte. `phase` is what
 // may stand after it, `fed` how many bytes have come.
-#[derive(Drop)]
+#[derive(Clone, Copy)]
 pub struct Frame {
     pub stage: Stage,
     pub phase: Phase,

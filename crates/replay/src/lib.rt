@@ -16,13 +16,13 @@ ghost use Rattle.replay.specs.Course.{is_whole, is_bad, settled, course_of, feed
 use records::{Frame, Stage};
 use replay_judge::{Due, Judge, Verdict};
 
-#[derive(Drop)]
+#[derive(Clone, Copy)]
 pub struct Fed {
     pub frame: Frame,
     pub judge: Judge,
 }
 
-#[derive(Drop)]
+#[derive(Clone, Copy)]
 pub struct Replay {
     pub frame: Frame,
     pub judge: Judge,

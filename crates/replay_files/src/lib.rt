@@ -5,7 +5,7 @@ use replay::Replay;
 use replay_judge::Verdict;
 
 // The replay so far, whether to read on, and whether there is nothing left to say.
-#[derive(Drop)]
+#[derive(Clone, Copy)]
 struct Progress {
     replay: Replay,
     on: bool,

@@ -12,7 +12,7 @@ use reasons::Why;
 
 // What is printed: `agree N`, `record N word G expected H`, `record N word G expected none`, `record N missing word H`,
 // `record N refused R`, `offset P malformed`.
-#[derive(Drop)]
+#[derive(Clone, Copy)]
 pub enum Verdict {
     Agree(u64),
     Differs(u64, u32, u32),
@@ -22,7 +22,7 @@ pub enum Verdict {
     Malformed(u64),
 }
 
-#[derive(Drop)]
+#[derive(Clone, Copy)]
 pub struct Judge {
     pub live: bool,
     pub core: Core,
@@ -33,7 +33,7 @@ pub struct Judge {
 }
 
 // The next word that should stand in the capture.
-#[derive(Drop)]
+#[derive(Clone, Copy)]
 pub enum Due {
     None,
     Word(u32),

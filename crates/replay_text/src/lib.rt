@@ -7,7 +7,7 @@ ghost use Rattle.replay_text.specs.Says.{hex, recorded, line_of};
 
 use replay_judge::Verdict;
 
-#[derive(Drop)]
+#[derive(Clone, Copy)]
 pub struct Line {
     pub text: [u8; 64],
     pub size: usize,

@@ -23,7 +23,7 @@ use points::Accord;
 use text::number;
 use text::number::Number;
 
-#[derive(Drop)]
+#[derive(Clone, Copy)]
 pub enum Request {
     // An empty line or a comment.
     Nothing,

@@ -16,7 +16,7 @@ ghost use Rattle.round_columns.specs.Cells.{count_of, Counted, apart_of, Lesser,
 ghost use Rattle.round_columns.specs.Cells.{LeastKey, are_near, Near, place_of};
 
 // A key for each label, distance plus number: A, C, B and D are 0, 1, 2 and 3.
-#[derive(Drop)]
+#[derive(Clone, Copy)]
 pub struct Keys {
     pub a: u32,
     pub c: u32,
@@ -25,7 +25,7 @@ pub struct Keys {
 }
 
 // A coordinate as seen from the middle point: 1 for left or down, and how far.
-#[derive(Drop)]
+#[derive(Clone, Copy)]
 pub struct Side {
     pub back: u32,
     pub far: u32,
@@ -33,7 +33,7 @@ pub struct Side {
 
 // A received point as seen from the middle point, at the width u: the view along its longer side, what one column and one row of that view are
 // in the table, onwards and back, and how far the point is along the longer side and beside it.
-#[derive(Drop)]
+#[derive(Clone, Copy)]
 pub struct View {
     pub u: u32,
     pub o: u32,

@@ -18,7 +18,7 @@ use points::Point;
 use round_columns::Keys;
 
 // What a key is made of: a number and its distance.
-#[derive(Drop)]
+#[derive(Clone, Copy)]
 pub struct Candidate {
     pub w: u8,
     pub d: u32,

@@ -21,14 +21,14 @@ use replay::Replay;
 use replay_judge::Judge;
 
 // A replay of the records that are kept, without their words: what is due in it are the words that belong after the last of them. And the counts.
-#[derive(Drop)]
+#[derive(Clone, Copy)]
 pub struct Salvage {
     pub replay: Replay,
     pub tally: Tally,
 }
 
 // After some bytes: how many they were, and how far the page is filled.
-#[derive(Drop)]
+#[derive(Clone, Copy)]
 pub struct Fed {
     pub salvage: Salvage,
     pub used: usize,
@@ -36,7 +36,7 @@ pub struct Fed {
 }
 
 // The same where the lists are lent.
-#[derive(Drop)]
+#[derive(Clone, Copy)]
 struct Lent {
     frame: Frame,
     judge: Judge,
@@ -46,7 +46,7 @@ struct Lent {
 }
 
 // "words replaced, words added, words removed, bytes cut from the end".
-#[derive(Drop)]
+#[derive(Clone, Copy)]
 pub struct Changes {
     pub replaced: u64,
     pub added: u64,

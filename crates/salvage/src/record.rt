@@ -15,7 +15,7 @@ use records::Role;
 use replay_judge::{Due, Judge, Verdict};
 
 // The words changed so far, and how many bytes the records kept have.
-#[derive(Drop)]
+#[derive(Clone, Copy)]
 pub struct Tally {
     pub replaced: u64,
     pub added: u64,
@@ -24,7 +24,7 @@ pub struct Tally {
 }
 
 // After a record: the judge, the counts, and whether the record is to be written, with the words that belong there.
-#[derive(Drop)]
+#[derive(Clone, Copy)]
 pub struct Outcome {
     pub judge: Judge,
     pub tally: Tally,

@@ -11,7 +11,7 @@ use libc::{STDERR_FILENO, STDOUT_FILENO};
 use salvage::{Changes, Salvage};
 
 // The salvage so far, how many bytes have come, whether anything was written, whether to read on, and whether all went well.
-#[derive(Drop)]
+#[derive(Clone, Copy)]
 struct Progress {
     salvage: Salvage,
     fed: u64,

@@ -4,7 +4,7 @@ ghost use Rattle.page.specs.Page.{Puts};
 ghost use Rattle.phrases.specs.Phrase.{decimal};
 ghost use Rattle.salvage_text.specs.Says.{changes_line};
 
-#[derive(Drop)]
+#[derive(Clone, Copy)]
 pub struct Line {
     pub text: [u8; 111],
     pub size: usize,

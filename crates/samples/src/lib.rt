@@ -11,7 +11,7 @@ ghost use Rattle.samples.specs.Heard.{heard_coordinate, heard_sample};
 ghost use Rattle.samples.specs.Sampled.{marked_given, heard_sampled};
 
 // What is heard of one float: a whole number from -8192 to 8192, or nothing.
-#[derive(Drop)]
+#[derive(Clone, Copy)]
 pub enum Coordinate {
     Heard(i32),
     Refused,
@@ -35,14 +35,14 @@ pub fn hear_coordinate(v: f32) -> Coordinate
 }
 
 // A 2D sample as a front end gives it.
-#[derive(Drop)]
+#[derive(Clone, Copy)]
 pub struct Sample {
     pub x: f32,
     pub y: f32,
 }
 
 // What is heard of a sample: both coordinates, or the place of the first at fault, 0 for x and 1 for y.
-#[derive(Drop)]
+#[derive(Clone, Copy)]
 pub enum Pair {
     Heard { x: i32, y: i32 },
     Refused { place: u8 },
@@ -62,14 +62,14 @@ pub fn hear_sample(s: Sample) -> Pair
 }
 
 // A sample as a front end gives it that may lose some: heard, with its two floats, or missing.
-#[derive(Drop)]
+#[derive(Clone, Copy)]
 pub enum Sampled {
     Heard(f32, f32),
     Missing,
 }
 
 // What is heard of it: what is heard of its floats, or that it is missing.
-#[derive(Drop)]
+#[derive(Clone, Copy)]
 pub enum Marked {
     Heard { x: i32, y: i32 },
     Refused { place: u8 },

@@ -10,7 +10,7 @@ ghost use Rattle.select.specs.Select.{sixteen, sum_at, lowered, step_at};
 ghost use Rattle.select.specs.Ways.{Summable, sums_in, steps_in};
 
 // What the states keep, and the step into each.
-#[derive(Drop)]
+#[derive(Clone, Copy)]
 pub struct Selected {
     pub sums: [u32; 16],
     pub steps: [u8; 16],

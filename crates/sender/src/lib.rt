@@ -12,7 +12,7 @@ ghost use Rattle.sender.specs.Loop.{sender_at, list_by};
 
 use points::{Accord, Map};
 
-#[derive(Drop)]
+#[derive(Clone, Copy)]
 pub struct Sender {
     pub live: bool,
     pub accord: Accord,
@@ -21,7 +21,7 @@ pub struct Sender {
 }
 
 // Why a call ended.
-#[derive(Drop)]
+#[derive(Clone, Copy)]
 pub enum Why {
     Done,
     BadWidth,
@@ -30,14 +30,14 @@ pub enum Why {
     Closed,
 }
 
-#[derive(Drop)]
+#[derive(Clone, Copy)]
 pub struct Sent {
     pub sender: Sender,
     pub why: Why,
 }
 
 // How a list went: the sender after it, how many words were sent, and why it stopped.
-#[derive(Drop)]
+#[derive(Clone, Copy)]
 pub struct SentList {
     pub sender: Sender,
     pub sent: usize,
@@ -146,7 +146,7 @@ fn send_word(table: &[i8; 512], s: Sender, word: u32, out: &mut [i32]) -> Sent
 }
 
 // How the words of a list went, and the turn and the state after them.
-#[derive(Drop)]
+#[derive(Clone, Copy)]
 struct Went {
     turn: u32,
     state: u32,

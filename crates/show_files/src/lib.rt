@@ -3,7 +3,7 @@ use libc::STDOUT_FILENO;
 use records::Frame;
 
 // The frame after the bytes so far, how many records there were, whether to read on, and whether there is nothing left to say.
-#[derive(Drop)]
+#[derive(Clone, Copy)]
 struct Progress {
     frame: Frame,
     records: u64,

@@ -16,21 +16,21 @@ ghost use Rattle.square_search.specs.Axis.{origin_of, between_of, rounded_of, cl
 use distance::{Found, Spot};
 
 // The nearest place on an axis: its bits in the number, two places apart, and its squared distance.
-#[derive(Drop)]
+#[derive(Clone, Copy)]
 struct Stop {
     s: u32,
     d: u32,
 }
 
 // The nearest places on an axis of the labels with the bit 0 there, and of those with the bit 1.
-#[derive(Drop)]
+#[derive(Clone, Copy)]
 struct Stops {
     zero: Stop,
     one: Stop,
 }
 
 // A number and its distance.
-#[derive(Drop)]
+#[derive(Clone, Copy)]
 struct Candidate {
     w: u8,
     d: u32,

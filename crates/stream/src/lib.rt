@@ -10,7 +10,7 @@ use text::token;
 
 // What became of the lines so far, the place in the chunk up to which it is heard, how many bytes it holds, and whether the input has
 // ended.
-#[derive(Drop)]
+#[derive(Clone, Copy)]
 struct Progress {
     lab: Lab,
     from: usize,
@@ -19,7 +19,7 @@ struct Progress {
 }
 
 // What was made of a chunk, and how many bytes of it are heard.
-#[derive(Drop)]
+#[derive(Clone, Copy)]
 struct Heard {
     lab: Lab,
     count: usize,

@@ -7,14 +7,14 @@ ghost use Rattle.std.specs.Prelude.{◌≡◌, ◌<◌};
 ghost use Rattle.subset_types.specs.Types.{Summable, sum_of, nearer_of, choices_of};
 
 // What the nearer type counts for, and its I3'.
-#[derive(Drop)]
+#[derive(Clone, Copy)]
 pub struct Nearer {
     pub cost: u32,
     pub i3: u8,
 }
 
 // The same for all eight subsets, in the order of their numbers 4·Y0 + 2·I1 + I2'.
-#[derive(Drop)]
+#[derive(Clone, Copy)]
 pub struct Choices {
     pub costs: [u32; 8],
     pub i3: [u8; 8],

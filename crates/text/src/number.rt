@@ -3,13 +3,13 @@ ghost use Rattle.std.specs.Prelude.{◌≡◌, ◌≤◌, pos, neg_ℤ};
 ghost use Rattle.text.specs.Number.{digit_of, number_of, whole_of, hex_of};
 
 // What a token writes: a number, or none that is wanted.
-#[derive(Drop)]
+#[derive(Clone, Copy)]
 pub enum Number {
     Got(u32),
     Bad,
 }
 
-#[derive(Drop)]
+#[derive(Clone, Copy)]
 pub enum Whole {
     Got(i32),
     Bad,

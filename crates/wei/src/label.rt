@@ -3,7 +3,7 @@ ghost use Rattle.std.specs.Prelude.{◌≡◌, ◌≤◌, ◌<◌};
 ghost use Rattle.wei.specs.Label.{turn_on, turn_since, second_label, pair_of, type_of};
 
 // The labels of a symbol's two points.
-#[derive(Drop)]
+#[derive(Clone, Copy)]
 pub struct LabelPair {
     pub first: u32,
     pub second: u32,

@@ -4,7 +4,7 @@ ghost use Rattle.std.specs.Prelude.{◌≡◌, ◌≤◌};
 ghost use Rattle.wei.specs.Word.{is_word, unpacked, packed, InRange};
 
 // A word's parts.
-#[derive(Drop)]
+#[derive(Clone, Copy)]
 pub struct Parts {
     pub i1: u32,
     pub i2: u32,

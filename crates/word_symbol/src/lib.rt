@@ -12,7 +12,7 @@ ghost use Rattle.maps.specs.PointMap.{first_at, second_at};
 use points::{Accord, Point};
 
 // A symbol's two points, and the turn and the state after it.
-#[derive(Drop)]
+#[derive(Clone, Copy)]
 pub struct Symbol {
     pub turn: u32,
     pub state: u32,

@@ -6,25 +6,23 @@ use borrow.Author.Rules.{rules}
 use Rattle.answers.proofs.pair.Statement.{statement}
 use Rattle.answers.proofs.pair.Tie as tie
 
-put-whole-requires : tie.Need-put-whole-requires
+put-whole-requires : tie.Need-put_whole-p-requires
 put-whole-requires c κs = search rules
 
-next-whole-requires : tie.Need-next-whole-requires
+next-whole-requires : tie.Need-next_whole-p-requires
 next-whole-requires c κs = search rules
 
 end-requires : tie.Need-end-requires
-end-requires c κs = omega (arith, next-near _ c.before.before.before.next-whole.ensures)
+end-requires c κs = omega (arith, next-near _ c.next_whole-p.ensures)
 
-same_length : tie.Need-same-length
+same_length : tie.Need-shape_of-page
 same_length c = search rules
 
 returns : tie.Need-returns
 returns c =
-    let at-next-whole = c.before.before.before.before.before.before in
-    let start = at-next-whole.before.before.before.before.before.before.before in
-    let near = next-near _ at-next-whole.next-whole.ensures in
-    joined (omega arith) (joined (omega arith) (says-whole _ start.ranges.x at-next-whole.before.before.before.before.put_whole.ensures)
-    (says-next _ start.ranges.y at-next-whole.next-whole.ensures)) c.before.before.end.ensures
+    let near = next-near _ c.next_whole-p.ensures in
+    joined (omega arith) (joined (omega arith) (says-whole _ c.ranges.x c.put_whole-p.ensures)
+    (says-next _ c.ranges.y c.next_whole-p.ensures)) c.end.ensures
 
 pub pair_spec : {M : Type 1} → statement M
 pair_spec =

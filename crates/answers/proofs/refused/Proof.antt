@@ -6,25 +6,23 @@ use borrow.Author.Rules.{rules}
 use Rattle.answers.proofs.refused.Statement.{statement}
 use Rattle.answers.proofs.refused.Tie as tie
 
-put-byte-requires : tie.Need-put-byte-requires
+put-byte-requires : tie.Need-put_byte-p-requires
 put-byte-requires c κs = search rules
 
-place-requires : tie.Need-place-requires
+place-requires : tie.Need-place-p-requires
 place-requires c κs = search rules
 
 end-requires : tie.Need-end-requires
-end-requires c κs = omega (arith, decimal-short c.before.before.before.before.before.before.before.before.before.before.args.k)
+end-requires c κs = omega (arith, decimal-short c.args.k)
 
-same_length : tie.Need-same-length
+same_length : tie.Need-shape_of-page
 same_length c = search rules
 
 returns : tie.Need-returns
 returns c =
-    let d = c.before.before.before.before.before.before in
-    let b = d.before.before.before.before in
-    let short = decimal-short b.before.before.before.args.k in
-    joined (omega arith) (joined (omega arith) b.put_byte.ensures d.place.ensures) c.before.before.end.ensures
+    let short = decimal-short c.args.k in
+    joined (omega arith) (joined (omega arith) c.put_byte-p.ensures c.place-p.ensures) c.end.ensures
 
-pub refused-spec : {M : Type 1} → statement M
-refused-spec =
+pub refused_spec : {M : Type 1} → statement M
+refused_spec =
     tie.close (tie.spec put-byte-requires place-requires end-requires same_length returns)

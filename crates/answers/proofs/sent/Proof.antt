@@ -9,76 +9,72 @@ use borrow.Author.Rules.{rules}
 use Rattle.answers.proofs.sent.Statement.{statement}
 use Rattle.answers.proofs.sent.Tie as tie
 
-put-number-requires : tie.Need-put-number-requires
+put-number-requires : tie.Need-put_number-p-requires
 put-number-requires c κs = search rules
 
 end-requires : tie.Need-end-requires
 end-requires c κs = search rules
 
-same_length : tie.Need-same-length
+same_length : tie.Need-shape_of-page-then-n-ne0
 same_length c = search rules
 
-returns : tie.Need-returns
+returns : tie.Need-returns-then-n-ne0
 returns c =
-    puts-as (not-sent _ _ c.before.before.before.before.if1.true)
-    (joined (omega arith) (says-number c.before.before.before.before.before.before.before.put-number.ensures) c.before.before.end.ensures)
+    puts-as (not-sent _ _ c.if-n-ne0.true)
+    (joined (omega arith) (says-number c.put_number-p.ensures) c.end.ensures)
 
-end-requires-2 : tie.Need-end-requires-2
+end-requires-2 : tie.Need-end-requires-then-out-lt4
 end-requires-2 c κs = search rules
 
-same-length-2 : tie.Need-same-length-2
+same-length-2 : tie.Need-shape_of-page-then-out-lt4
 same-length-2 c = search rules
 
-returns-2 : tie.Need-returns-2
+returns-2 : tie.Need-returns-then-out-lt4
 returns-2 c =
-    puts-as (few-sent _ _ c.before.before.before.before.before.if1.false c.before.before.before.before.if2.true)
-    (joined (omega arith) (says-number c.before.before.before.before.before.before.before.before.put-number.ensures) c.before.before.end2.ensures)
+    puts-as (few-sent _ _ c.if-n-ne0.false c.if-out-lt4.true)
+    (joined (omega arith) (says-number c.put_number-p.ensures) c.end-then-out-lt4.ensures)
 
-shared-slice-copy-out-next-pair : tie.Need-shared-slice-copy-out-next-pair
+shared-slice-copy-out-next-pair : tie.Need-bounds-out-0
 shared-slice-copy-out-next-pair c = search rules
 
-shared-slice-copy-out-next-pair-2 : tie.Need-shared-slice-copy-out-next-pair-2
+shared-slice-copy-out-next-pair-2 : tie.Need-bounds-out-1
 shared-slice-copy-out-next-pair-2 c = search rules
 
-next-pair-requires : tie.Need-next-pair-requires
+next-pair-requires : tie.Need-next_pair-p-requires
 next-pair-requires c κs = search rules
 
-shared-slice-copy-out-next-pair-3 : tie.Need-shared-slice-copy-out-next-pair-3
+shared-slice-copy-out-next-pair-3 : tie.Need-bounds-out-2
 shared-slice-copy-out-next-pair-3 c = search rules
 
-shared-slice-copy-out-next-pair-4 : tie.Need-shared-slice-copy-out-next-pair-4
+shared-slice-copy-out-next-pair-4 : tie.Need-bounds-out-3
 shared-slice-copy-out-next-pair-4 c = search rules
 
-next-pair-requires-2 : tie.Need-next-pair-requires-2
-next-pair-requires-2 c κs = omega (arith, pair-near _ _ c.before.before.before.before.before.next-pair.ensures)
+next-pair-requires-2 : tie.Need-next_pair-p-requires-2
+next-pair-requires-2 c κs = omega (arith, pair-near _ _ c.next_pair-p.ensures)
 
-end-requires-3 : tie.Need-end-requires-3
+end-requires-3 : tie.Need-end-requires-2
 end-requires-3 c κs =
-    omega (arith, pair-near _ _ c.before.before.before.before.before.before.before.before.before.next-pair.ensures, pair-near _ _ c.before.before.before.next-pair2.ensures)
+    omega (arith, pair-near _ _ c.next_pair-p.ensures, pair-near _ _ c.next_pair-p-2.ensures)
 
-same-length-3 : tie.Need-same-length-3
+same-length-3 : tie.Need-shape_of-page
 same-length-3 c = search rules
 
-returns-3 : tie.Need-returns-3
+returns-3 : tie.Need-returns
 returns-3 c =
-    let second = c.before.before.before.before.before.before in
-    let first = second.before.before.before.before.before.before in
-    let number = first.before.before.before.before.before.before.before.before in
-    let start = number.before.before.before in
-    let out = start.args.out.now in
-    let near-1 = pair-near _ _ first.next-pair.ensures in
-    let near-2 = pair-near _ _ second.next-pair2.ensures in
-    puts-as (all-sent _ out first.before.before.before.before.before.if1.false first.before.before.before.before.if2.false)
+    let out = c.args.out.now in
+    let near-1 = pair-near _ _ c.next_pair-p.ensures in
+    let near-2 = pair-near _ _ c.next_pair-p-2.ensures in
+    puts-as (all-sent _ out c.if-n-ne0.false c.if-out-lt4.false)
     (joined (omega arith)
     (joined (omega arith)
-    (joined (omega (arith, number.put-number.ensures.near)) (says-number number.put-number.ensures) (says-pair (get_or out 0 (pos 0)) (get_or out 1 (pos 0))
-    (record { sfits = first.before.before.next-pair-arg2.given }) (record { sfits = first.before.next-pair-arg3.given }) first.next-pair.ensures))
-    (says-pair (get_or out 2 (pos 0)) (get_or out 3 (pos 0)) (record { sfits = second.before.before.next-pair-arg5.given })
-    (record { sfits = second.before.next-pair-arg6.given }) second.next-pair2.ensures))
-    c.before.before.end3.ensures)
+    (joined (omega (arith, c.put_number-p.ensures.near)) (says-number c.put_number-p.ensures) (says-pair (get_or out 0 (pos 0)) (get_or out 1 (pos 0))
+    (record { sfits = c.next_pair-arg-2-1.given }) (record { sfits = c.next_pair-arg-3-1.given }) c.next_pair-p.ensures))
+    (says-pair (get_or out 2 (pos 0)) (get_or out 3 (pos 0)) (record { sfits = c.next_pair-arg-5-1.given })
+    (record { sfits = c.next_pair-arg-6-1.given }) c.next_pair-p-2.ensures))
+    c.end-2.ensures)
 
-pub sent-spec : {M : Type 1} → statement M
-sent-spec =
+pub sent_spec : {M : Type 1} → statement M
+sent_spec =
     tie.close
     (tie.spec
     put-number-requires

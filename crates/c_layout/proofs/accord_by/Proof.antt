@@ -11,14 +11,14 @@ none zero u a b = absurd (a refl)
 none (suc zero) u a b = absurd (b refl)
 none (suc (suc m)) u a b = refl
 
-returns : tie.Need-returns
-returns c = let s = c.before.args in sym (ap (λ (m : ℕ). accord_by m s.u) c.if1.true)
+returns : tie.Need-returns-then-map-eq0
+returns c = let s = c.args in sym (ap (λ (m : ℕ). accord_by m s.u) c.if-map-eq0.true)
 
-returns-2 : tie.Need-returns-2
-returns-2 c = let s = c.before.before.args in sym (ap (λ (m : ℕ). accord_by m s.u) c.if2.true)
+returns-2 : tie.Need-returns-then-map-eq1
+returns-2 c = let s = c.args in sym (ap (λ (m : ℕ). accord_by m s.u) c.if-map-eq1.true)
 
-returns-3 : tie.Need-returns-3
-returns-3 c = let s = c.before.before.args in none s.map s.u c.before.if1.false c.if2.false
+returns-3 : tie.Need-returns
+returns-3 c = let s = c.args in none s.map s.u c.if-map-eq0.false c.if-map-eq1.false
 
-pub accord-by-spec : {M : Type 1} → statement M
-accord-by-spec = tie.close (tie.spec returns returns-2 returns-3)
+pub accord_by_spec : {M : Type 1} → statement M
+accord_by_spec = tie.close (tie.spec returns returns-2 returns-3)

@@ -13,25 +13,25 @@ low : (n : Map) → number_of n ≤ 1
 low Round = omega arith
 low Square = omega arith
 
-number-of-requires : tie.Need-number-of-requires
+number-of-requires : tie.Need-number_of-requires
 number-of-requires c κs = search rules
 
-small : (c : tie.After-number-of) → c.number-of.result ≤ 1
-small c = omega (arith, c.number-of.ensures, low c.before.args.k.map)
+small : (c : tie.After-number_of) → c.number_of.result ≤ 1
+small c = omega (arith, c.number_of.ensures, low c.args.k.map)
 
-mul-result : tie.Need-overflow-mul-result
+mul-result : tie.Need-overflow_mul-result
 mul-result c = omega (arith, small c)
 
-cast-result : tie.Need-overflow-cast-result
+cast-result : tie.Need-overflow_cast-result
 cast-result c = search rules
 
-add-result : tie.Need-overflow-add-result
+add-result : tie.Need-overflow_add-result
 add-result c = omega (arith, small c.before)
 
 returns : tie.Need-returns
 unfolding accord_word
-returns c = ap (λ (n : ℕ). n * 2 ^ 32 + c.before.before.args.k.u) c.before.number-of.ensures
+returns c = ap (λ (n : ℕ). n * 2 ^ 32 + c.args.k.u) c.number_of.ensures
 
-pub accord-word-spec : {M : Type 1} → statement M
-accord-word-spec =
+pub accord_word_spec : {M : Type 1} → statement M
+accord_word_spec =
     tie.close (tie.spec number-of-requires mul-result cast-result add-result returns)

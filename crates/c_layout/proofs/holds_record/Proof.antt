@@ -5,30 +5,27 @@ use borrow.Author.Rules.{rules}
 use Rattle.c_layout.proofs.holds_record.Statement.{statement}
 use Rattle.c_layout.proofs.holds_record.Tie as tie
 
-returns : tie.Need-returns
-returns c = let s = c.before.before in let ws = s.args.words.now in sym (held-short s.args.size s.args.tag ws c.if1.true)
+returns : tie.Need-returns-then-words-size
+returns c = let ws = c.args.words.now in sym (held-short c.args.size c.args.tag ws c.if-words-size.true)
 
-shared-slice-read-if2 : tie.Need-shared-slice-read-if2
+shared-slice-read-if2 : tie.Need-bounds-words-0
 shared-slice-read-if2 c = search rules
 
-returns-2 : tie.Need-returns-2
-returns-2 c = let s = c.before.before.before.before in let ws = s.args.words.now in sym (held-other s.args.size s.args.tag ws c.before.before.if1.false c.if2.true)
+returns-2 : tie.Need-returns-then-words-tag
+returns-2 c = let ws = c.args.words.now in sym (held-other c.args.size c.args.tag ws c.if-words-size.false c.if-words-tag.true)
 
-shared-slice-read-is-half : tie.Need-shared-slice-read-is-half
+shared-slice-read-is-half : tie.Need-bounds-words-2
 shared-slice-read-is-half c = search rules
 
-is-half-requires : tie.Need-is-half-requires
+is-half-requires : tie.Need-is_half-requires
 is-half-requires c κs = search rules
 
-returns-3 : tie.Need-returns-3
+returns-3 : tie.Need-returns
 returns-3 c =
-    let e = c.before.before in
-    let f = e.before.before in
-    let s = f.before.before in
-    c.is-half.ensures ∙ sym (held_by s.args.size s.args.tag s.args.words.now f.if1.false e.if2.false)
+    c.is_half.ensures ∙ sym (held_by c.args.size c.args.tag c.args.words.now c.if-words-size.false c.if-words-tag.false)
 
-pub holds-record-spec : {M : Type 1} → statement M
-holds-record-spec =
+pub holds_record_spec : {M : Type 1} → statement M
+holds_record_spec =
     tie.close
     (tie.spec
     returns

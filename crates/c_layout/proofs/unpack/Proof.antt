@@ -12,55 +12,53 @@ use Rattle.c_layout.specs.Halves.{half_at, unpacked}
 use Rattle.c_layout.proofs.unpack.Statement.{statement}
 use Rattle.c_layout.proofs.unpack.Tie as tie
 
-abbrev invariant-loop : tie.invariant-loop
-invariant-loop words all₀ j₀ all j = (j ≤ 16) × (length all₀ ≡ 16) × (all ≡ tabled (half_at words) j ++ drop j all₀)
+abbrev invariant-loop-j : tie.invariant-loop-j
+invariant-loop-j words all₀ j₀ all j = (j ≤ 16) × (length all₀ ≡ 16) × (all ≡ tabled (half_at words) j ++ drop j all₀)
 
-abbrev decreases-loop : tie.decreases-loop
-decreases-loop words all₀ j₀ all j = 16 - j
+abbrev decreases-loop-j : tie.decreases-loop-j
+decreases-loop-j words all₀ j₀ all j = 16 - j
 
-loop-holds : tie.Need-loop-init invariant-loop decreases-loop
+loop-holds : tie.Need-loop-j-init invariant-loop-j decreases-loop-j
 unfolding tabled
 loop-holds c = (omega arith, refl, refl)
 
-mul-half-of : tie.Need-overflow-mul-half-of invariant-loop decreases-loop
+mul-half-of : tie.Need-offset_bounds-words-j invariant-loop-j decreases-loop-j
 mul-half-of c = omega arith
 
-array-read-half-of : tie.Need-array-read-half-of invariant-loop decreases-loop
+array-read-half-of : tie.Need-bounds-words-j invariant-loop-j decreases-loop-j
 array-read-half-of c = omega arith
 
-half-of-requires : tie.Need-half-of-requires invariant-loop decreases-loop
+half-of-requires : tie.Need-half_of-requires invariant-loop-j decreases-loop-j
 half-of-requires c κs = search rules
 
-mul-all : tie.Need-overflow-mul-all invariant-loop decreases-loop
+mul-all : tie.Need-offset_bounds-all-j invariant-loop-j decreases-loop-j
 mul-all c = omega arith
 
-array-write-all : tie.Need-array-write-all invariant-loop decreases-loop
+array-write-all : tie.Need-bounds-all-j invariant-loop-j decreases-loop-j
 array-write-all c = omega arith
 
-add-j : tie.Need-overflow-add-j invariant-loop decreases-loop
+add-j : tie.Need-overflow_add-j invariant-loop-j decreases-loop-j
 add-j c = omega arith
 
-loop-less : tie.Need-loop-smaller invariant-loop decreases-loop
+loop-less : tie.Need-loop-j-smaller invariant-loop-j decreases-loop-j
 loop-less c = omega arith
 
-loop-again : tie.Need-loop-preserved invariant-loop decreases-loop
+loop-again : tie.Need-loop-j-preserved invariant-loop-j decreases-loop-j
 loop-again c =
-    let at = c.before.before in
-    (omega arith, at.loop.invariant.1, rw (at.loop.invariant.2, c.half_of_lem.ensures, add-one at.loop.j) (tabled-more (half_at at.before.args.t1) at.loop.j _ (omega arith)))
+    (omega arith, c.loop-j.invariant.1, rw (c.loop-j.invariant.2, c.half_of.ensures, add-one c.loop-j.j) (tabled-more (half_at c.args.words) c.loop-j.j _ (omega arith)))
 
-returns : tie.Need-returns invariant-loop decreases-loop
+returns : tie.Need-returns invariant-loop-j decreases-loop-j
 unfolding tabled unpacked
 returns c =
-    let at = c.before in
-    let end : at.loop.j ≡ 16 = omega arith in
-    at.loop.invariant.2 ∙ rw end
+    let end : c.loop-j.j ≡ 16 = omega arith in
+    c.loop-j.invariant.2 ∙ rw end
 
-pub unpack-spec : {M : Type 1} → statement M
-unpack-spec =
+pub unpack_spec : {M : Type 1} → statement M
+unpack_spec =
     tie.close
     (tie.spec
-    invariant-loop
-    decreases-loop
+    invariant-loop-j
+    decreases-loop-j
     loop-holds
     mul-half-of
     array-read-half-of

@@ -7,13 +7,13 @@ use borrow.Author.Rules.{rules}
 use Rattle.c_replay.proofs.end.Statement.{statement}
 use Rattle.c_replay.proofs.end.Tie as tie
 
-abbrev to_start : tie.After-is-short → tie.Start
+abbrev to_start : tie.After-is_short-short → tie.Start
 to_start c = c.before.before.before.before
 
-abbrev to-closed : tie.After-tell-arg2 → tie.After-closed
+abbrev to-closed : tie.After-tell-arg-2-1 → tie.After-closed
 to-closed c = c.before.before.before.before
 
-is-short-requires : tie.Need-is-short-requires
+is-short-requires : tie.Need-is_short-short-requires
 is-short-requires c κs = search rules
 
 closed-requires : tie.Need-closed-requires
@@ -24,28 +24,27 @@ tell-requires c κs =
     let h = to-closed c in
     let i = h.before.before in
     let s = to_start i in
-    h.closed.ensures.room (length s.args.line.now) (length s.args.told.now) (sym i.is-short.ensures)
+    h.closed.ensures.room (length s.args.line.now) (length s.args.told.now) (sym i.is_short-short.ensures)
 
-same_length : tie.Need-same-length
+same_length : tie.Need-shape_of-state
 same_length c = search rules
 
-same-length-2 : tie.Need-same-length-2
+same-length-2 : tie.Need-shape_of-line
 same-length-2 c = search rules
 
-same-length-3 : tie.Need-same-length-3
+same-length-3 : tie.Need-shape_of-told
 same-length-3 c = search rules
 
 returns : tie.Need-returns
 returns c =
-    let t = c.before.before.before.before in
-    let h = to-closed t.before in
+    let h = to-closed c.before.before.before.before.before in
     let i = h.before.before in
     let s = to_start i in
-    told-ends (end_call s.args.state.now) i.is-short.result h.closed.result h.closed.last.0 s.args.line.now s.args.told.now
-    h.closed.ensures i.is-short.ensures t.tell.ensures
+    told-ends (end_call s.args.state.now) i.is_short-short.result h.closed.result h.closed.last.0 s.args.line.now s.args.told.now
+    h.closed.ensures i.is_short-short.ensures c.tell.ensures
 
-pub end-spec : {M : Type 1} → statement M
-end-spec =
+pub end_spec : {M : Type 1} → statement M
+end_spec =
     tie.close
     (tie.spec
     is-short-requires

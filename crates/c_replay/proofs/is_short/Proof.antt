@@ -4,11 +4,11 @@ use Rattle.c_replay.proofs.Cases.{short-told, short-line}
 use Rattle.c_replay.proofs.is_short.Statement.{statement}
 use Rattle.c_replay.proofs.is_short.Tie as tie
 
-returns : tie.Need-returns
-returns c = short-told c.before.args.line c.before.args.told c.if1.true
+returns : tie.Need-returns-then-told-lt1
+returns c = short-told c.args.line c.args.told c.if-told-lt1.true
 
-returns-2 : tie.Need-returns-2
-returns-2 c = short-line c.before.args.line c.before.args.told _ c.if1.false refl
+returns-2 : tie.Need-returns
+returns-2 c = short-line c.args.line c.args.told _ c.if-told-lt1.false refl
 
-pub is-short-spec : {M : Type 1} → statement M
-is-short-spec = tie.close (tie.spec returns returns-2)
+pub is_short_spec : {M : Type 1} → statement M
+is_short_spec = tie.close (tie.spec returns returns-2)

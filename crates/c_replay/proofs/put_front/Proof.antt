@@ -13,23 +13,23 @@ whole s = search rules
 sized : (s : tie.Start) → length (take s.args.size s.args.t1) ≡ s.args.size
 sized s = length-take-le s.args.size s.args.t1 (omega (arith, whole s, s.requires.0))
 
-array-share-prefix-text : tie.Need-array-share-prefix-text
+array-share-prefix-text : tie.Need-slice_bounds-text-end
 array-share-prefix-text c = search rules
 
-slice-aggregate-put-text : tie.Need-slice-aggregate-put-text
+slice-aggregate-put-text : tie.Need-slice_bounds-put_text-end
 slice-aggregate-put-text c = sym (sized c.before.before.before)
 
-put-text-requires : tie.Need-put-text-requires
-put-text-requires c κs = omega (arith, sized c.before.before.before, c.before.before.before.requires.0, c.before.before.before.requires.1)
+put-text-requires : tie.Need-put_text-requires
+put-text-requires c κs = omega (arith, sized c.before.before.before, c.requires.0, c.requires.1)
 
-same_length : tie.Need-same-length
+same_length : tie.Need-shape_of-line
 same_length c = search rules
 
 returns : tie.Need-returns
 returns c = search rules
 
-pub put-front-spec : {M : Type 1} → statement M
-put-front-spec =
+pub put_front_spec : {M : Type 1} → statement M
+put_front_spec =
     tie.close
     (tie.spec
     array-share-prefix-text

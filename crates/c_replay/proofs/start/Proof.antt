@@ -4,8 +4,8 @@ use borrow.Author.Rules.{rules}
 use Rattle.c_replay.proofs.start.Statement.{statement}
 use Rattle.c_replay.proofs.start.Tie as tie
 
-returns : tie.Need-returns
-returns c = start-short c.before.before.args.state.now c.if1.true
+returns : tie.Need-returns-then-state-lt-WORDS
+returns c = start-short c.args.state.now c.if-state-lt-WORDS.true
 
 start-requires : tie.Need-start-requires
 start-requires c κs = search rules
@@ -13,13 +13,12 @@ start-requires c κs = search rules
 store-requires : tie.Need-store-requires
 store-requires c κs = search rules
 
-same_length : tie.Need-same-length
+same_length : tie.Need-shape_of-state
 same_length c = search rules
 
-returns-2 : tie.Need-returns-2
+returns-2 : tie.Need-returns
 returns-2 c =
-    let e = c.before.before.before.before.before in
-    start-done e.before.before.args.state.now _ e.if1.false c.before.before.before.before.start.ensures c.before.before.store.ensures
+    start-done c.args.state.now _ c.if-state-lt-WORDS.false c.start.ensures c.store.ensures
 
 pub start_spec : {M : Type 1} → statement M
 start_spec = tie.close (tie.spec returns start-requires store-requires same_length returns-2)

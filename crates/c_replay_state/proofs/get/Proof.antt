@@ -7,31 +7,30 @@ use borrow.Author.Rules.{rules}
 use Rattle.c_replay_state.proofs.get.Statement.{statement}
 use Rattle.c_replay_state.proofs.get.Tie as tie
 
-add-end : tie.Need-overflow-add-end
+add-end : tie.Need-overflow_add-end
 add-end c = search rules
 
-mul-copy : tie.Need-overflow-mul-copy
+mul-copy : tie.Need-offset_bounds-words-at
 mul-copy c = search rules
 
-sub-copy : tie.Need-overflow-sub-copy
+sub-copy : tie.Need-slice_bounds-copy-count
 sub-copy c = search rules
 
-part-copy-start : tie.Need-slice-bounds-copy-start
+part-copy-start : tie.Need-slice_bounds-copy-start
 part-copy-start c = search rules
 
-part-copy-end : tie.Need-slice-bounds-copy-end
+part-copy-end : tie.Need-slice_bounds-copy-end
 part-copy-end c = search rules
 
 copy-requires : tie.Need-copy-requires
 copy-requires c κs = search rules
 
-same_length : tie.Need-same-length
+same_length : tie.Need-shape_of-to
 same_length c = search rules
 
 returns : tie.Need-returns
 returns c =
-    let s = c.before.before.before.before.before.before.before in
-    got s.args.words.now s.args.to.now s.args.at (s.args.at + length s.args.to.now) refl s.requires c.before.before.copy.ensures
+    got c.args.words.now c.args.to.now c.args.at (c.args.at + length c.args.to.now) refl c.requires c.copy.ensures
 
 pub get_spec : {M : Type 1} → statement M
 get_spec =

@@ -22,57 +22,54 @@ known s = holding s.args.words.now s.requires
 all-due : (s : tie.Start) → length (due_in s.args.words.now) ≡ 65
 all-due s = length-take-le 65 (drop 157 s.args.words.now) (rw length-drop (omega (arith, known s)))
 
-slice-aggregate-get : tie.Need-slice-aggregate-get
+slice-aggregate-get : tie.Need-slice_bounds-get-end
 slice-aggregate-get c = search rules
 
 get-requires : tie.Need-get-requires
 get-requires c κs = omega (arith, known c.before.before)
 
-slice-aggregate-get-2 : tie.Need-slice-aggregate-get-2
+slice-aggregate-get-2 : tie.Need-slice_bounds-get-end-2
 slice-aggregate-get-2 c = search rules
 
 get-requires-2 : tie.Need-get-requires-2
 get-requires-2 c κs = omega (arith, known c.before.before.before.before.before)
 
-slice-aggregate-get-3 : tie.Need-slice-aggregate-get-3
+slice-aggregate-get-3 : tie.Need-slice_bounds-get-end-3
 slice-aggregate-get-3 c = search rules
 
 get-requires-3 : tie.Need-get-requires-3
 get-requires-3 c κs = omega (arith, known c.before.before.before.before.before.before.before.before)
 
-slice-aggregate-get-4 : tie.Need-slice-aggregate-get-4
+slice-aggregate-get-4 : tie.Need-slice_bounds-get-end-4
 slice-aggregate-get-4 c = search rules
 
 get-requires-4 : tie.Need-get-requires-4
 get-requires-4 c κs = omega (arith, known c.before.before.before.before.before.before.before.before.before.before.before)
 
-sub_narrow : tie.Need-overflow-sub-narrow
+sub_narrow : tie.Need-slice_bounds-narrow-count
 sub_narrow c = search rules
 
-part-narrow-start : tie.Need-slice-bounds-narrow-start
+part-narrow-start : tie.Need-slice_bounds-narrow-start
 part-narrow-start c = search rules
 
-part-narrow-end : tie.Need-slice-bounds-narrow-end
+part-narrow-end : tie.Need-slice_bounds-narrow-end
 part-narrow-end c = omega (arith, known c.before.before.before.before.before.before.before.before.before.before.before.before.before)
 
-slice-aggregate-narrow : tie.Need-slice-aggregate-narrow
+slice-aggregate-narrow : tie.Need-slice_bounds-narrow-end-2
 slice-aggregate-narrow c = search rules
 
 narrow-requires : tie.Need-narrow-requires
 narrow-requires c κs =
-    let s = c.before.before.before.before.before.before.before.before.before.before.before.before.before.before.before in
-    let n = all-due s in
-    (all_small 65 (due_in s.args.words.now) (omega arith) (known s).due, omega arith)
+    let n = all-due c.before.before.before.before.before.before.before.before.before.before.before.before.before.before.before in
+    (all_small 65 (due_in c.args.words.now) (omega arith) (known c.before.before.before.before.before.before.before.before.before.before.before.before.before.before.before).due, omega arith)
 
-frame-of-requires : tie.Need-frame-of-requires
+frame-of-requires : tie.Need-frame_of-requires
 frame-of-requires c κs =
-    let g = c.before.before.before.before.before.before.before.before.before.before.before.before.before.before in
-    ap (λ (l : List ℕ). within limits l) g.get.ensures ∙ (known g.before.before.before).numbers
+    ap (λ (l : List ℕ). within limits l) c.get.ensures ∙ (known c.before.before.before.before.before.before.before.before.before.before.before.before.before.before.before.before.before).numbers
 
-judge-of-requires : tie.Need-judge-of-requires
+judge-of-requires : tie.Need-judge_of-requires
 judge-of-requires c κs =
-    let g = c.before.before.before.before.before.before.before.before.before.before.before.before.before.before.before in
-    ap (λ (l : List ℕ). within limits l) g.get.ensures ∙ (known g.before.before.before).numbers
+    ap (λ (l : List ℕ). within limits l) c.get.ensures ∙ (known c.before.before.before.before.before.before.before.before.before.before.before.before.before.before.before.before.before.before).numbers
 
 unpack-requires : tie.Need-unpack-requires
 unpack-requires c κs = search rules
@@ -80,17 +77,12 @@ unpack-requires c κs = search rules
 returns : tie.Need-returns
 unfolding course_in
 returns c =
-    let picks = c.before.before.before.before.before.before.before.before in
-    let registers = picks.before.before.before in
-    let halves = registers.before.before.before in
-    let numbers = halves.before.before.before in
-    let s = numbers.before.before.before in
-    let ns = numbers.get.ensures in
-    let frame = c.before.before.frame-of.ensures ∙ ap frame_in ns in
-    let judge = c.before.judge-of.ensures ∙ ap judge_in ns in
-    let sums = c.unpack.ensures ∙ ap unpacked halves.get2.ensures in
-    let due = filled (due_in s.args.words.now) _ (all-due s) c.before.before.before.before.narrow.ensures in
-    λ i. course_of (frame i) (judge i) (sums i) (registers.get3.ensures i) (picks.get4.ensures i) (due i)
+    let ns = c.get.ensures in
+    let frame = c.frame_of.ensures ∙ ap frame_in ns in
+    let judge = c.judge_of.ensures ∙ ap judge_in ns in
+    let sums = c.unpack.ensures ∙ ap unpacked c.get-2.ensures in
+    let due = filled (due_in c.args.words.now) _ (all-due c.before.before.before.before.before.before.before.before.before.before.before.before.before.before.before.before.before.before.before.before) c.narrow.ensures in
+    λ i. course_of (frame i) (judge i) (sums i) (c.get-3.ensures i) (c.get-4.ensures i) (due i)
 
 pub load_spec : {M : Type 1} → statement M
 load_spec =

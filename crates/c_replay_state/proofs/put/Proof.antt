@@ -5,29 +5,28 @@ use borrow.Author.Rules.{rules}
 use Rattle.c_replay_state.proofs.put.Statement.{statement}
 use Rattle.c_replay_state.proofs.put.Tie as tie
 
-mul-copy : tie.Need-overflow-mul-copy
+mul-copy : tie.Need-offset_bounds-words-at
 mul-copy c = search rules
 
-sub-copy : tie.Need-overflow-sub-copy
+sub-copy : tie.Need-slice_bounds-copy-count
 sub-copy c = search rules
 
-part-copy-start : tie.Need-slice-bounds-copy-start
+part-copy-start : tie.Need-slice_bounds-copy-start
 part-copy-start c = search rules
 
-part-copy-end : tie.Need-slice-bounds-copy-end
+part-copy-end : tie.Need-slice_bounds-copy-end
 part-copy-end c = search rules
 
 copy-requires : tie.Need-copy-requires
 copy-requires c κs = search rules
 
-same_length : tie.Need-same-length
+same_length : tie.Need-shape_of-words
 same_length c = search rules
 
 returns : tie.Need-returns
 returns c =
-    let s = c.before.before.before.before.before.before in
-    let l = s.args.words.now in
-    let is = put_back l s.args.from.now s.args.at (omega (arith, s.requires)) c.before.before.copy.ensures in
+    let l = c.args.words.now in
+    let is = put_back l c.args.from.now c.args.at (omega (arith, c.requires)) c.copy.ensures in
     record { is = is; same = same_length c }
 
 pub put_spec : {M : Type 1} → statement M

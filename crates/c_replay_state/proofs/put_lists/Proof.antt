@@ -14,55 +14,50 @@ use Rattle.c_replay_state.proofs.put_lists.Tie as tie
 sized : (s : tie.Start) → (length s.args.sums ≡ 16) × (length s.args.t2 ≡ 48) × (length s.args.t3 ≡ 72)
 sized s = (search rules, search rules, search rules)
 
-pack-requires : tie.Need-pack-requires
+pack-requires : tie.Need-pack-halves-requires
 pack-requires c κs = search rules
 
 -- eight words
-words-many : (p : tie.After-pack) → length p.pack.result ≡ 8
-words-many p = ap length p.pack.ensures.0 ∙ packed-length p.before.before.args.sums
+words-many : (p : tie.After-pack-halves) → length p.pack-halves.result ≡ 8
+words-many p = ap length p.pack-halves.ensures.0 ∙ packed-length p.args.sums
 
-slice-aggregate-put : tie.Need-slice-aggregate-put
+slice-aggregate-put : tie.Need-slice_bounds-put-end
 slice-aggregate-put c = search rules
 
 put-requires : tie.Need-put-requires
 put-requires c κs = search rules
 
-slice-aggregate-put-2 : tie.Need-slice-aggregate-put-2
+slice-aggregate-put-2 : tie.Need-slice_bounds-put-end-2
 slice-aggregate-put-2 c = search rules
 
 put-requires-2 : tie.Need-put-requires-2
 put-requires-2 c κs = search rules
 
-slice-aggregate-put-3 : tie.Need-slice-aggregate-put-3
+slice-aggregate-put-3 : tie.Need-slice_bounds-put-end-3
 slice-aggregate-put-3 c = search rules
 
 put-requires-3 : tie.Need-put-requires-3
 put-requires-3 c κs = search rules
 
-same_length : tie.Need-same-length
+same_length : tie.Need-shape_of-words
 same_length c = search rules
 
 returns : tie.Need-returns
 returns c =
-    let third = c.before.before in
-    let second = third.before.before.before.before.before in
-    let first = second.before.before.before.before.before in
-    let p = first.before.before.before in
-    let s = p.before.before in
-    let l = s.args.words.now in
-    let (a, b, d) = sized s in
-    let put = lists-put l p.pack.result s.args.t2 s.args.t3 (omega (arith, s.requires)) (words-many p) b d first.put.ensures.is second.put2.ensures.is third.put3.ensures.is in
+    let l = c.args.words.now in
+    let (a, b, d) = sized c.before.before.before.before.before.before.before.before.before.before.before.before.before.before.before.before.before in
+    let put = lists-put l c.pack-halves.result c.args.t2 c.args.t3 (omega (arith, c.requires)) (words-many c.before.before.before.before.before.before.before.before.before.before.before.before.before.before.before) b d c.put.ensures.is c.put-2.ensures.is c.put-3.ensures.is in
     record {
-      is = put ∙ ap (λ (m : List ℕ). take sums_at l ++ (m ++ (s.args.t2 ++ (s.args.t3 ++ drop due_at l)))) p.pack.ensures.0;
+      is = put ∙ ap (λ (m : List ℕ). take sums_at l ++ (m ++ (c.args.t2 ++ (c.args.t3 ++ drop due_at l)))) c.pack-halves.ensures.0;
       same = same_length c;
       sums-fit = a;
-      sums-small = p.pack.ensures.1;
+      sums-small = c.pack-halves.ensures.1;
       registers-fit = b;
       picks-fit = d;
     }
 
-pub put-lists-spec : {M : Type 1} → statement M
-put-lists-spec =
+pub put_lists_spec : {M : Type 1} → statement M
+put_lists_spec =
     tie.close
     (tie.spec
     pack-requires

@@ -14,57 +14,56 @@ use Rattle.c_states.specs.State.{receiver_in}
 use Rattle.c_states.proofs.load_receiver.Statement.{statement}
 use Rattle.c_states.proofs.load_receiver.Tie as tie
 
-yes : (c : tie.Else1) → holds receiver_length receiver_tag c.before.before.before.args.words.now ≡ true
-yes c = sym c.before.holds-receiver.ensures ∙ not-false c.before.holds-receiver.result c.if1.false
+yes : (c : tie.Else-not-holds_receiver) → holds receiver_length receiver_tag c.args.words.now ≡ true
+yes c = sym c.holds_receiver.ensures ∙ c.if-not-holds_receiver.false
 
-known : (c : tie.Else1) → Held receiver_length receiver_tag c.before.before.before.args.words.now
-known c = held receiver_length receiver_tag c.before.before.before.args.words.now (yes c)
+known : (c : tie.Else-not-holds_receiver) → Held receiver_length receiver_tag c.args.words.now
+known c = held receiver_length receiver_tag c.args.words.now (yes c)
 
-holds-receiver-requires : tie.Need-holds-receiver-requires
+holds-receiver-requires : tie.Need-holds_receiver-requires
 holds-receiver-requires c κs = search rules
 
-closed-receiver-requires : tie.Need-closed-receiver-requires
+closed-receiver-requires : tie.Need-closed_receiver-requires
 closed-receiver-requires c κs = search rules
 
-returns : tie.Need-returns
+returns : tie.Need-returns-then-not-holds_receiver
 unfolding receiver_in
-returns c = rw (sym c.before.before.holds-receiver.ensures ∙ not-true c.before.before.holds-receiver.result c.before.if1.true) c.closed-receiver.ensures
+returns c = rw (sym c.holds_receiver.ensures ∙ c.if-not-holds_receiver.true) c.closed_receiver.ensures
 
-load-front-requires : tie.Need-load-front-requires
+load-front-requires : tie.Need-load_front-copied-requires
 load-front-requires c κs = yes c
 
-sub-copy : tie.Need-overflow-sub-copy
+sub-copy : tie.Need-slice_bounds-copy-count
 sub-copy c = search rules
 
-part-copy-start : tie.Need-slice-bounds-copy-start
+part-copy-start : tie.Need-slice_bounds-copy-start
 part-copy-start c = search rules
 
-part-copy-end : tie.Need-slice-bounds-copy-end
+part-copy-end : tie.Need-slice_bounds-copy-end
 part-copy-end c = let h = known c.before.before.before.before in omega arith
 
-sub-copy-2 : tie.Need-overflow-sub-copy-2
+sub-copy-2 : tie.Need-slice_bounds-copy-count-2
 sub-copy-2 c = search rules
 
-part-picks-start : tie.Need-slice-bounds-picks-start
+part-picks-start : tie.Need-slice_bounds-picks-start
 part-picks-start c = search rules
 
-part-picks-end : tie.Need-slice-bounds-picks-end
+part-picks-end : tie.Need-slice_bounds-picks-end
 part-picks-end c = search rules
 
 copy-requires : tie.Need-copy-requires
 copy-requires c κs = search rules
 
-returns-2 : tie.Need-returns-2
+returns-2 : tie.Need-returns
 unfolding receiver_in
 returns-2 c =
-    let e = c.before.before.before.before.before.before.before.before in
-    let front = c.before.before.before.before.before.before.before.load-front.ensures in
-    let h = known e in
-    let k = part-loaded e.before.before.before.args.words.now _ _ 62 72 (omega arith) (length-replicate {A = ℕ} 72 0) c.before.copy.ensures in
-    rw (yes e) (λ i. record { live = true; core = (front i).core; sums = (front i).sums; registers = (front i).registers; picks = k i })
+    let front = c.load_front-copied.ensures in
+    let h = known c.before.before.before.before.before.before.before.before in
+    let k = part-loaded c.args.words.now _ _ 62 72 (omega arith) (length-replicate {A = ℕ} 72 0) c.copy.ensures in
+    rw (yes c.before.before.before.before.before.before.before.before) (λ i. record { live = true; core = (front i).core; sums = (front i).sums; registers = (front i).registers; picks = k i })
 
-pub load-receiver-spec : {M : Type 1} → statement M
-load-receiver-spec =
+pub load_receiver_spec : {M : Type 1} → statement M
+load_receiver_spec =
     tie.close
     (tie.spec
     holds-receiver-requires

@@ -16,86 +16,83 @@ use Rattle.c_states.proofs.store_front.Tie as tie
 sized : (s : tie.Start) → (length s.args.sums ≡ 16) × (length s.args.t4 ≡ 48)
 sized s = (search rules, search rules)
 
-store-core-requires : tie.Need-store-core-requires
+store-core-requires : tie.Need-store_core-requires
 store-core-requires c κs = search rules
 
-pack-requires : tie.Need-pack-requires
+pack-requires : tie.Need-pack-halves-requires
 pack-requires c κs = search rules
 
-sub-copy : tie.Need-overflow-sub-copy
+sub-copy : tie.Need-slice_bounds-copy-count
 sub-copy c = search rules
 
-part-copy-start : tie.Need-slice-bounds-copy-start
+part-copy-start : tie.Need-slice_bounds-copy-start
 part-copy-start c = search rules
 
-part-copy-end : tie.Need-slice-bounds-copy-end
+part-copy-end : tie.Need-slice_bounds-copy-end
 part-copy-end c = search rules
 
-sub-copy-2 : tie.Need-overflow-sub-copy-2
+sub-copy-2 : tie.Need-slice_bounds-copy-count-2
 sub-copy-2 c = search rules
 
-part-copy-start-2 : tie.Need-slice-bounds-copy-start-2
+part-copy-start-2 : tie.Need-slice_bounds-copy-start-2
 part-copy-start-2 c = search rules
 
-part-copy-end-2 : tie.Need-slice-bounds-copy-end-2
+part-copy-end-2 : tie.Need-slice_bounds-copy-end-2
 part-copy-end-2 c = search rules
 
 copy-requires : tie.Need-copy-requires
 copy-requires c κs = search rules
 
-sub-copy-3 : tie.Need-overflow-sub-copy-3
+sub-copy-3 : tie.Need-slice_bounds-copy-count-3
 sub-copy-3 c = search rules
 
-part-copy-start-3 : tie.Need-slice-bounds-copy-start-3
+part-copy-start-3 : tie.Need-slice_bounds-copy-start-3
 part-copy-start-3 c = search rules
 
-part-copy-end-3 : tie.Need-slice-bounds-copy-end-3
+part-copy-end-3 : tie.Need-slice_bounds-copy-end-3
 part-copy-end-3 c = search rules
 
-sub-copy-4 : tie.Need-overflow-sub-copy-4
+sub-copy-4 : tie.Need-slice_bounds-copy-count-4
 sub-copy-4 c = search rules
 
-part-copy-start-4 : tie.Need-slice-bounds-copy-start-4
+part-copy-start-4 : tie.Need-slice_bounds-copy-start-4
 part-copy-start-4 c = search rules
 
-part-copy-end-4 : tie.Need-slice-bounds-copy-end-4
+part-copy-end-4 : tie.Need-slice_bounds-copy-end-4
 part-copy-end-4 c = search rules
 
 copy-requires-2 : tie.Need-copy-requires-2
 copy-requires-2 c κs = search rules
 
-same_length : tie.Need-same-length
+same_length : tie.Need-shape_of-words
 same_length c = search rules
 
 returns : tie.Need-returns
 returns c =
-    let first = c.before.before.before.before.before.before.before.before in
-    let p = first.before.before.before.before in
-    let core = p.before.before.before.store-core.ensures in
-    let s = p.before.before.before.before.before.before in
-    let a = s.args in
+    let core = c.store_core.ensures in
+    let a = c.args in
     let l = a.words.now in
-    let (n₁, n₂) = sized s in
+    let (n₁, n₂) = sized c.before.before.before.before.before.before.before.before.before.before.before.before.before.before.before.before in
     let head = words_of_core a.live a.c in
     let halves = packed a.sums in
     let two = head ++ halves in
     let n₀ = packed-length a.sums in
     let m₂ : length two ≡ 14 = rw length-append (omega arith) in
-    let is = p.pack.ensures.0 in
-    let e₁ = take_all 8 p.pack.result (omega (arith, ap length is)) ∙ is in
-    let e₂ = placed l head 6 refl core.words halves 8 (all-copied halves _ _ 8 e₁ n₀ first.copy.ensures) in
-    let e₃ = placed l two 14 m₂ e₂ a.t4 48 (all-copied a.t4 _ _ 48 (take_all 48 a.t4 (omega arith)) n₂ c.before.before.copy2.ensures) in
+    let is = c.pack-halves.ensures.0 in
+    let e₁ = take_all 8 c.pack-halves.result (omega (arith, ap length is)) ∙ is in
+    let e₂ = placed l head 6 refl core.words halves 8 (all-copied halves _ _ 8 e₁ n₀ c.copy.ensures) in
+    let e₃ = placed l two 14 m₂ e₂ a.t4 48 (all-copied a.t4 _ _ 48 (take_all 48 a.t4 (omega arith)) n₂ c.copy-2.ensures) in
     record {
       words = e₃ ∙ ap (λ (m : List ℕ). m ++ drop 62 l) (append_assoc head halves a.t4);
       u-fits = core.u-fits;
       turn-fits = core.turn-fits;
       sums-fit = n₁;
-      sums-small = p.pack.ensures.1;
+      sums-small = c.pack-halves.ensures.1;
       registers-fit = n₂;
     }
 
-pub store-front-spec : {M : Type 1} → statement M
-store-front-spec =
+pub store_front_spec : {M : Type 1} → statement M
+store_front_spec =
     tie.close
     (tie.spec
     store-core-requires

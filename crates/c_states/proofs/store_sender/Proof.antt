@@ -8,42 +8,41 @@ use borrow.Author.Rules.{rules}
 use Rattle.c_states.proofs.store_sender.Statement.{statement}
 use Rattle.c_states.proofs.store_sender.Tie as tie
 
-tag-of-requires : tie.Need-tag-of-requires
+tag-of-requires : tie.Need-tag_of-requires
 tag-of-requires c κs = search rules
 
-slice-write-words : tie.Need-slice-write-words
+slice-write-words : tie.Need-bounds-words-0
 slice-write-words c = search rules
 
-accord-word-requires : tie.Need-accord-word-requires
+accord-word-requires : tie.Need-accord_word-requires
 accord-word-requires c κs = search rules
 
-slice-write-words-2 : tie.Need-slice-write-words-2
+slice-write-words-2 : tie.Need-bounds-words-1
 slice-write-words-2 c = simp length-set (omega arith)
 
-cast-words : tie.Need-overflow-cast-words
+cast-words : tie.Need-overflow_cast-words
 cast-words c = search rules
 
-slice-write-words-3 : tie.Need-slice-write-words-3
+slice-write-words-3 : tie.Need-bounds-words-2
 slice-write-words-3 c = simp length-set (omega arith)
 
-cast-words-2 : tie.Need-overflow-cast-words-2
+cast-words-2 : tie.Need-overflow_cast-words-2
 cast-words-2 c = search rules
 
-slice-write-words-4 : tie.Need-slice-write-words-4
+slice-write-words-4 : tie.Need-bounds-words-3
 slice-write-words-4 c = simp length-set (omega arith)
 
-same_length : tie.Need-same-length
+same_length : tie.Need-shape_of-words
 same_length c = search rules
 
 returns : tie.Need-returns
 unfolding words_of_sender
 returns c =
-    let s = c.before.before.before.before.before.before in
-    sender-stored s.args.s s.args.words.now (record { u = search rules; turn = search rules; state = search rules })
-    (rw (c.before.before.before.before.tag_of.ensures, c.before.before.accord-word.ensures) (stored (words_of_sender s.args.s) s.args.words.now s.requires))
+    sender-stored c.args.s c.args.words.now (record { u = search rules; turn = search rules; state = search rules })
+    (rw (c.tag_of.ensures, c.accord_word.ensures) (stored (words_of_sender c.args.s) c.args.words.now c.requires))
 
-pub store-sender-spec : {M : Type 1} → statement M
-store-sender-spec =
+pub store_sender_spec : {M : Type 1} → statement M
+store_sender_spec =
     tie.close
     (tie.spec
     tag-of-requires

@@ -16,59 +16,52 @@ use Rattle.card.proofs.check.Tie as tie
 abbrev card : tie.Start → Card
 card s = let a = s.args in card_of a.coordinates.now a.states.now a.symbols.now a.numbers.now
 
-lengths-fit-requires : tie.Need-lengths-fit-requires
+lengths-fit-requires : tie.Need-lengths_fit-requires
 lengths-fit-requires c κs = search rules
 
-returns : tie.Need-returns
+returns : tie.Need-returns-then-not-lengths_fit
 unfolding accepts
 returns c =
-    let s = c.before.before.before.before.before in
-    checks s.args.k (card s) false (rw (sym c.before.lengths-fit.ensures ∙ not-true _ c.if1.true))
+    checks c.args.k (card c.before.before.before.before.before) false (rw (sym c.lengths_fit.ensures ∙ c.if-not-lengths_fit.true))
 
 -- the lists have their lengths
-module _ (e : tie.Else1) where
+module _ (e : tie.Else-not-lengths_fit) where
   abbrev s₁ : tie.Start
   s₁ = e.before.before.before.before.before
 
   long : fits (card s₁) ≡ true
-  long = sym e.before.lengths-fit.ensures ∙ not-false _ e.if1.left
+  long = sym e.lengths_fit.ensures ∙ not-false _ e.if-not-lengths_fit.left
 
-is-accord-requires : tie.Need-is-accord-requires
+is-accord-requires : tie.Need-is_accord-requires
 is-accord-requires c κs = search rules
 
-returns-2 : tie.Need-returns-2
+returns-2 : tie.Need-returns-then-not-is_accord
 unfolding accepts
 returns-2 c =
-    let e = c.before.before in
-    checks (s₁ e).args.k (card (s₁ e)) false (rw (long e, sym c.before.is-accord.ensures ∙ not-true _ c.if2.true))
+    checks (s₁ c.before.before).args.k (card (s₁ c.before.before)) false (rw (long c.before.before, sym c.is_accord.ensures ∙ c.if-not-is_accord.true))
 
-agreed : (e : tie.Else2) → is_accord (s₁ e.before.before).args.k ≡ true
-agreed e = sym e.before.is-accord.ensures ∙ not-false _ e.if2.false
+agreed : (e : tie.Else-not-is_accord) → is_accord (s₁ e.before.before).args.k ≡ true
+agreed e = sym e.is_accord.ensures ∙ e.if-not-is_accord.false
 
-starts-at-zero-requires : tie.Need-starts-at-zero-requires
+starts-at-zero-requires : tie.Need-starts_at_zero-requires
 starts-at-zero-requires c κs = omega (arith, (long-is _ _ _ _ _ (long c.before.before)).numbers-long)
 
-returns-3 : tie.Need-returns-3
+returns-3 : tie.Need-returns-then-not-starts_at_zero
 unfolding accepts
 returns-3 c =
-    let f = c.before.before in
-    let e = f.before.before in
-    checks (s₁ e).args.k (card (s₁ e)) false (rw (long e, agreed f, sym c.before.starts-at-zero.ensures ∙ not-true _ c.if3.true))
+    checks (s₁ c.before.before.before.before).args.k (card (s₁ c.before.before.before.before)) false (rw (long c.before.before.before.before, agreed c.before.before, sym c.starts_at_zero.ensures ∙ c.if-not-starts_at_zero.true))
 
 follow-requires : tie.Need-follow-requires
-follow-requires c κs = let f = c.before.before in (agreed f, long f.before.before, refl)
+follow-requires c κs = (agreed c.before.before, long c.before.before.before.before, refl)
 
-returns-4 : tie.Need-returns-4
+returns-4 : tie.Need-returns
 unfolding accepts
 returns-4 c =
-    let g = c.before in
-    let f = g.before.before in
-    let e = f.before.before in
-    checks (s₁ e).args.k (card (s₁ e)) c.follow.result
-    (c.follow.ensures ∙ rw (long e, agreed f, sym g.before.starts-at-zero.ensures ∙ not-false _ g.if3.false))
+    checks (s₁ c.before.before.before.before.before).args.k (card (s₁ c.before.before.before.before.before)) c.follow.result
+    (c.follow.ensures ∙ rw (long c.before.before.before.before.before, agreed c.before.before.before, sym c.starts_at_zero.ensures ∙ c.if-not-starts_at_zero.false))
 
-pub check-spec : {M : Type 1} → statement M
-check-spec =
+pub check_spec : {M : Type 1} → statement M
+check_spec =
     tie.close
     (tie.spec
     lengths-fit-requires

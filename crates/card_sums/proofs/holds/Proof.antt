@@ -13,32 +13,32 @@ use Rattle.card_sums.proofs.holds.Tie as tie
 abbrev test : List ℕ → ℕ → List ℕ → ℕ → Bool
 test numbers at costs way = way_holds numbers at costs (way / 4) (way % 4)
 
-abbrev invariant-loop : tie.invariant-loop
-invariant-loop numbers at costs all₀ way₀ all way = (way ≤ 64) × (all ≡ every_below (test numbers at costs) way)
+abbrev invariant-loop-way : tie.invariant-loop-way
+invariant-loop-way numbers at costs all₀ way₀ all way = (way ≤ 64) × (all ≡ every_below (test numbers at costs) way)
 
-abbrev decreases-loop : tie.decreases-loop
-decreases-loop numbers at costs all₀ way₀ all way = 64 - way
+abbrev decreases-loop-way : tie.decreases-loop-way
+decreases-loop-way numbers at costs all₀ way₀ all way = 64 - way
 
-loop-holds : tie.Need-loop-init invariant-loop decreases-loop
+loop-holds : tie.Need-loop-way-init invariant-loop-way decreases-loop-way
 loop-holds c = (omega arith, every-none _)
 
-way-holds-requires : tie.Need-way-holds-requires invariant-loop decreases-loop
+way-holds-requires : tie.Need-way_holds-all-requires invariant-loop-way decreases-loop-way
 way-holds-requires c κs = (omega arith, omega arith, omega arith)
 
-add-way : tie.Need-overflow-add-way invariant-loop decreases-loop
+add-way : tie.Need-overflow_add-way invariant-loop-way decreases-loop-way
 add-way c = omega arith
 
-loop-less : tie.Need-loop-smaller invariant-loop decreases-loop
+loop-less : tie.Need-loop-way-smaller invariant-loop-way decreases-loop-way
 loop-less c = omega arith
 
-loop-again : tie.Need-loop-preserved invariant-loop decreases-loop
-loop-again c = let at = c.before.before in (omega arith, every-next _ at.loop.way at.loop.invariant.1 c.way-holds.ensures)
+loop-again : tie.Need-loop-way-preserved invariant-loop-way decreases-loop-way
+loop-again c = (omega arith, every-next _ c.loop-way.way c.loop-way.invariant.1 c.way_holds-all.ensures)
 
-returns : tie.Need-returns invariant-loop decreases-loop
+returns : tie.Need-returns invariant-loop-way decreases-loop-way
 unfolding holds
-returns c = let at = c.before in every-ends _ 64 at.loop.way (omega arith) at.loop.invariant.1
+returns c = every-ends _ 64 c.loop-way.way (omega arith) c.loop-way.invariant.1
 
-pub holds-spec : {M : Type 1} → statement M
-holds-spec =
+pub holds_spec : {M : Type 1} → statement M
+holds_spec =
     tie.close
-    (tie.spec invariant-loop decreases-loop loop-holds way-holds-requires add-way loop-less loop-again returns)
+    (tie.spec invariant-loop-way decreases-loop-way loop-holds way-holds-requires add-way loop-less loop-again returns)

@@ -15,40 +15,40 @@ use Rattle.card_sums.proofs.starts_at_zero.Tie as tie
 abbrev test : List ℕ → ℕ → Bool
 test numbers s = eqb (get_or numbers s 0) 0
 
-abbrev invariant-loop : tie.invariant-loop
-invariant-loop numbers all₀ s₀ all s = (s ≤ 16) × (all ≡ every_below (test numbers) s)
+abbrev invariant-loop-s : tie.invariant-loop-s
+invariant-loop-s numbers all₀ s₀ all s = (s ≤ 16) × (all ≡ every_below (test numbers) s)
 
-abbrev decreases-loop : tie.decreases-loop
-decreases-loop numbers all₀ s₀ all s = 16 - s
+abbrev decreases-loop-s : tie.decreases-loop-s
+decreases-loop-s numbers all₀ s₀ all s = 16 - s
 
-loop-holds : tie.Need-loop-init invariant-loop decreases-loop
+loop-holds : tie.Need-loop-s-init invariant-loop-s decreases-loop-s
 loop-holds c = (omega arith, every-none _)
 
-mul-all : tie.Need-overflow-mul-all invariant-loop decreases-loop
+mul-all : tie.Need-offset_bounds-numbers-s invariant-loop-s decreases-loop-s
 mul-all c = omega arith
 
-shared-slice-read-all : tie.Need-shared-slice-read-all invariant-loop decreases-loop
+shared-slice-read-all : tie.Need-bounds-numbers-s invariant-loop-s decreases-loop-s
 shared-slice-read-all c = omega arith
 
-add-s : tie.Need-overflow-add-s invariant-loop decreases-loop
+add-s : tie.Need-overflow_add-s invariant-loop-s decreases-loop-s
 add-s c = omega arith
 
-loop-less : tie.Need-loop-smaller invariant-loop decreases-loop
+loop-less : tie.Need-loop-s-smaller invariant-loop-s decreases-loop-s
 loop-less c = omega arith
 
-loop-again : tie.Need-loop-preserved invariant-loop decreases-loop
-loop-again c = let at = c.before.before in (omega arith, every-next _ at.loop.s at.loop.invariant.1 refl)
+loop-again : tie.Need-loop-s-preserved invariant-loop-s decreases-loop-s
+loop-again c = (omega arith, every-next _ c.loop-s.s c.loop-s.invariant.1 refl)
 
-returns : tie.Need-returns invariant-loop decreases-loop
+returns : tie.Need-returns invariant-loop-s decreases-loop-s
 unfolding starts_at_zero
-returns c = let at = c.before in every-ends _ 16 at.loop.s (omega arith) at.loop.invariant.1
+returns c = every-ends _ 16 c.loop-s.s (omega arith) c.loop-s.invariant.1
 
-pub starts-at-zero-spec : {M : Type 1} → statement M
-starts-at-zero-spec =
+pub starts_at_zero_spec : {M : Type 1} → statement M
+starts_at_zero_spec =
     tie.close
     (tie.spec
-    invariant-loop
-    decreases-loop
+    invariant-loop-s
+    decreases-loop-s
     loop-holds
     mul-all
     shared-slice-read-all

@@ -16,11 +16,11 @@ taken v w d h = go (leb (v - d) w) refl
     go true e = e ∙ sym (le-leb v (w + d) (omega (arith, leb-true (v - d) w e)))
     go false e = e ∙ sym (lt-leb v (w + d) (omega (arith, leb-false (v - d) w e)))
 
-returns : tie.Need-returns
-returns c = let s = c.before in sym (le-leb s.args.v (s.args.w + s.args.d) (omega arith))
+returns : tie.Need-returns-then-v-by
+returns c = sym (le-leb c.args.v (c.args.w + c.args.d) (omega arith))
 
-returns-2 : tie.Need-returns-2
-returns-2 c = let s = c.before in taken s.args.v s.args.w s.args.d (omega arith)
+returns-2 : tie.Need-returns
+returns-2 c = taken c.args.v c.args.w c.args.d (omega arith)
 
-pub within-spec : {M : Type 1} → statement M
-within-spec = tie.close (tie.spec returns returns-2)
+pub within_spec : {M : Type 1} → statement M
+within_spec = tie.close (tie.spec returns returns-2)

@@ -10,33 +10,31 @@ use Rattle.card_symbol.proofs.Tests.{valid-is}
 use Rattle.card_symbol.proofs.carries.Statement.{statement}
 use Rattle.card_symbol.proofs.carries.Tie as tie
 
-is-valid-requires : tie.Need-is-valid-requires
+is-valid-requires : tie.Need-is_valid-requires
 is-valid-requires c κs = search rules
 
-returns : tie.Need-returns
+returns : tie.Need-returns-then-not-is_valid
 unfolding carries
-returns c = rw (sym c.before.is-valid.ensures ∙ not-true _ c.if1.true)
+returns c = rw (sym c.is_valid.ensures ∙ c.if-not-is_valid.true)
 
 -- the symbol can be sent
-passed : (e : tie.Else1) → is_valid e.before.before.args.u (symbol_of e.before.before.args.c) ≡ true
-passed e = sym e.before.is-valid.ensures ∙ not-false _ e.if1.false
+passed : (e : tie.Else-not-is_valid) → is_valid e.args.u (symbol_of e.args.c) ≡ true
+passed e = sym e.is_valid.ensures ∙ e.if-not-is_valid.false
 
-returns-2 : tie.Need-returns-2
+returns-2 : tie.Need-returns-then-s-ge16
 unfolding carries
-returns-2 c = rw (passed c.before, le-ltb c.before.before.before.args.s 16 (omega arith))
+returns-2 c = rw (passed c.before, le-ltb c.args.s 16 (omega arith))
 
 next-requires : tie.Need-next-requires
 next-requires c κs =
-    let e = c.before.before in
-    let v = valid-is _ _ (passed e) in
+    let v = valid-is _ _ (passed c.before.before) in
     (omega arith, v.i1-below, v.i2-below)
 
-returns-3 : tie.Need-returns-3
+returns-3 : tie.Need-returns
 unfolding carries
 returns-3 c =
-    let e = c.before.before.before in
-    let s = e.before.before.args.s in
-    rw (passed e, lt-ltb s 16 (omega arith), c.next.ensures, and_mask s 1)
+    let s = c.args.s in
+    rw (passed c.before.before.before, lt-ltb s 16 (omega arith), c.next.ensures, and_mask s 1)
 
-pub carries-spec : {M : Type 1} → statement M
-carries-spec = tie.close (tie.spec is-valid-requires returns returns-2 next-requires returns-3)
+pub carries_spec : {M : Type 1} → statement M
+carries_spec = tie.close (tie.spec is-valid-requires returns returns-2 next-requires returns-3)

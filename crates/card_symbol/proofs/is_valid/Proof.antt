@@ -5,17 +5,16 @@ use Rattle.card_symbol.specs.Chosen.{is_valid}
 use Rattle.card_symbol.proofs.is_valid.Statement.{statement}
 use Rattle.card_symbol.proofs.is_valid.Tie as tie
 
-shr-result : tie.Need-overflow-shr-result
+shr-result : tie.Need-overflow_shr-result
 shr-result c = search rules
 
-shr-result-2 : tie.Need-overflow-shr-result-2
+shr-result-2 : tie.Need-overflow_shr-result-2
 shr-result-2 c = search rules
 
 returns : tie.Need-returns
 unfolding is_valid
 returns c =
-    let s = c.before.before.before.before.before.before in
-    rw (none_above s.args.c.w1 s.args.u, none_above s.args.c.w2 s.args.u)
+    rw (none_above c.args.c.w1 c.args.u, none_above c.args.c.w2 c.args.u)
 
-pub is-valid-spec : {M : Type 1} → statement M
-is-valid-spec = tie.close (tie.spec shr-result shr-result-2 returns)
+pub is_valid_spec : {M : Type 1} → statement M
+is_valid_spec = tie.close (tie.spec shr-result shr-result-2 returns)

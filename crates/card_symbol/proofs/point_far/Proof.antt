@@ -8,23 +8,21 @@ use Rattle.nearest.specs.Line.{line_distance}
 use Rattle.card_symbol.proofs.point_far.Statement.{statement}
 use Rattle.card_symbol.proofs.point_far.Tie as tie
 
-point-on-requires : tie.Need-point-on-requires
+point-on-requires : tie.Need-point_on-p-requires
 point-on-requires c κs = search rules
 
-distance-from-requires : tie.Need-distance-from-requires
+distance-from-requires : tie.Need-distance_from-requires
 distance-from-requires c κs =
-    let s = c.before in
-    (s.requires.4, rw c.point-on.ensures (small_at s.args.k s.requires.1 s.args.l s.args.w s.requires.3))
+    (c.requires.4, rw c.point_on-p.ensures (small_at c.args.k c.requires.1 c.args.l c.args.w c.requires.3))
 
-counted-of-requires : tie.Need-counted-of-requires
+counted-of-requires : tie.Need-counted_of-requires
 counted-of-requires c κs = search rules
 
 returns : tie.Need-returns
 unfolding line_distance
 returns c =
-    let s = c.before.before.before in
-    c.Counted-of.ensures ∙ ap counted (c.before.distance-from.ensures ∙ ap (distance s.args.h) c.before.before.point-on.ensures)
+    c.counted_of.ensures ∙ ap counted (c.distance_from.ensures ∙ ap (distance c.args.h) c.point_on-p.ensures)
 
-pub point-far-spec : {M : Type 1} → statement M
-point-far-spec =
+pub point_far_spec : {M : Type 1} → statement M
+point_far_spec =
     tie.close (tie.spec point-on-requires distance-from-requires counted-of-requires returns)

@@ -7,39 +7,39 @@ use lib.ListN.{length}
 use Rattle.compare_files.proofs.form_of.Statement.{statement}
 use Rattle.compare_files.proofs.form_of.Tie as tie
 
-abbrev invariant-loop : tie.invariant-loop
-invariant-loop fd chunk₀ now₀ turns₀ chunk now turns = (now.side.from ≤ now.side.to) × (now.side.to ≤ 65536) × (length chunk ≡ 65536)
+abbrev invariant-loop-turns : tie.invariant-loop-turns
+invariant-loop-turns fd chunk₀ now₀ turns₀ chunk now turns = (now.side.from ≤ now.side.to) × (now.side.to ≤ 65536) × (length chunk ≡ 65536)
 
-abbrev decreases-loop : tie.decreases-loop
-decreases-loop fd chunk₀ now₀ turns₀ chunk now turns = turns
+abbrev decreases-loop-turns : tie.decreases-loop-turns
+decreases-loop-turns fd chunk₀ now₀ turns₀ chunk now turns = turns
 
-fresh-requires : tie.Need-fresh-requires invariant-loop decreases-loop
+fresh-requires : tie.Need-fresh-requires invariant-loop-turns decreases-loop-turns
 fresh-requires c κs = search rules
 
-loop-holds : tie.Need-loop-init invariant-loop decreases-loop
+loop-holds : tie.Need-loop-turns-init invariant-loop-turns decreases-loop-turns
 loop-holds c = (omega arith, omega arith, search rules)
 
-slice-aggregate-read-form : tie.Need-slice-aggregate-read-form invariant-loop decreases-loop
+slice-aggregate-read-form : tie.Need-slice_bounds-read_form-end invariant-loop-turns decreases-loop-turns
 slice-aggregate-read-form c = search rules
 
-read-form-requires : tie.Need-read-form-requires invariant-loop decreases-loop
+read-form-requires : tie.Need-read_form-now-requires invariant-loop-turns decreases-loop-turns
 read-form-requires c κs = (omega arith, omega arith)
 
-sub-turns : tie.Need-overflow-sub-turns invariant-loop decreases-loop
+sub-turns : tie.Need-overflow_sub-turns invariant-loop-turns decreases-loop-turns
 sub-turns c = search rules
 
-loop-less : tie.Need-loop-smaller invariant-loop decreases-loop
+loop-less : tie.Need-loop-turns-smaller invariant-loop-turns decreases-loop-turns
 loop-less c = search rules
 
-loop-again : tie.Need-loop-preserved invariant-loop decreases-loop
+loop-again : tie.Need-loop-turns-preserved invariant-loop-turns decreases-loop-turns
 loop-again c = (omega arith, omega arith, omega arith)
 
-returns : tie.Need-returns invariant-loop decreases-loop
+returns : tie.Need-returns-then-not-side invariant-loop-turns decreases-loop-turns
 returns c = search rules
 
-returns-2 : tie.Need-returns-2 invariant-loop decreases-loop
+returns-2 : tie.Need-returns invariant-loop-turns decreases-loop-turns
 returns-2 c = search rules
 
-pub form-of-spec : {M : Type 1} → statement M
-form-of-spec =
-    tie.close (tie.spec invariant-loop decreases-loop fresh-requires loop-holds slice-aggregate-read-form read-form-requires sub-turns loop-less loop-again returns returns-2)
+pub form_of_spec : {M : Type 1} → statement M
+form_of_spec =
+    tie.close (tie.spec invariant-loop-turns decreases-loop-turns fresh-requires loop-holds slice-aggregate-read-form read-form-requires sub-turns loop-less loop-again returns returns-2)

@@ -3,32 +3,32 @@ use borrow.Author.Rules.{rules}
 use Rattle.compare_files.proofs.only_line.Statement.{statement}
 use Rattle.compare_files.proofs.only_line.Tie as tie
 
-enum_told : tie.Need-enum-told
+enum_told : tie.Need-enum_told-1
 enum_told c = search rules
 
-second-line-requires : tie.Need-second-line-requires
+second-line-requires : tie.Need-second_line-requires
 second-line-requires c κs = search rules
 
-enum-known-a : tie.Need-enum-known-a
+enum-known-a : tie.Need-enum_known-a
 enum-known-a c = search rules
 
-enum-told-2 : tie.Need-enum-told-2
+enum-told-2 : tie.Need-enum_told-in-Unread
 enum-told-2 c = search rules
 
-second-line-requires-2 : tie.Need-second-line-requires-2
+second-line-requires-2 : tie.Need-second_line-requires-in-Unread
 second-line-requires-2 c κs = search rules
 
-returns : tie.Need-returns
+returns : tie.Need-returns-in-Clean
 returns c = search rules
 
-returns-2 : tie.Need-returns-2
-returns-2 c = rw c.before.a.given.1
+returns-2 : tie.Need-returns-in-Malformed
+returns-2 c = rw c.in-Malformed.is
 
-returns-3 : tie.Need-returns-3
+returns-3 : tie.Need-returns-in-Unread
 returns-3 c = search rules
 
-pub only-line-spec : {M : Type 1} → statement M
-only-line-spec =
+pub only_line_spec : {M : Type 1} → statement M
+only_line_spec =
     tie.close
     (tie.spec
     enum_told

@@ -15,30 +15,28 @@ roomy : (b : Bool) (n m : ℕ) → (not b && leb n m) ≡ true → n ≤ m
 roomy false n m e = leb-true n m e
 roomy true n m e = absurd (let z : ◌≡◌ {A = ℕ} 0 1 = cc in omega arith)
 
-put-line-requires : tie.Need-put-line-requires
+put-line-requires : tie.Need-put_line-end-requires
 put-line-requires c κs = search rules
 
-add-if1 : tie.Need-overflow-add-if1
+add-if1 : tie.Need-overflow_add-end
 add-if1 c = search rules
 
-same_length : tie.Need-same-length
+same_length : tie.Need-shape_of-page-then-ends-end
 same_length c = search rules
 
-returns : tie.Need-returns
+returns : tie.Need-returns-then-ends-end
 returns c =
-    let p = c.before.before.before in
-    (omega (arith, roomy p.before.before.before.args.ends (p.put-line.result + 40) (length p.put-line.new.0) c.if1.true), record { end = p.put-line.result; put = p.put-line.ensures.0; next = inl refl })
+    (omega (arith, roomy c.args.ends (c.put_line-end.result + 40) (length c.put_line-end.new.page) c.if-ends-end.true), record { end = c.put_line-end.result; put = c.put_line-end.ensures.0; next = inl refl })
 
-flush-requires : tie.Need-flush-requires
+flush-requires : tie.Need-flush-is_written-requires
 flush-requires c κs = search rules
 
-same-length-2 : tie.Need-same-length-2
+same-length-2 : tie.Need-shape_of-page
 same-length-2 c = search rules
 
-returns-2 : tie.Need-returns-2
+returns-2 : tie.Need-returns
 returns-2 c =
-    let p = c.before.before.before.before.before in
-    (search rules, record { end = p.put-line.result; put = p.put-line.ensures.0; next = inr refl })
+    (search rules, record { end = c.put_line-end.result; put = c.put_line-end.ensures.0; next = inr refl })
 
-pub say-spec : {M : Type 1} → statement M
-say-spec = tie.close (tie.spec put-line-requires add-if1 same_length returns flush-requires same-length-2 returns-2)
+pub say_spec : {M : Type 1} → statement M
+say_spec = tie.close (tie.spec put-line-requires add-if1 same_length returns flush-requires same-length-2 returns-2)

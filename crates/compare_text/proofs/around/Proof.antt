@@ -6,33 +6,33 @@ use borrow.Author.Rules.{rules}
 use Rattle.compare_text.proofs.around.Statement.{statement}
 use Rattle.compare_text.proofs.around.Tie as tie
 
-put-text-requires : tie.Need-put-text-requires
+put-text-requires : tie.Need-put_text-p-requires
 put-text-requires c κs = search rules
 
-put-number-requires : tie.Need-put-number-requires
+put-number-requires : tie.Need-put_number-p-requires
 put-number-requires c κs = search rules
 
-put-text-requires-2 : tie.Need-put-text-requires-2
+put-text-requires-2 : tie.Need-put_text-requires
 put-text-requires-2 c κs = search rules
 
-same_length : tie.Need-same-length
+same_length : tie.Need-shape_of-page
 same_length c = search rules
 
 returns : tie.Need-returns
 returns c = (
   joined (omega arith)
-      (joined (omega arith) c.before.before.before.before.before.before.before.before.before.before.put-text.ensures
-      (says-number c.before.before.before.before.before.before.put-number.ensures))
-      c.before.before.put-text2.ensures,
+      (joined (omega arith) c.put_text-p.ensures
+      (says-number c.put_number-p.ensures))
+      c.put_text.ensures,
   omega (
     arith,
-    c.before.before.before.before.before.before.before.before.before.before.put-text.ensures.next,
-    c.before.before.before.before.before.before.put-number.ensures.near,
-    c.before.before.put-text2.ensures.next,
+    c.put_text-p.ensures.next,
+    c.put_number-p.ensures.near,
+    c.put_text.ensures.next,
   ),
 )
 
-pub around-spec : {M : Type 1} → statement M
-around-spec =
+pub around_spec : {M : Type 1} → statement M
+around_spec =
     tie.close
     (tie.spec put-text-requires put-number-requires put-text-requires-2 same_length returns)

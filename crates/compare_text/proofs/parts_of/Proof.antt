@@ -4,68 +4,68 @@ use borrow.Author.Rules.{rules}
 use Rattle.compare_text.proofs.parts_of.Statement.{statement}
 use Rattle.compare_text.proofs.parts_of.Tie as tie
 
-enum-known-line : tie.Need-enum-known-line
+enum-known-line : tie.Need-enum_known-line
 enum-known-line c = search rules
 
 numbered-requires : tie.Need-numbered-requires
 numbered-requires c κs = search rules
 
-enum-known-line-2 : tie.Need-enum-known-line-2
+enum-known-line-2 : tie.Need-enum_known-line-in-OnlyFirst-1
 enum-known-line-2 c = search rules
 
-numbered-requires-2 : tie.Need-numbered-requires-2
+numbered-requires-2 : tie.Need-numbered-requires-in-OnlyFirst
 numbered-requires-2 c κs = search rules
 
-enum-known-line-3 : tie.Need-enum-known-line-3
+enum-known-line-3 : tie.Need-enum_known-line-in-OnlySecond-1
 enum-known-line-3 c = search rules
 
-numbered-requires-3 : tie.Need-numbered-requires-3
+numbered-requires-3 : tie.Need-numbered-requires-in-OnlySecond
 numbered-requires-3 c κs = search rules
 
-enum-known-line-4 : tie.Need-enum-known-line-4
+enum-known-line-4 : tie.Need-enum_known-line-in-Differences-1
 enum-known-line-4 c = search rules
 
 counted-requires : tie.Need-counted-requires
 counted-requires c κs = search rules
 
-enum-known-line-5 : tie.Need-enum-known-line-5
+enum-known-line-5 : tie.Need-enum_known-line-in-FirstMalformed-1
 enum-known-line-5 c = search rules
 
-counted-requires-2 : tie.Need-counted-requires-2
+counted-requires-2 : tie.Need-counted-requires-in-FirstMalformed
 counted-requires-2 c κs = search rules
 
-enum-known-line-6 : tie.Need-enum-known-line-6
+enum-known-line-6 : tie.Need-enum_known-line-in-SecondMalformed-1
 enum-known-line-6 c = search rules
 
-counted-requires-3 : tie.Need-counted-requires-3
+counted-requires-3 : tie.Need-counted-requires-in-SecondMalformed
 counted-requires-3 c κs = search rules
 
-returns : tie.Need-returns
+returns : tie.Need-returns-in-Differs
 unfolding line_text
-returns c = rw c.before.before.before.before.line.given.1 c.numbered.ensures
+returns c = rw c.in-Differs.is c.numbered.ensures
 
-returns-2 : tie.Need-returns-2
+returns-2 : tie.Need-returns-in-OnlyFirst
 unfolding line_text
-returns-2 c = rw c.before.before.before.before.line2.given.1 c.numbered2.ensures
+returns-2 c = rw c.in-OnlyFirst.is c.numbered-in-OnlyFirst.ensures
 
-returns-3 : tie.Need-returns-3
+returns-3 : tie.Need-returns-in-OnlySecond
 unfolding line_text
-returns-3 c = rw c.before.before.before.before.line3.given.1 c.numbered3.ensures
+returns-3 c = rw c.in-OnlySecond.is c.numbered-in-OnlySecond.ensures
 
-returns-4 : tie.Need-returns-4
+returns-4 : tie.Need-returns-in-Differences
 unfolding line_text
-returns-4 c = rw c.before.before.before.before.line4.given.1 c.counted.ensures
+returns-4 c = rw c.in-Differences.is c.counted.ensures
 
-returns-5 : tie.Need-returns-5
+returns-5 : tie.Need-returns-in-FirstMalformed
 unfolding line_text
-returns-5 c = rw c.before.before.before.before.line5.given.1 c.counted2.ensures
+returns-5 c = rw c.in-FirstMalformed.is c.counted-in-FirstMalformed.ensures
 
-returns-6 : tie.Need-returns-6
+returns-6 : tie.Need-returns-in-SecondMalformed
 unfolding line_text
-returns-6 c = rw c.before.before.before.before.line6.given.1 c.counted3.ensures
+returns-6 c = rw c.in-SecondMalformed.is c.counted-in-SecondMalformed.ensures
 
-pub parts-of-spec : {M : Type 1} → statement M
-parts-of-spec =
+pub parts_of_spec : {M : Type 1} → statement M
+parts_of_spec =
     tie.close
     (tie.spec
     enum-known-line

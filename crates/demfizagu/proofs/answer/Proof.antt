@@ -3,10 +3,10 @@ use borrow.Author.Rules.{rules}
 use Rattle.demfizagu.proofs.answer.Statement.{statement}
 use Rattle.demfizagu.proofs.answer.Tie as tie
 
-place-requires : tie.Need-place-requires
+place-requires : tie.Need-place-place-requires
 place-requires c κs = search rules
 
-cast-tell : tie.Need-overflow-cast-tell
+cast-tell : tie.Need-overflow_cast-place
 cast-tell c = search rules
 
 tell-requires : tie.Need-tell-requires
@@ -15,12 +15,12 @@ tell-requires c κs = search rules
 number-requires : tie.Need-number-requires
 number-requires c κs = search rules
 
-same_length : tie.Need-same-length
+same_length : tie.Need-shape_of-told
 same_length c = search rules
 
 returns : tie.Need-returns
-returns c = (c.number.ensures, rw c.before.before.before.before.before.place.ensures at c.before.before.before.tell.ensures)
+returns c = (c.number.ensures, rw c.place-place.ensures at c.tell.ensures)
 
-pub answer-spec : {M : Type 1} → statement M
-answer-spec =
+pub answer_spec : {M : Type 1} → statement M
+answer_spec =
     tie.close (tie.spec place-requires cast-tell tell-requires number-requires same_length returns)

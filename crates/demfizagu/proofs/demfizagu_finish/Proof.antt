@@ -4,68 +4,56 @@ use borrow.Author.Rules.{rules}
 use Rattle.demfizagu.proofs.demfizagu_finish.Statement.{statement}
 use Rattle.demfizagu.proofs.demfizagu_finish.Tie as tie
 
-returns : tie.Need-returns
-returns c = let s = c.before.before.before.before in finish-short s.args.state.now s.args.out.now s.args.told.now c.if1.true
+returns : tie.Need-returns-then-told-lt3
+returns c = finish-short c.args.state.now c.args.out.now c.args.told.now c.if-told-lt3.true
 
-load-receiver-requires : tie.Need-load-receiver-requires
+load-receiver-requires : tie.Need-load_receiver-requires
 load-receiver-requires c κs = search rules
 
-finish-requires : tie.Need-finish-requires
+finish-requires : tie.Need-finish-a-requires
 finish-requires c κs = search rules
 
-answer-requires : tie.Need-answer-requires
+answer-requires : tie.Need-answer-n-requires
 answer-requires c κs = search rules
 
-same_length : tie.Need-same-length
+same_length : tie.Need-shape_of-state-then-n-ne0
 same_length c = search rules
 
-same-length-2 : tie.Need-same-length-2
+same-length-2 : tie.Need-shape_of-out-then-n-ne0
 same-length-2 c = search rules
 
-same-length-3 : tie.Need-same-length-3
+same-length-3 : tie.Need-shape_of-told-then-n-ne0
 same-length-3 c = search rules
 
-returns-2 : tie.Need-returns-2
+returns-2 : tie.Need-returns-then-n-ne0
 returns-2 c =
-    let g = c.before.before.before in
-    let f = g.before.before.before.before in
-    let l = f.before.before in
-    let e = l.before.before in
-    let a = e.before.before.before.before.args in
-    finish-kept a.state.now a.out.now a.told.now e.if1.false _ _ _ _ (rw l.load-receiver.ensures at f.finish.ensures) g.answer.ensures.0
-    g.answer.ensures.1 c.if2.true
+    let a = c.args in
+    finish-kept a.state.now a.out.now a.told.now c.if-told-lt3.false _ _ _ _ (rw c.load_receiver.ensures at c.finish-a.ensures) c.answer-n.ensures.0
+    c.answer-n.ensures.1 c.if-n-ne0.true
 
-store-receiver-requires : tie.Need-store-receiver-requires
+store-receiver-requires : tie.Need-store_receiver-requires
 store-receiver-requires c κs =
-    let g = c.before.before.before.before.before in
-    let f = g.before.before.before.before in
-    let l = f.before.before in
-    let e = l.before.before in
-    let a = e.before.before.before.before.args in
-    finish-long a.state.now a.out.now a.told.now e.if1.false _ _ _ _ (rw l.load-receiver.ensures at f.finish.ensures) g.answer.ensures.0
-    g.answer.ensures.1 c.before.before.if2.false
+    let a = c.args in
+    finish-long a.state.now a.out.now a.told.now c.if-told-lt3.false _ _ _ _ (rw c.load_receiver.ensures at c.finish-a.ensures) c.answer-n.ensures.0
+    c.answer-n.ensures.1 c.if-n-ne0.false
 
-same-length-4 : tie.Need-same-length-4
+same-length-4 : tie.Need-shape_of-state
 same-length-4 c = search rules
 
-same-length-5 : tie.Need-same-length-5
+same-length-5 : tie.Need-shape_of-out
 same-length-5 c = search rules
 
-same-length-6 : tie.Need-same-length-6
+same-length-6 : tie.Need-shape_of-told
 same-length-6 c = search rules
 
-returns-3 : tie.Need-returns-3
+returns-3 : tie.Need-returns
 returns-3 c =
-    let g = c.before.before.before.before.before.before.before.before in
-    let f = g.before.before.before.before in
-    let l = f.before.before in
-    let e = l.before.before in
-    let a = e.before.before.before.before.args in
-    finish-written a.state.now a.out.now a.told.now e.if1.false _ _ _ _ (rw l.load-receiver.ensures at f.finish.ensures) g.answer.ensures.0
-    g.answer.ensures.1 _ c.before.before.before.before.before.if2.false c.before.before.store-receiver.ensures
+    let a = c.args in
+    finish-written a.state.now a.out.now a.told.now c.if-told-lt3.false _ _ _ _ (rw c.load_receiver.ensures at c.finish-a.ensures) c.answer-n.ensures.0
+    c.answer-n.ensures.1 _ c.if-n-ne0.false c.store_receiver.ensures
 
-pub demfizagu-finish-spec : {M : Type 1} → statement M
-demfizagu-finish-spec =
+pub demfizagu_finish_spec : {M : Type 1} → statement M
+demfizagu_finish_spec =
     tie.close
     (tie.spec
     returns

@@ -5,40 +5,40 @@ use borrow.Author.Rules.{rules}
 use Rattle.demfizagu.proofs.demfizagu_is_open.Statement.{statement}
 use Rattle.demfizagu.proofs.demfizagu_is_open.Tie as tie
 
-load-receiver-requires : tie.Need-load-receiver-requires
+load-receiver-requires : tie.Need-load_receiver-requires
 load-receiver-requires c κs = search rules
 
-is-open-requires : tie.Need-is-open-requires
+is-open-requires : tie.Need-is_open-requires
 is-open-requires c κs = search rules
 
-returns : tie.Need-returns
+returns : tie.Need-returns-then-is_open
 unfolding open_in
-returns c = rw (sym (rw c.before.before.load-receiver.ensures at c.before.is_open.ensures) ∙ c.if1.true)
+returns c = rw (sym (rw c.load_receiver.ensures at c.is_open.ensures) ∙ c.if-is_open.true)
 
-load-sender-requires : tie.Need-load-sender-requires
+load-sender-requires : tie.Need-load_sender-requires
 load-sender-requires c κs = search rules
 
-is-open-requires-2 : tie.Need-is-open-requires-2
+is-open-requires-2 : tie.Need-is_open-requires-2
 is-open-requires-2 c κs = search rules
 
-returns-2 : tie.Need-returns-2
+returns-2 : tie.Need-returns-then-is_open-2
 unfolding open_in
 returns-2 c =
     rw (
-      sym (rw c.before.before.before.before.before.load-receiver.ensures at c.before.before.before.before.is_open.ensures) ∙ c.before.before.before.if1.false,
-      sym (rw c.before.before.load-sender.ensures at c.before.is-open2.ensures) ∙ c.if2.true,
+      sym (rw c.load_receiver.ensures at c.is_open.ensures) ∙ c.if-is_open.false,
+      sym (rw c.load_sender.ensures at c.is_open-2.ensures) ∙ c.if-is_open-2.true,
     )
 
-returns-3 : tie.Need-returns-3
+returns-3 : tie.Need-returns
 unfolding open_in
 returns-3 c =
     rw (
-      sym (rw c.before.before.before.before.before.load-receiver.ensures at c.before.before.before.before.is_open.ensures) ∙ c.before.before.before.if1.false,
-      sym (rw c.before.before.load-sender.ensures at c.before.is-open2.ensures) ∙ c.if2.false,
+      sym (rw c.load_receiver.ensures at c.is_open.ensures) ∙ c.if-is_open.false,
+      sym (rw c.load_sender.ensures at c.is_open-2.ensures) ∙ c.if-is_open-2.false,
     )
 
-pub demfizagu-is-open-spec : {M : Type 1} → statement M
-demfizagu-is-open-spec =
+pub demfizagu_is_open_spec : {M : Type 1} → statement M
+demfizagu_is_open_spec =
     tie.close
     (tie.spec
     load-receiver-requires

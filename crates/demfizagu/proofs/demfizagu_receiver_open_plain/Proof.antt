@@ -8,23 +8,22 @@ use borrow.Author.Rules.{rules}
 use Rattle.demfizagu.proofs.demfizagu_receiver_open_plain.Statement.{statement}
 use Rattle.demfizagu.proofs.demfizagu_receiver_open_plain.Tie as tie
 
-accord-by-requires : tie.Need-accord-by-requires
+accord-by-requires : tie.Need-accord_by-requires
 accord-by-requires c κs = search rules
 
-open-plain-requires : tie.Need-open-plain-requires
+open-plain-requires : tie.Need-open_plain-requires
 open-plain-requires c κs = search rules
 
 opened-requires : tie.Need-opened-requires
 opened-requires c κs = search rules
 
-same_length : tie.Need-same-length
+same_length : tie.Need-shape_of-state
 same_length c = search rules
 
 returns : tie.Need-returns
 returns c =
-    let o = c.before.before.before in
-    c.before.before.opened.ensures _ _ _ (subst (λ (k : Accord). Opens k plain_window Free o.open_plain.result) o.before.accord-by.ensures o.open_plain.ensures)
+    c.opened.ensures _ _ _ (subst (λ (k : Accord). Opens k plain_window Free c.open_plain.result) c.accord_by.ensures c.open_plain.ensures)
 
-pub demfizagu-receiver-open-plain-spec : {M : Type 1} → statement M
-demfizagu-receiver-open-plain-spec =
+pub demfizagu_receiver_open_plain_spec : {M : Type 1} → statement M
+demfizagu_receiver_open_plain_spec =
     tie.close (tie.spec accord-by-requires open-plain-requires opened-requires same_length returns)

@@ -4,20 +4,19 @@ use borrow.Author.Rules.{rules}
 use Rattle.demfizagu.proofs.demfizagu_record_open_map.Statement.{statement}
 use Rattle.demfizagu.proofs.demfizagu_record_open_map.Tie as tie
 
-accord-by-requires : tie.Need-accord-by-requires
+accord-by-requires : tie.Need-accord_by-requires
 accord-by-requires c κs = search rules
 
-record-open-requires : tie.Need-record-open-requires
+record-open-requires : tie.Need-record_open-requires
 record-open-requires c κs = search rules
 
-same_length : tie.Need-same-length
+same_length : tie.Need-shape_of-bytes
 same_length c = search rules
 
 returns : tie.Need-returns
 returns c =
-    let r = c.before.before in
-    rw (sym r.before.before.accord-by.ensures) r.record-open.ensures
+    rw (sym c.accord_by.ensures) c.record_open.ensures
 
-pub demfizagu-record-open-map-spec : {M : Type 1} → statement M
-demfizagu-record-open-map-spec =
+pub demfizagu_record_open_map_spec : {M : Type 1} → statement M
+demfizagu_record_open_map_spec =
     tie.close (tie.spec accord-by-requires record-open-requires same_length returns)

@@ -5,30 +5,27 @@ use borrow.Author.Rules.{rules}
 use Rattle.line_buffer.proofs.gather.Statement.{statement}
 use Rattle.line_buffer.proofs.gather.Tie as tie
 
-returns : tie.Need-returns
+returns : tie.Need-returns-then-part
 returns c =
-    let start = c.before.before.before in
-    (start.requires, λ s g. stays-long start.args.bytes.now g c.if1.true)
+    (c.requires, λ s g. stays-long c.args.bytes.now g c.if-part.true)
 
-sub-if2 : tie.Need-overflow-sub-if2
+sub-if2 : tie.Need-overflow_sub-line
 sub-if2 c = search rules
 
-returns-2 : tie.Need-returns-2
+returns-2 : tie.Need-returns-then-line-held
 returns-2 c =
-    let start = c.before.before.before.before in
-    (omega arith, λ s g. grows-long start.args.bytes.now g c.before.if1.false start.requires c.if2.true)
+    (omega arith, λ s g. grows-long c.args.bytes.now g c.if-part.false c.requires c.if-line-held.true)
 
-put-text-requires : tie.Need-put-text-requires
+put-text-requires : tie.Need-put_text-requires
 put-text-requires c κs = search rules
 
-same_length : tie.Need-same-length
+same_length : tie.Need-shape_of-line
 same_length c = search rules
 
-returns-3 : tie.Need-returns-3
+returns-3 : tie.Need-returns
 returns-3 c =
-    let start = c.before.before.before.before.before.before.before.before in
-    (search rules, λ s g. grows start.args.bytes.now g c.before.before.before.before.before.if1.false start.requires c.before.before.put-text.ensures)
+    (search rules, λ s g. grows c.args.bytes.now g c.if-part.false c.requires c.put_text.ensures)
 
-pub gather-spec : {M : Type 1} → statement M
-gather-spec =
+pub gather_spec : {M : Type 1} → statement M
+gather_spec =
     tie.close (tie.spec returns sub-if2 returns-2 put-text-requires same_length returns-3)

@@ -10,112 +10,109 @@ use Rattle.line_fields.proofs.Reading.{Read, begun, ended, gone, within, bad, mo
 use Rattle.line_fields.proofs.signed.Statement.{statement}
 use Rattle.line_fields.proofs.signed.Tie as tie
 
-abbrev invariant-loop : tie.invariant-loop
-invariant-loop s at list₀ from₀ k₀ list from k = (k ≤ length list₀) × Read whole_in s at (length list₀) from k list
+abbrev invariant-loop-k : tie.invariant-loop-k
+invariant-loop-k s at list₀ from₀ k₀ list from k = (k ≤ length list₀) × Read whole_in s at (length list₀) from k list
 
-abbrev decreases-loop : tie.decreases-loop
-decreases-loop s at list₀ from₀ k₀ list from k = length list₀ - k
+abbrev decreases-loop-k : tie.decreases-loop-k
+decreases-loop-k s at list₀ from₀ k₀ list from k = length list₀ - k
 
-loop-holds : tie.Need-loop-init invariant-loop decreases-loop
+loop-holds : tie.Need-loop-k-init invariant-loop-k decreases-loop-k
 loop-holds c = (omega arith, begun whole_in _ _ _)
 
-same_length : tie.Need-same-length invariant-loop decreases-loop
+same_length : tie.Need-shape_of-list-then-s-from invariant-loop-k decreases-loop-k
 same_length c = search rules
 
-returns : tie.Need-returns invariant-loop decreases-loop
-returns c = gone c.before.before.loop.invariant.1 c.before.loop-test.true c.if1.true
+returns : tie.Need-returns-then-s-from invariant-loop-k decreases-loop-k
+returns c = gone c.loop-k.invariant.1 c.loop-k-test.true c.if-s-from.true
 
-sub-before : tie.Need-overflow-sub-before invariant-loop decreases-loop
+sub-before : tie.Need-slice_bounds-before-count invariant-loop-k decreases-loop-k
 sub-before c = search rules
 
-part-before-start : tie.Need-slice-bounds-before-start invariant-loop decreases-loop
+part-before-start : tie.Need-slice_bounds-before-start invariant-loop-k decreases-loop-k
 part-before-start c = search rules
 
-part-before-end : tie.Need-slice-bounds-before-end invariant-loop decreases-loop
+part-before-end : tie.Need-slice_bounds-before-end invariant-loop-k decreases-loop-k
 part-before-end c = search rules
 
-before-requires : tie.Need-before-requires invariant-loop decreases-loop
+before-requires : tie.Need-before-requires invariant-loop-k decreases-loop-k
 before-requires c κs = search rules
 
 -- the token that was cut off ends in the text
-ends : (d : tie.After-before2 invariant-loop decreases-loop) → let l = d.before.before.before.before in l.loop.from + d.before2.result ≤ length l.before.before.args.s.now
+ends : (d : tie.After-before-in-loop-k invariant-loop-k decreases-loop-k) → d.loop-k.from + d.before-in-loop-k.result ≤ length d.args.s.now
 ends d =
-    let e = d.before.before in
-    within e.before.before.loop.invariant.1 e.before.loop-test.true e.if1.false d.before2.ensures
+    within d.loop-k.invariant.1 d.loop-k-test.true d.if-s-from.false d.before-in-loop-k.ensures
 
-add-end : tie.Need-overflow-add-end invariant-loop decreases-loop
+add-end : tie.Need-overflow_add-end invariant-loop-k decreases-loop-k
 add-end c = omega (arith, ends c)
 
-sub-signed : tie.Need-overflow-sub-signed invariant-loop decreases-loop
+sub-signed : tie.Need-slice_bounds-signed-count invariant-loop-k decreases-loop-k
 sub-signed c = search rules
 
-part-signed-start : tie.Need-slice-bounds-signed-start invariant-loop decreases-loop
+part-signed-start : tie.Need-slice_bounds-signed-start invariant-loop-k decreases-loop-k
 part-signed-start c = search rules
 
-part-signed-end : tie.Need-slice-bounds-signed-end invariant-loop decreases-loop
+part-signed-end : tie.Need-slice_bounds-signed-end invariant-loop-k decreases-loop-k
 part-signed-end c = omega (arith, ends c)
 
-signed-requires : tie.Need-signed-requires invariant-loop decreases-loop
+signed-requires : tie.Need-signed-requires invariant-loop-k decreases-loop-k
 signed-requires c κs = search rules
 
-enum-known-x : tie.Need-enum-known-x invariant-loop decreases-loop
+enum-known-x : tie.Need-enum_known-x invariant-loop-k decreases-loop-k
 enum-known-x c = search rules
 
-enum_told : tie.Need-enum-told invariant-loop decreases-loop
+enum_told : tie.Need-enum_told-1 invariant-loop-k decreases-loop-k
 enum_told c = search rules
 
-same-length-2 : tie.Need-same-length-2 invariant-loop decreases-loop
+same-length-2 : tie.Need-shape_of-list-in_default invariant-loop-k decreases-loop-k
 same-length-2 c = search rules
 
-returns-2 : tie.Need-returns-2 invariant-loop decreases-loop
+returns-2 : tie.Need-returns-in_default invariant-loop-k decreases-loop-k
 returns-2 c =
-    let d = c.before.before.before.before in
-    let e = d.before.before in
-    bad e.before.before.loop.invariant.1 e.before.loop-test.true e.if1.false d.before2.ensures
-    (ap whole_got (sym c.enum_told.given.1 ∙ c.before.before.signed.ensures))
+    bad c.loop-k.invariant.1 c.loop-k-test.true c.if-s-from.false c.before-in-loop-k.ensures
+    (ap whole_got (sym c.in_default.is ∙ c.signed.ensures))
 
-mul-x : tie.Need-overflow-mul-x invariant-loop decreases-loop
+mul-x : tie.Need-offset_bounds-list-k invariant-loop-k decreases-loop-k
 mul-x c = search rules
 
-slice-set-from-x : tie.Need-slice-set-from-x invariant-loop decreases-loop
+slice-set-from-x : tie.Need-bounds-list-k invariant-loop-k decreases-loop-k
 slice-set-from-x c = search rules
 
-add-k : tie.Need-overflow-add-k invariant-loop decreases-loop
+add-k : tie.Need-overflow_add-k invariant-loop-k decreases-loop-k
 add-k c = search rules
 
 -- the way back from the number that was read to its token
-abbrev to-token : tie.After-known-told invariant-loop decreases-loop → tie.After-before2 invariant-loop decreases-loop
-to-token d = d.before.before.before.before.before
+abbrev to-token : tie.In-Got invariant-loop-k decreases-loop-k → tie.After-before-in-loop-k invariant-loop-k decreases-loop-k
+to-token d = d.before.before.before
 
-add-from : tie.Need-overflow-add-from invariant-loop decreases-loop
+add-from : tie.Need-overflow_add-from invariant-loop-k decreases-loop-k
 add-from c = omega (arith, ends (to-token c))
 
-loop-less : tie.Need-loop-smaller invariant-loop decreases-loop
+loop-less : tie.Need-loop-k-smaller invariant-loop-k decreases-loop-k
 loop-less c =
-    let e = (to-token c).before.before in
-    omega (arith, e.before.loop-test.taken, e.before.before.loop.inv.1.long)
+    let e = c.before.before in
+    omega (arith, e.loop-k-test.taken, e.loop-k.invariant.1.long)
 
-loop-again : tie.Need-loop-preserved invariant-loop decreases-loop
+loop-again : tie.Need-loop-k-preserved invariant-loop-k decreases-loop-k
 loop-again c =
     let d = to-token c in
     let e = d.before.before in (
-      omega (arith, e.before.loop-test.taken, e.before.before.loop.inv.1.long),
-      more e.before.before.loop.inv.1 e.before.loop-test.taken e.if1.left d.before2.ensures _ _ (to_z-of_z (record { sfits = c.known-told.given.0.1 }))
-          (ap whole_got (sym c.before.x.given.1 ∙ c.before.before.before.signed.ensures)),
+      omega (arith, e.loop-k-test.taken, e.loop-k.invariant.1.long),
+      more e.loop-k.invariant.1 e.loop-k-test.taken e.if-s-from.left d.before-in-loop-k.ensures _ _ (to_z-of_z (record { sfits = c.in-Got.known_told-1-own.given.0.1 }))
+          (ap whole_got (sym c.in-Got.is ∙ c.signed.ensures)),
     )
 
-same-length-3 : tie.Need-same-length-3 invariant-loop decreases-loop
+same-length-3 : tie.Need-shape_of-list invariant-loop-k decreases-loop-k
 same-length-3 c = search rules
 
-returns-3 : tie.Need-returns-3 invariant-loop decreases-loop
-returns-3 c = ended c.before.loop.invariant.1 c.loop-test.false
+returns-3 : tie.Need-returns invariant-loop-k decreases-loop-k
+returns-3 c = ended c.loop-k.invariant.1 c.loop-k-test.false
 
-pub signed-spec : {M : Type 1} → statement M
-signed-spec =
+pub signed_spec : {M : Type 1} → statement M
+signed_spec =
     tie.close
     (tie.spec
-    invariant-loop
-    decreases-loop
+    invariant-loop-k
+    decreases-loop-k
     loop-holds
     same_length
     returns

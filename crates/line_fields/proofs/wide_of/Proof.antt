@@ -9,73 +9,72 @@ use Rattle.number_lists.specs.Many.{number_got}
 use Rattle.line_fields.proofs.wide_of.Statement.{statement}
 use Rattle.line_fields.proofs.wide_of.Tie as tie
 
-abbrev invariant-loop : tie.invariant-loop
-invariant-loop s n₀ i₀ n i = (i ≤ length s) × (n ≤ 18446744073709551615) × Reads 10 s n i
+abbrev invariant-loop-i : tie.invariant-loop-i
+invariant-loop-i s n₀ i₀ n i = (i ≤ length s) × (n ≤ 18446744073709551615) × Reads 10 s n i
 
-abbrev decreases-loop : tie.decreases-loop
-decreases-loop s n₀ i₀ n i = length s - i
+abbrev decreases-loop-i : tie.decreases-loop-i
+decreases-loop-i s n₀ i₀ n i = length s - i
 
-returns : tie.Need-returns invariant-loop decreases-loop
-returns c = ap number_got (no_bytes 10 18446744073709551615 _ c.if1.true)
+returns : tie.Need-returns-then-s-eq0 invariant-loop-i decreases-loop-i
+returns c = ap number_got (no_bytes 10 18446744073709551615 _ c.if-s-eq0.true)
 
-loop-holds : tie.Need-loop-init invariant-loop decreases-loop
+loop-holds : tie.Need-loop-i-init invariant-loop-i decreases-loop-i
 loop-holds c = (omega arith, omega arith, started _ _)
 
-shared-slice-read-digit : tie.Need-shared-slice-read-digit invariant-loop decreases-loop
+shared-slice-read-digit : tie.Need-bounds-s-i invariant-loop-i decreases-loop-i
 shared-slice-read-digit c = search rules
 
-digit-requires : tie.Need-digit-requires invariant-loop decreases-loop
+digit-requires : tie.Need-digit-d-requires invariant-loop-i decreases-loop-i
 digit-requires c κs = search rules
 
-returns-2 : tie.Need-returns-2 invariant-loop decreases-loop
+returns-2 : tie.Need-returns-then-d-ge10 invariant-loop-i decreases-loop-i
 returns-2 c =
-    let a = c.before.before.before.before in
-    ap number_got (other_byte a.loop.invariant.2 18446744073709551615 _ c.before.before.before.loop-test.true c.before.digit.ensures c.if2.true)
+    ap number_got (other_byte c.loop-i.invariant.2 18446744073709551615 _ c.loop-i-test.true c.digit-d.ensures c.if-d-ge10.true)
 
 -- one digit more, whatever 64 bits hold
-module _ (e : tie.Else2 invariant-loop decreases-loop) where
-  abbrev a₂ : tie.At-loop invariant-loop decreases-loop
+module _ (e : tie.Else-d-ge10 invariant-loop-i decreases-loop-i) where
+  abbrev a₂ : tie.At-loop-i invariant-loop-i decreases-loop-i
   a₂ = e.before.before.before.before
 
-  longer : Reads 10 a₂.before.before.before.args.s.now (a₂.loop.n * 10 + e.before.digit.result) (a₂.loop.i + 1)
-  longer = further a₂.loop.inv.2 e.before.before.before.loop-test.taken e.before.digit.ensures e.if2.left
+  longer : Reads 10 a₂.args.s.now (a₂.loop-i.n * 10 + e.digit-d.result) (a₂.loop-i.i + 1)
+  longer = further a₂.loop-i.invariant.2 e.loop-i-test.taken e.digit-d.ensures e.if-d-ge10.left
 
-returns-3 : tie.Need-returns-3 invariant-loop decreases-loop
+returns-3 : tie.Need-returns-then-n-gt-TENTH invariant-loop-i decreases-loop-i
 returns-3 c = ap number_got (too_large (longer c.before) 18446744073709551615 (omega arith) (omega arith))
 
-mul-if4 : tie.Need-overflow-mul-if4 invariant-loop decreases-loop
+mul-if4 : tie.Need-overflow_mul-n invariant-loop-i decreases-loop-i
 mul-if4 c = record { fits = omega arith }
 
-sub-if4 : tie.Need-overflow-sub-if4 invariant-loop decreases-loop
+sub-if4 : tie.Need-overflow_sub-n invariant-loop-i decreases-loop-i
 sub-if4 c = omega arith
 
-returns-4 : tie.Need-returns-4 invariant-loop decreases-loop
+returns-4 : tie.Need-returns-then-n-d invariant-loop-i decreases-loop-i
 returns-4 c = ap number_got (too_large (longer c.before.before) 18446744073709551615 (omega arith) (omega arith))
 
-mul-n : tie.Need-overflow-mul-n invariant-loop decreases-loop
+mul-n : tie.Need-overflow_mul-n-in-loop-i invariant-loop-i decreases-loop-i
 mul-n c = record { fits = omega arith }
 
-add-n : tie.Need-overflow-add-n invariant-loop decreases-loop
+add-n : tie.Need-overflow_add-n invariant-loop-i decreases-loop-i
 add-n c = record { fits = omega arith }
 
-add-i : tie.Need-overflow-add-i invariant-loop decreases-loop
+add-i : tie.Need-overflow_add-i invariant-loop-i decreases-loop-i
 add-i c = search rules
 
-loop-less : tie.Need-loop-smaller invariant-loop decreases-loop
+loop-less : tie.Need-loop-i-smaller invariant-loop-i decreases-loop-i
 loop-less c = omega arith
 
-loop-again : tie.Need-loop-preserved invariant-loop decreases-loop
+loop-again : tie.Need-loop-i-preserved invariant-loop-i decreases-loop-i
 loop-again c = (omega arith, omega arith, longer c.before.before)
 
-returns-5 : tie.Need-returns-5 invariant-loop decreases-loop
-returns-5 c = ap number_got (all_read c.before.loop.invariant.2 18446744073709551615 c.loop-test.false (omega arith) c.before.loop.invariant.1)
+returns-5 : tie.Need-returns invariant-loop-i decreases-loop-i
+returns-5 c = ap number_got (all_read c.loop-i.invariant.2 18446744073709551615 c.loop-i-test.false (omega arith) c.loop-i.invariant.1)
 
-pub wide-of-spec : {M : Type 1} → statement M
-wide-of-spec =
+pub wide_of_spec : {M : Type 1} → statement M
+wide_of_spec =
     tie.close
     (tie.spec
-    invariant-loop
-    decreases-loop
+    invariant-loop-i
+    decreases-loop-i
     returns
     loop-holds
     shared-slice-read-digit

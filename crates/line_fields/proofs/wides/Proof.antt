@@ -9,112 +9,109 @@ use Rattle.line_fields.proofs.Reading.{Read, begun, ended, gone, within, bad, mo
 use Rattle.line_fields.proofs.wides.Statement.{statement}
 use Rattle.line_fields.proofs.wides.Tie as tie
 
-abbrev invariant-loop : tie.invariant-loop
-invariant-loop s at list₀ from₀ k₀ list from k = (k ≤ length list₀) × Read wide_in s at (length list₀) from k list
+abbrev invariant-loop-k : tie.invariant-loop-k
+invariant-loop-k s at list₀ from₀ k₀ list from k = (k ≤ length list₀) × Read wide_in s at (length list₀) from k list
 
-abbrev decreases-loop : tie.decreases-loop
-decreases-loop s at list₀ from₀ k₀ list from k = length list₀ - k
+abbrev decreases-loop-k : tie.decreases-loop-k
+decreases-loop-k s at list₀ from₀ k₀ list from k = length list₀ - k
 
-loop-holds : tie.Need-loop-init invariant-loop decreases-loop
+loop-holds : tie.Need-loop-k-init invariant-loop-k decreases-loop-k
 loop-holds c = (omega arith, begun wide_in _ _ _)
 
-same_length : tie.Need-same-length invariant-loop decreases-loop
+same_length : tie.Need-shape_of-list-then-s-from invariant-loop-k decreases-loop-k
 same_length c = search rules
 
-returns : tie.Need-returns invariant-loop decreases-loop
-returns c = gone c.before.before.loop.invariant.1 c.before.loop-test.true c.if1.true
+returns : tie.Need-returns-then-s-from invariant-loop-k decreases-loop-k
+returns c = gone c.loop-k.invariant.1 c.loop-k-test.true c.if-s-from.true
 
-sub-before : tie.Need-overflow-sub-before invariant-loop decreases-loop
+sub-before : tie.Need-slice_bounds-before-count invariant-loop-k decreases-loop-k
 sub-before c = search rules
 
-part-before-start : tie.Need-slice-bounds-before-start invariant-loop decreases-loop
+part-before-start : tie.Need-slice_bounds-before-start invariant-loop-k decreases-loop-k
 part-before-start c = search rules
 
-part-before-end : tie.Need-slice-bounds-before-end invariant-loop decreases-loop
+part-before-end : tie.Need-slice_bounds-before-end invariant-loop-k decreases-loop-k
 part-before-end c = search rules
 
-before-requires : tie.Need-before-requires invariant-loop decreases-loop
+before-requires : tie.Need-before-requires invariant-loop-k decreases-loop-k
 before-requires c κs = search rules
 
 -- the token that was cut off ends in the text
-ends : (d : tie.After-before2 invariant-loop decreases-loop) → let l = d.before.before.before.before in l.loop.from + d.before2.result ≤ length l.before.before.before.args.s.now
+ends : (d : tie.After-before-in-loop-k invariant-loop-k decreases-loop-k) → d.loop-k.from + d.before-in-loop-k.result ≤ length d.args.s.now
 ends d =
-    let e = d.before.before in
-    within e.before.before.loop.invariant.1 e.before.loop-test.true e.if1.false d.before2.ensures
+    within d.loop-k.invariant.1 d.loop-k-test.true d.if-s-from.false d.before-in-loop-k.ensures
 
-add-end : tie.Need-overflow-add-end invariant-loop decreases-loop
+add-end : tie.Need-overflow_add-end invariant-loop-k decreases-loop-k
 add-end c = omega (arith, ends c)
 
-sub-wide-of : tie.Need-overflow-sub-wide-of invariant-loop decreases-loop
+sub-wide-of : tie.Need-slice_bounds-wide_of-count invariant-loop-k decreases-loop-k
 sub-wide-of c = search rules
 
-part-wide-of-start : tie.Need-slice-bounds-wide-of-start invariant-loop decreases-loop
+part-wide-of-start : tie.Need-slice_bounds-wide_of-start invariant-loop-k decreases-loop-k
 part-wide-of-start c = search rules
 
-part-wide-of-end : tie.Need-slice-bounds-wide-of-end invariant-loop decreases-loop
+part-wide-of-end : tie.Need-slice_bounds-wide_of-end invariant-loop-k decreases-loop-k
 part-wide-of-end c = omega (arith, ends c)
 
-wide-of-requires : tie.Need-wide-of-requires invariant-loop decreases-loop
+wide-of-requires : tie.Need-wide_of-requires invariant-loop-k decreases-loop-k
 wide-of-requires c κs = search rules
 
-enum-known-x : tie.Need-enum-known-x invariant-loop decreases-loop
+enum-known-x : tie.Need-enum_known-x invariant-loop-k decreases-loop-k
 enum-known-x c = search rules
 
-enum_told : tie.Need-enum-told invariant-loop decreases-loop
+enum_told : tie.Need-enum_told-1 invariant-loop-k decreases-loop-k
 enum_told c = search rules
 
-same-length-2 : tie.Need-same-length-2 invariant-loop decreases-loop
+same-length-2 : tie.Need-shape_of-list-in_default invariant-loop-k decreases-loop-k
 same-length-2 c = search rules
 
-returns-2 : tie.Need-returns-2 invariant-loop decreases-loop
+returns-2 : tie.Need-returns-in_default invariant-loop-k decreases-loop-k
 returns-2 c =
-    let d = c.before.before.before.before in
-    let e = d.before.before in
-    bad e.before.before.loop.invariant.1 e.before.loop-test.true e.if1.false d.before2.ensures
-    (sym (ap wide_got c.enum_told.given.1) ∙ c.before.before.wide_of.ensures)
+    bad c.loop-k.invariant.1 c.loop-k-test.true c.if-s-from.false c.before-in-loop-k.ensures
+    (sym (ap wide_got c.in_default.is) ∙ c.wide_of.ensures)
 
-mul-list : tie.Need-overflow-mul-list invariant-loop decreases-loop
+mul-list : tie.Need-offset_bounds-list-k invariant-loop-k decreases-loop-k
 mul-list c = search rules
 
-slice-write-list : tie.Need-slice-write-list invariant-loop decreases-loop
+slice-write-list : tie.Need-bounds-list-k invariant-loop-k decreases-loop-k
 slice-write-list c = search rules
 
-add-k : tie.Need-overflow-add-k invariant-loop decreases-loop
+add-k : tie.Need-overflow_add-k invariant-loop-k decreases-loop-k
 add-k c = search rules
 
 -- the way back from the number that was read to its token
-abbrev to-token : tie.After-known-told invariant-loop decreases-loop → tie.After-before2 invariant-loop decreases-loop
-to-token d = d.before.before.before.before.before
+abbrev to-token : tie.In-Got invariant-loop-k decreases-loop-k → tie.After-before-in-loop-k invariant-loop-k decreases-loop-k
+to-token d = d.before.before.before
 
-add-from : tie.Need-overflow-add-from invariant-loop decreases-loop
+add-from : tie.Need-overflow_add-from invariant-loop-k decreases-loop-k
 add-from c = omega (arith, ends (to-token c))
 
-loop-less : tie.Need-loop-smaller invariant-loop decreases-loop
+loop-less : tie.Need-loop-k-smaller invariant-loop-k decreases-loop-k
 loop-less c =
-    let e = (to-token c).before.before in
-    omega (arith, e.before.loop-test.taken, e.before.before.loop.inv.1.long)
+    let e = c.before.before in
+    omega (arith, e.loop-k-test.taken, e.loop-k.invariant.1.long)
 
-loop-again : tie.Need-loop-preserved invariant-loop decreases-loop
+loop-again : tie.Need-loop-k-preserved invariant-loop-k decreases-loop-k
 loop-again c =
     let d = to-token c in
     let e = d.before.before in (
-      omega (arith, e.before.loop-test.taken, e.before.before.loop.inv.1.long),
-      more e.before.before.loop.inv.1 e.before.loop-test.taken e.if1.left d.before2.ensures _ _ refl
-          (sym (ap wide_got c.before.x.given.1) ∙ c.before.before.before.wide_of.ensures),
+      omega (arith, e.loop-k-test.taken, e.loop-k.invariant.1.long),
+      more e.loop-k.invariant.1 e.loop-k-test.taken e.if-s-from.left d.before-in-loop-k.ensures _ _ refl
+          (sym (ap wide_got c.in-Got.is) ∙ c.wide_of.ensures),
     )
 
-same-length-3 : tie.Need-same-length-3 invariant-loop decreases-loop
+same-length-3 : tie.Need-shape_of-list invariant-loop-k decreases-loop-k
 same-length-3 c = search rules
 
-returns-3 : tie.Need-returns-3 invariant-loop decreases-loop
-returns-3 c = ended c.before.loop.invariant.1 c.loop-test.false
+returns-3 : tie.Need-returns invariant-loop-k decreases-loop-k
+returns-3 c = ended c.loop-k.invariant.1 c.loop-k-test.false
 
-pub wides-spec : {M : Type 1} → statement M
-wides-spec =
+pub wides_spec : {M : Type 1} → statement M
+wides_spec =
     tie.close
     (tie.spec
-    invariant-loop
-    decreases-loop
+    invariant-loop-k
+    decreases-loop-k
     loop-holds
     same_length
     returns

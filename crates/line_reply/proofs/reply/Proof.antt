@@ -7,44 +7,41 @@ use Rattle.line_reply.proofs.reply.Statement.{statement}
 use Rattle.line_reply.proofs.reply.Tie as tie
 
 -- the way back, from a place in the code to one that comes before it
-abbrev to_start : tie.After-fresh → tie.Start
+abbrev to_start : tie.After-fresh-none → tie.Start
 to_start c = c.before.before.before.before.before
 
-fresh-requires : tie.Need-fresh-requires
+fresh-requires : tie.Need-fresh-none-requires
 fresh-requires c κs = search rules
 
 unread-requires : tie.Need-unread-requires
 unread-requires c κs = search rules
 
-same_length : tie.Need-same-length
+same_length : tie.Need-shape_of-page-then-part
 same_length c = search rules
 
-returns : tie.Need-returns
+returns : tie.Need-returns-then-part
 returns c =
-    let none = c.before.before.before.before.before in
-    let start = to_start none in
-    (search rules, λ s g. replied refl c.before.before.unread.ensures (long-answered g start.args.lab.desk c.before.before.before.before.if1.true) none.fresh.ensures.1 refl)
+    let start = to_start c.before.before.before.before.before in
+    (search rules, λ s g. replied refl c.unread.ensures (long-answered g start.args.lab.desk c.if-part.true) c.fresh-none.ensures.1 refl)
 
-slice-aggregate-obey : tie.Need-slice-aggregate-obey
-slice-aggregate-obey c = sym (length-take-le _ _ (to_start c.before.before).requires.1)
+slice-aggregate-obey : tie.Need-slice_bounds-obey-end
+slice-aggregate-obey c = sym (length-take-le _ _ c.requires.1)
 
-obey-requires : tie.Need-obey-requires
+obey-requires : tie.Need-obey-done-requires
 obey-requires c κs = search rules
 
-same-length-2 : tie.Need-same-length-2
+same-length-2 : tie.Need-shape_of-page
 same-length-2 c = search rules
 
-returns-2 : tie.Need-returns-2
+returns-2 : tie.Need-returns
 returns-2 c =
-    let done = c.before.before.before in
-    let none = done.before.before.before.before in
-    let start = to_start none in (
+    let start = to_start c.before.before.before.before.before.before in (
       search rules,
-      λ s g. replied done.obey.ensures.desk done.obey.ensures.puts (line-answered g start.args.lab.desk done.before.before.before.if1.false) none.fresh.ensures.1 refl,
+      λ s g. replied c.obey-done.ensures.desk c.obey-done.ensures.puts (line-answered g start.args.lab.desk c.if-part.false) c.fresh-none.ensures.1 refl,
     )
 
-pub reply-spec : {M : Type 1} → statement M
-reply-spec =
+pub reply_spec : {M : Type 1} → statement M
+reply_spec =
     tie.close
     (tie.spec
     fresh-requires

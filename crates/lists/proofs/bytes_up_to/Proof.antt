@@ -9,43 +9,41 @@ use Rattle.lists.proofs.UpTo.{passes, fails, ends}
 use Rattle.lists.proofs.bytes_up_to.Statement.{statement}
 use Rattle.lists.proofs.bytes_up_to.Tie as tie
 
-abbrev invariant-loop : tie.invariant-loop
-invariant-loop list most j₀ j = (j ≤ length list) × (all_up_to most list ≡ all_up_to most (drop j list))
+abbrev invariant-loop-j : tie.invariant-loop-j
+invariant-loop-j list most j₀ j = (j ≤ length list) × (all_up_to most list ≡ all_up_to most (drop j list))
 
-abbrev decreases-loop : tie.decreases-loop
-decreases-loop list most j₀ j = length list - j
+abbrev decreases-loop-j : tie.decreases-loop-j
+decreases-loop-j list most j₀ j = length list - j
 
-loop-holds : tie.Need-loop-init invariant-loop decreases-loop
+loop-holds : tie.Need-loop-j-init invariant-loop-j decreases-loop-j
 loop-holds c = (omega arith, refl)
 
-shared-slice-read-if1 : tie.Need-shared-slice-read-if1 invariant-loop decreases-loop
+shared-slice-read-if1 : tie.Need-bounds-list-j invariant-loop-j decreases-loop-j
 shared-slice-read-if1 c = search rules
 
-returns : tie.Need-returns invariant-loop decreases-loop
+returns : tie.Need-returns-then-most-list invariant-loop-j decreases-loop-j
 returns c =
-    let n = c.before.before in
-    sym (n.before.loop.invariant.1 ∙ fails _ _ n.before.loop.j n.loop-test.true c.if1.true)
+    sym (c.loop-j.invariant.1 ∙ fails _ _ c.loop-j.j c.loop-j-test.true c.if-most-list.true)
 
-add-j : tie.Need-overflow-add-j invariant-loop decreases-loop
+add-j : tie.Need-overflow_add-j invariant-loop-j decreases-loop-j
 add-j c = search rules
 
-loop-less : tie.Need-loop-smaller invariant-loop decreases-loop
+loop-less : tie.Need-loop-j-smaller invariant-loop-j decreases-loop-j
 loop-less c = search rules
 
-loop-again : tie.Need-loop-preserved invariant-loop decreases-loop
+loop-again : tie.Need-loop-j-preserved invariant-loop-j decreases-loop-j
 loop-again c =
-    let n = c.before.before in
-    (search rules, n.before.loop.invariant.1 ∙ passes _ _ n.before.loop.j n.loop-test.true c.if1.false)
+    (search rules, c.loop-j.invariant.1 ∙ passes _ _ c.loop-j.j c.loop-j-test.true c.if-most-list.false)
 
-returns-2 : tie.Need-returns-2 invariant-loop decreases-loop
-returns-2 c = sym (c.before.loop.invariant.1 ∙ ends _ _ c.before.loop.j c.loop-test.false)
+returns-2 : tie.Need-returns invariant-loop-j decreases-loop-j
+returns-2 c = sym (c.loop-j.invariant.1 ∙ ends _ _ c.loop-j.j c.loop-j-test.false)
 
-pub bytes-up-to-spec : {M : Type 1} → statement M
-bytes-up-to-spec =
+pub bytes_up_to_spec : {M : Type 1} → statement M
+bytes_up_to_spec =
     tie.close
     (tie.spec
-    invariant-loop
-    decreases-loop
+    invariant-loop-j
+    decreases-loop-j
     loop-holds
     shared-slice-read-if1
     returns

@@ -9,58 +9,56 @@ use Rattle.lists.proofs.Lent.{copied_more, copied-length}
 use Rattle.lists.proofs.copy.Statement.{statement}
 use Rattle.lists.proofs.copy.Tie as tie
 
-abbrev invariant-loop : tie.invariant-loop
-invariant-loop from to₀ i₀ to i = (i ≤ length from) × (to ≡ take i from ++ drop i to₀)
+abbrev invariant-loop-i : tie.invariant-loop-i
+invariant-loop-i from to₀ i₀ to i = (i ≤ length from) × (to ≡ take i from ++ drop i to₀)
 
-abbrev decreases-loop : tie.decreases-loop
-decreases-loop from to₀ i₀ to i = length from - i
+abbrev decreases-loop-i : tie.decreases-loop-i
+decreases-loop-i from to₀ i₀ to i = length from - i
 
-whole : (p : tie.At-loop invariant-loop decreases-loop) → length p.loop.to ≡ length p.before.args.to.now
-whole p = copied-length p.before.args.from.now p.before.args.to.now p.loop.to p.loop.i 0 p.loop.invariant.1 (omega arith) (omega arith)
+whole : (p : tie.At-loop-i invariant-loop-i decreases-loop-i) → length p.loop-i.to ≡ length p.args.to.now
+whole p = copied-length p.args.from.now p.args.to.now p.loop-i.to p.loop-i.i 0 p.loop-i.invariant.1 (omega arith) (omega arith)
 
-loop-holds : tie.Need-loop-init invariant-loop decreases-loop
+loop-holds : tie.Need-loop-i-init invariant-loop-i decreases-loop-i
 loop-holds c = (omega arith, refl)
 
-mul-to : tie.Need-overflow-mul-to invariant-loop decreases-loop
+mul-to : tie.Need-offset_bounds-from-i invariant-loop-i decreases-loop-i
 mul-to c = omega arith
 
-shared-slice-read-to : tie.Need-shared-slice-read-to invariant-loop decreases-loop
+shared-slice-read-to : tie.Need-bounds-from-i invariant-loop-i decreases-loop-i
 shared-slice-read-to c = omega arith
 
-mul-to-2 : tie.Need-overflow-mul-to-2 invariant-loop decreases-loop
+mul-to-2 : tie.Need-offset_bounds-to-i invariant-loop-i decreases-loop-i
 mul-to-2 c = omega arith
 
-slice-write-to : tie.Need-slice-write-to invariant-loop decreases-loop
+slice-write-to : tie.Need-bounds-to-i invariant-loop-i decreases-loop-i
 slice-write-to c = let n = whole c.before.before in omega arith
 
-add-i : tie.Need-overflow-add-i invariant-loop decreases-loop
+add-i : tie.Need-overflow_add-i invariant-loop-i decreases-loop-i
 add-i c = omega arith
 
-loop-less : tie.Need-loop-smaller invariant-loop decreases-loop
+loop-less : tie.Need-loop-i-smaller invariant-loop-i decreases-loop-i
 loop-less c = omega arith
 
-loop-again : tie.Need-loop-preserved invariant-loop decreases-loop
+loop-again : tie.Need-loop-i-preserved invariant-loop-i decreases-loop-i
 loop-again c =
-    let p = c.before.before in
-    let n = whole p in
-    (omega arith, copied_more p.before.args.from.now p.before.args.to.now p.loop.to p.loop.i 0 p.loop.invariant.1 (omega arith) (omega arith))
+    let n = whole c.before.before in
+    (omega arith, copied_more c.args.from.now c.args.to.now c.loop-i.to c.loop-i.i 0 c.loop-i.invariant.1 (omega arith) (omega arith))
 
-same_length : tie.Need-same-length invariant-loop decreases-loop
+same_length : tie.Need-shape_of-to invariant-loop-i decreases-loop-i
 same_length c = whole c.before
 
-returns : tie.Need-returns invariant-loop decreases-loop
+returns : tie.Need-returns invariant-loop-i decreases-loop-i
 returns c =
-    let p = c.before in
-    let from = p.before.args.from.now in
-    let i : p.loop.i ≡ length from = omega arith in
-    p.loop.invariant.1 ∙ rw (i, take_all (length from) from (omega arith))
+    let from = c.args.from.now in
+    let i : c.loop-i.i ≡ length from = omega arith in
+    c.loop-i.invariant.1 ∙ rw (i, take_all (length from) from (omega arith))
 
 pub copy_spec : {M : Type 1} → statement M
 copy_spec =
     tie.close
     (tie.spec
-    invariant-loop
-    decreases-loop
+    invariant-loop-i
+    decreases-loop-i
     loop-holds
     mul-to
     shared-slice-read-to

@@ -15,33 +15,29 @@ use Rattle.maps.proofs.point_on.Tie as tie
 width-on : (n k : Map) (u : ℕ) → n ≡ k → has_width n u ≡ true → has_width k u ≡ true
 width-on n k u e h = subst (λ (n : Map). has_width n u ≡ true) e h
 
-enum_told : tie.Need-enum-told
+enum_told : tie.Need-enum_told-1
 enum_told c = search rules
 
-point-of-requires : tie.Need-point-of-requires
+point-of-requires : tie.Need-point_of-requires
 point-of-requires c κs =
-    let s = c.before.before in
-    (s.requires.0, listed s.args.u s.args.w (width-on s.args.map Round s.args.u c.enum_told.given.1 s.requires.1) s.requires.3)
+    (c.requires.0, listed c.args.u c.args.w (width-on c.args.map Round c.args.u c.in-Round.is c.requires.1) c.requires.3)
 
-enum-told-2 : tie.Need-enum-told-2
+enum-told-2 : tie.Need-enum_told-in-Square
 enum-told-2 c = search rules
 
-point-of-requires-2 : tie.Need-point-of-requires-2
+point-of-requires-2 : tie.Need-point_of-requires-in-Square
 point-of-requires-2 c κs =
-    let s = c.before.before in
-    (width-on s.args.map Square s.args.u c.enum-told2.given.1 s.requires.1, s.requires.2, s.requires.3)
+    (width-on c.args.map Square c.args.u c.in-Square.is c.requires.1, c.requires.2, c.requires.3)
 
-returns : tie.Need-returns
+returns : tie.Need-returns-in-Round
 returns c =
-    let s = c.before.before.before in
-    c.point-of.ensures ∙ sym (ap (λ (n : Map). point_on n s.args.u s.args.l s.args.w) c.before.enum_told.given.1)
+    c.point_of.ensures ∙ sym (ap (λ (n : Map). point_on n c.args.u c.args.l c.args.w) c.in-Round.is)
 
-returns-2 : tie.Need-returns-2
+returns-2 : tie.Need-returns-in-Square
 returns-2 c =
-    let s = c.before.before.before in
-    c.point-of2.ensures ∙ sym (ap (λ (n : Map). point_on n s.args.u s.args.l s.args.w) c.before.enum-told2.given.1)
+    c.point_of-in-Square.ensures ∙ sym (ap (λ (n : Map). point_on n c.args.u c.args.l c.args.w) c.in-Square.is)
 
-pub point-on-spec : {M : Type 1} → statement M
-point-on-spec =
+pub point_on_spec : {M : Type 1} → statement M
+point_on_spec =
     tie.close
     (tie.spec enum_told point-of-requires enum-told-2 point-of-requires-2 returns returns-2)

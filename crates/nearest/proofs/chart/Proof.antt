@@ -11,5 +11,5 @@ returns : tie.Need-returns
 unfolding chart_of
 returns c = c.table.ensures
 
-pub chart-spec : {M : Type 1} → statement M
-chart-spec = tie.close (tie.spec table-requires returns)
+pub chart_spec : {M : Type 1} → statement M
+chart_spec = tie.close (tie.spec table-requires returns)

@@ -4,13 +4,13 @@ use Rattle.trellis.specs.Measure.{counted}
 use Rattle.nearest.proofs.counted_of.Statement.{statement}
 use Rattle.nearest.proofs.counted_of.Tie as tie
 
-returns : tie.Need-returns
+returns : tie.Need-returns-then-d-gt-CAP
 unfolding counted
-returns c = omega (arith, c.if1.true)
+returns c = omega (arith, c.if-d-gt-CAP.true)
 
-returns-2 : tie.Need-returns-2
+returns-2 : tie.Need-returns-else-d-gt-CAP
 unfolding counted
-returns-2 c = omega (arith, c.if1.false)
+returns-2 c = omega (arith, c.if-d-gt-CAP.false)
 
-pub counted-of-spec : {M : Type 1} → statement M
-counted-of-spec = tie.close (tie.spec returns returns-2)
+pub counted_of_spec : {M : Type 1} → statement M
+counted_of_spec = tie.close (tie.spec returns returns-2)

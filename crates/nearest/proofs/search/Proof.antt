@@ -7,26 +7,24 @@ use Rattle.nearest.proofs.Missing.{none_found}
 use Rattle.nearest.proofs.search.Statement.{statement}
 use Rattle.nearest.proofs.search.Tie as tie
 
-enum-known-h : tie.Need-enum-known-h
+enum-known-h : tie.Need-enum_known-h
 enum-known-h c = search rules
 
-search-heard-requires : tie.Need-search-heard-requires
+search-heard-requires : tie.Need-search_heard-requires
 search-heard-requires c κs =
-    let s = c.before.before.before in
-    (s.requires.0, s.requires.1, subst InRange c.before.h.given.1 s.requires.2)
+    (c.requires.0, c.requires.1, subst InRange c.in-Heard.is c.requires.2)
 
-enum_told : tie.Need-enum-told
+enum_told : tie.Need-enum_told-1
 enum_told c = search rules
 
-returns : tie.Need-returns
+returns : tie.Need-returns-in-Heard
 returns c =
-    let h = c.before.before in
-    c.search-heard.ensures ∙ sym (ap (nearest_of h.before.before.args.k) h.h.given.1)
+    c.search_heard.ensures ∙ sym (ap (nearest_of c.args.k) c.in-Heard.is)
 
-returns-2 : tie.Need-returns-2
+returns-2 : tie.Need-returns-in-Missing
 returns-2 c =
-    let k = c.before.before.args.k in
-    none_found k ∙ sym (ap (nearest_of k) c.enum_told.given.1)
+    let k = c.args.k in
+    none_found k ∙ sym (ap (nearest_of k) c.in-Missing.is)
 
-pub search-spec : {M : Type 1} → statement M
-search-spec = tie.close (tie.spec enum-known-h search-heard-requires enum_told returns returns-2)
+pub search_spec : {M : Type 1} → statement M
+search_spec = tie.close (tie.spec enum-known-h search-heard-requires enum_told returns returns-2)

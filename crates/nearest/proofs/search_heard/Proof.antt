@@ -23,46 +23,44 @@ laid : (k : Accord) (h : Spot) (f : Found) (a c b d : ℕ) → f ≡ found_by k.
 unfolding nearest_of found_by near gap_of line_distance
 laid k h f a c b d e p q r s = rw (p, q, r, s, e)
 
-search-on-requires : tie.Need-search-on-requires
+search-on-requires : tie.Need-search_on-f-requires
 unfolding chart_of
 search-on-requires c κs = (c.requires.0, c.requires.1, c.requires.2)
 
-array-read-counted-of : tie.Need-array-read-counted-of
+array-read-counted-of : tie.Need-bounds-d-0
 array-read-counted-of c = search rules
 
-counted-of-requires : tie.Need-counted-of-requires
+counted-of-requires : tie.Need-counted_of-requires
 counted-of-requires c κs = search rules
 
-array-read-counted-of-2 : tie.Need-array-read-counted-of-2
+array-read-counted-of-2 : tie.Need-bounds-d-1
 array-read-counted-of-2 c = search rules
 
-counted-of-requires-2 : tie.Need-counted-of-requires-2
+counted-of-requires-2 : tie.Need-counted_of-requires-2
 counted-of-requires-2 c κs = search rules
 
-array-read-counted-of-3 : tie.Need-array-read-counted-of-3
+array-read-counted-of-3 : tie.Need-bounds-d-2
 array-read-counted-of-3 c = search rules
 
-counted-of-requires-3 : tie.Need-counted-of-requires-3
+counted-of-requires-3 : tie.Need-counted_of-requires-3
 counted-of-requires-3 c κs = search rules
 
-array-read-counted-of-4 : tie.Need-array-read-counted-of-4
+array-read-counted-of-4 : tie.Need-bounds-d-3
 array-read-counted-of-4 c = search rules
 
-counted-of-requires-4 : tie.Need-counted-of-requires-4
+counted-of-requires-4 : tie.Need-counted_of-requires-4
 counted-of-requires-4 c κs = search rules
 
 returns : tie.Need-returns
 returns c =
-    let f = c.before.before.before.before.before.before in
-    let s = f.before in
-    laid s.args.k s.args.h f.search-on.result _ _ _ _ f.search-on.ensures
-    c.before.before.before.Counted-of.ensures
-    c.before.before.counted-of2.ensures
-    c.before.counted-of3.ensures
-    c.counted-of4.ensures
+    laid c.args.k c.args.h c.search_on-f.result _ _ _ _ c.search_on-f.ensures
+    c.counted_of.ensures
+    c.counted_of-2.ensures
+    c.counted_of-3.ensures
+    c.counted_of-4.ensures
 
-pub search-heard-spec : {M : Type 1} → statement M
-search-heard-spec =
+pub search_heard_spec : {M : Type 1} → statement M
+search_heard_spec =
     tie.close
     (tie.spec
     search-on-requires

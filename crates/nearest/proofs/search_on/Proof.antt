@@ -28,32 +28,28 @@ module _ (u : ℕ) (h : Spot) where
 width-on : (n k : Map) (u : ℕ) → n ≡ k → has_width n u ≡ true → has_width k u ≡ true
 width-on n k u e h = subst (λ (n : Map). has_width n u ≡ true) e h
 
-enum_told : tie.Need-enum-told
+enum_told : tie.Need-enum_told-1
 enum_told c = search rules
 
 search-requires : tie.Need-search-requires
 search-requires c κs =
-    let s = c.before.before in
-    (s.requires.0, width-le Round s.args.u (width-on s.args.map Round s.args.u c.enum_told.given.1 s.requires.1), s.requires.2)
+    (c.requires.0, width-le Round c.args.u (width-on c.args.map Round c.args.u c.in-Round.is c.requires.1), c.requires.2)
 
-enum-told-2 : tie.Need-enum-told-2
+enum-told-2 : tie.Need-enum_told-in-Square
 enum-told-2 c = search rules
 
-search-requires-2 : tie.Need-search-requires-2
+search-requires-2 : tie.Need-search-requires-in-Square
 search-requires-2 c κs =
-    let s = c.before.before in
-    (width-on s.args.map Square s.args.u c.enum-told2.given.1 s.requires.1, s.requires.2)
+    (width-on c.args.map Square c.args.u c.in-Square.is c.requires.1, c.requires.2)
 
-returns : tie.Need-returns
+returns : tie.Need-returns-in-Round
 returns c =
-    let s = c.before.before.before in
-    c.search.ensures ∙ round s.args.u s.args.h ∙ sym (ap (λ (n : Map). found_by s.args.u (map_distance n s.args.u) s.args.h) c.before.enum_told.given.1)
+    c.search.ensures ∙ round c.args.u c.args.h ∙ sym (ap (λ (n : Map). found_by c.args.u (map_distance n c.args.u) c.args.h) c.in-Round.is)
 
-returns-2 : tie.Need-returns-2
+returns-2 : tie.Need-returns-in-Square
 returns-2 c =
-    let s = c.before.before.before in
-    c.search2.ensures ∙ square s.args.u s.args.h ∙ sym (ap (λ (n : Map). found_by s.args.u (map_distance n s.args.u) s.args.h) c.before.enum-told2.given.1)
+    c.search-in-Square.ensures ∙ square c.args.u c.args.h ∙ sym (ap (λ (n : Map). found_by c.args.u (map_distance n c.args.u) c.args.h) c.in-Square.is)
 
-pub search-on-spec : {M : Type 1} → statement M
-search-on-spec =
+pub search_on_spec : {M : Type 1} → statement M
+search_on_spec =
     tie.close (tie.spec enum_told search-requires enum-told-2 search-requires-2 returns returns-2)

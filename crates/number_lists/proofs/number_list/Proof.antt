@@ -9,105 +9,103 @@ use Rattle.number_lists.proofs.Lists.{Listed, Reading, none-listed, token-within
 use Rattle.number_lists.proofs.number_list.Statement.{statement}
 use Rattle.number_lists.proofs.number_list.Tie as tie
 
-abbrev invariant-loop : tie.invariant-loop
-invariant-loop s list₀ from₀ k₀ list from k = (from ≤ length s) × (k ≤ length list) × Listed number_in s list₀ from k list
+abbrev invariant-loop-k : tie.invariant-loop-k
+invariant-loop-k s list₀ from₀ k₀ list from k = (from ≤ length s) × (k ≤ length list) × Listed number_in s list₀ from k list
 
-abbrev decreases-loop : tie.decreases-loop
-decreases-loop s list₀ from₀ k₀ list from k = length s + 1 - from
+abbrev decreases-loop-k : tie.decreases-loop-k
+decreases-loop-k s list₀ from₀ k₀ list from k = length s + 1 - from
 
-loop-holds : tie.Need-loop-init invariant-loop decreases-loop
+loop-holds : tie.Need-loop-k-init invariant-loop-k decreases-loop-k
 loop-holds c = (search rules, search rules, none-listed number_in _ _)
 
-sub-before : tie.Need-overflow-sub-before invariant-loop decreases-loop
+sub-before : tie.Need-slice_bounds-before-count invariant-loop-k decreases-loop-k
 sub-before c = search rules
 
-part-before-start : tie.Need-slice-bounds-before-start invariant-loop decreases-loop
+part-before-start : tie.Need-slice_bounds-before-start invariant-loop-k decreases-loop-k
 part-before-start c = search rules
 
-part-before-end : tie.Need-slice-bounds-before-end invariant-loop decreases-loop
+part-before-end : tie.Need-slice_bounds-before-end invariant-loop-k decreases-loop-k
 part-before-end c = search rules
 
-before-requires : tie.Need-before-requires invariant-loop decreases-loop
+before-requires : tie.Need-before-requires invariant-loop-k decreases-loop-k
 before-requires c κs = search rules
 
 -- the token that was cut off, as the loop stands
-reading : (d : tie.After-before2 invariant-loop decreases-loop) → let a = d.before.before.before.before.before.before.args in let l = d.before.before.before.loop in
-    Reading number_in a.s.now a.list.now l.from l.k l.list d.before2.result
+reading : (d : tie.After-before-in-loop-k invariant-loop-k decreases-loop-k) → let a = d.args in let l = d.loop-k in
+    Reading number_in a.s.now a.list.now l.from l.k l.list d.before-in-loop-k.result
 reading d =
-    let l = d.before.before.before.loop in
-    record { listed = l.invariant.2; begun = l.invariant.0; space = d.before.before.loop-test.true; cut = d.before2.ensures }
+    let l = d.loop-k in
+    record { listed = l.invariant.2; begun = l.invariant.0; space = d.loop-k-test.true; cut = d.before-in-loop-k.ensures }
 
-add-stop : tie.Need-overflow-add-stop invariant-loop decreases-loop
+add-stop : tie.Need-overflow_add-stop invariant-loop-k decreases-loop-k
 add-stop c = omega (arith, token-within (reading c))
 
-sub-decimal : tie.Need-overflow-sub-decimal invariant-loop decreases-loop
+sub-decimal : tie.Need-slice_bounds-decimal-count invariant-loop-k decreases-loop-k
 sub-decimal c = search rules
 
-part-decimal-start : tie.Need-slice-bounds-decimal-start invariant-loop decreases-loop
+part-decimal-start : tie.Need-slice_bounds-decimal-start invariant-loop-k decreases-loop-k
 part-decimal-start c = search rules
 
-part-decimal-end : tie.Need-slice-bounds-decimal-end invariant-loop decreases-loop
+part-decimal-end : tie.Need-slice_bounds-decimal-end invariant-loop-k decreases-loop-k
 part-decimal-end c = omega (arith, token-within (reading c))
 
-decimal-requires : tie.Need-decimal-requires invariant-loop decreases-loop
+decimal-requires : tie.Need-decimal-requires invariant-loop-k decreases-loop-k
 decimal-requires c κs = search rules
 
-enum-known-x : tie.Need-enum-known-x invariant-loop decreases-loop
+enum-known-x : tie.Need-enum_known-x invariant-loop-k decreases-loop-k
 enum-known-x c = search rules
 
-enum_told : tie.Need-enum-told invariant-loop decreases-loop
+enum_told : tie.Need-enum_told-1 invariant-loop-k decreases-loop-k
 enum_told c = search rules
 
-same_length : tie.Need-same-length invariant-loop decreases-loop
+same_length : tie.Need-shape_of-list-in_default invariant-loop-k decreases-loop-k
 same_length c = search rules
 
-returns : tie.Need-returns invariant-loop decreases-loop
-returns c = list-bad (reading c.before.before.before.before) (ap number_got (sym c.enum_told.given.1 ∙ c.before.before.decimal.ensures))
+returns : tie.Need-returns-in_default invariant-loop-k decreases-loop-k
+returns c = list-bad (reading c.before.before.before) (ap number_got (sym c.in_default.is ∙ c.decimal.ensures))
 
 -- the way back from the number that was read to its token
-abbrev to-token : tie.After-known-told invariant-loop decreases-loop → tie.After-before2 invariant-loop decreases-loop
-to-token d = d.before.before.before.before.before
+abbrev to-token : tie.In-Got invariant-loop-k decreases-loop-k → tie.After-before-in-loop-k invariant-loop-k decreases-loop-k
+to-token d = d.before.before.before
 
-mul-list : tie.Need-overflow-mul-list invariant-loop decreases-loop
+mul-list : tie.Need-offset_bounds-list-k invariant-loop-k decreases-loop-k
 mul-list c = search rules
 
-slice-write-list : tie.Need-slice-write-list invariant-loop decreases-loop
+slice-write-list : tie.Need-bounds-list-k invariant-loop-k decreases-loop-k
 slice-write-list c = search rules
 
-add-k : tie.Need-overflow-add-k invariant-loop decreases-loop
+add-k : tie.Need-overflow_add-k invariant-loop-k decreases-loop-k
 add-k c = search rules
 
-same-length-2 : tie.Need-same-length-2 invariant-loop decreases-loop
+same-length-2 : tie.Need-shape_of-list-then-stop-s invariant-loop-k decreases-loop-k
 same-length-2 c = search rules
 
-returns-2 : tie.Need-returns-2 invariant-loop decreases-loop
+returns-2 : tie.Need-returns-then-stop-s invariant-loop-k decreases-loop-k
 returns-2 c =
-    let d = c.before in
-    list_done (reading (to-token d)) _ _ refl (ap number_got (sym d.before.x.given.1 ∙ d.before.before.before.decimal.ensures)) c.if1.true
+    list_done (reading (to-token c.before)) _ _ refl (ap number_got (sym c.in-Got.is ∙ c.decimal.ensures)) c.if-stop-s.true
 
-add-from : tie.Need-overflow-add-from invariant-loop decreases-loop
+add-from : tie.Need-overflow_add-from invariant-loop-k decreases-loop-k
 add-from c = omega (arith, token-within (reading (to-token c.before)))
 
-loop-less : tie.Need-loop-smaller invariant-loop decreases-loop
+loop-less : tie.Need-loop-k-smaller invariant-loop-k decreases-loop-k
 loop-less c = omega (arith, token-within (reading (to-token c.before)))
 
-loop-again : tie.Need-loop-preserved invariant-loop decreases-loop
+loop-again : tie.Need-loop-k-preserved invariant-loop-k decreases-loop-k
 loop-again c =
-    let d = c.before in
-    list-more (reading (to-token d)) _ _ refl (ap number_got (sym d.before.x.given.1 ∙ d.before.before.before.decimal.ensures)) c.if1.false
+    list-more (reading (to-token c.before)) _ _ refl (ap number_got (sym c.in-Got.is ∙ c.decimal.ensures)) c.if-stop-s.false
 
-same-length-3 : tie.Need-same-length-3 invariant-loop decreases-loop
+same-length-3 : tie.Need-shape_of-list invariant-loop-k decreases-loop-k
 same-length-3 c = search rules
 
-returns-3 : tie.Need-returns-3 invariant-loop decreases-loop
-returns-3 c = list_full c.before.loop.invariant.2 (omega arith)
+returns-3 : tie.Need-returns invariant-loop-k decreases-loop-k
+returns-3 c = list_full c.loop-k.invariant.2 (omega arith)
 
-pub number-list-spec : {M : Type 1} → statement M
-number-list-spec =
+pub number_list_spec : {M : Type 1} → statement M
+number_list_spec =
     tie.close
     (tie.spec
-    invariant-loop
-    decreases-loop
+    invariant-loop-k
+    decreases-loop-k
     loop-holds
     sub-before
     part-before-start

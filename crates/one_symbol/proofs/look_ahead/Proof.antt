@@ -6,44 +6,38 @@ use borrow.Author.Rules.{rules}
 use Rattle.one_symbol.proofs.look_ahead.Statement.{statement}
 use Rattle.one_symbol.proofs.look_ahead.Tie as tie
 
-weigh-requires : tie.Need-weigh-requires
+weigh-requires : tie.Need-weigh-w-requires
 weigh-requires c κs = search rules
 
-advance-requires : tie.Need-advance-requires
+advance-requires : tie.Need-advance-next-requires
 advance-requires c κs =
-    let w = c.before.before.before.before.before in
-    let s = w.before in
-    summable s.args.core s.args.sums.now s.args.first s.args.second w.weigh.result s.requires.1 s.requires.0.1 s.requires.0.2 w.weigh.ensures
+    summable c.args.core c.args.sums.now c.args.first c.args.second c.weigh-w.result c.requires.1 c.requires.0.1 c.requires.0.2 c.weigh-w.ensures
 
-words-before-requires : tie.Need-words-before-requires
+words-before-requires : tie.Need-words_before-ways-requires
 words-before-requires c κs = search rules
 
-agreed-requires : tie.Need-agreed-requires
+agreed-requires : tie.Need-agreed-agreed-requires
 agreed-requires c κs =
-    let f = c.before.before.before.before.before.before.before.before.before.before.before.before.before.requires.1.core-fits in
-    (omega (arith, f.held, f.small-window), c.before.before.words-before.ensures)
+    let f = c.requires.1.core-fits in
+    (omega (arith, f.held, f.small-window), c.words_before-ways.ensures)
 
-numbers-of-requires : tie.Need-numbers-of-requires
+numbers-of-requires : tie.Need-numbers_of-requires
 numbers-of-requires c κs = search rules
 
-array-read-t26 : tie.Need-array-read-t26
+array-read-t26 : tie.Need-bounds-steps-0
 array-read-t26 c = search rules
 
-cast-t29 : tie.Need-overflow-cast-t29
+cast-t29 : tie.Need-overflow_cast-result
 cast-t29 c = search rules
 
 returns : tie.Need-returns
 returns c =
-    let g = c.before in
-    let m = g.before.before.before in
-    let n = m.before.before.before.before in
-    let w = n.before.before.before.before.before.before in
-    let a = w.before.args in
-    looked a.core a.sums.now a.registers.now (heard_as a.first a.second) w.weigh.result n.advance.result m.words-before.result g.agreed.result c.Numbers-of.result
-    w.weigh.ensures n.advance.ensures m.words-before.ensures g.agreed.ensures c.Numbers-of.ensures
+    let a = c.args in
+    looked a.core a.sums.now a.registers.now (heard_as a.first a.second) c.weigh-w.result c.advance-next.result c.words_before-ways.result c.agreed-agreed.result c.numbers_of.result
+    c.weigh-w.ensures c.advance-next.ensures c.words_before-ways.ensures c.agreed-agreed.ensures c.numbers_of.ensures
 
-pub look-ahead-spec : {M : Type 1} → statement M
-look-ahead-spec =
+pub look_ahead_spec : {M : Type 1} → statement M
+look_ahead_spec =
     tie.close
     (tie.spec
     weigh-requires

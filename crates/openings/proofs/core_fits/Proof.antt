@@ -16,15 +16,15 @@ together true true false d e f = refl
 together true true true false e f = refl
 together true true true true e f = refl
 
-is-accord-requires : tie.Need-is-accord-requires
+is-accord-requires : tie.Need-is_accord-requires
 is-accord-requires c κs = search rules
 
 returns : tie.Need-returns
 unfolding sound_core
 returns c =
-    let k = c.before.before.before.before.before.before.before.args.c in
-    rw c.before.before.before.before.before.is-accord.ensures
+    let k = c.args.c in
+    rw c.is_accord.ensures
     (together (is_accord k.accord) (leb 1 k.window) (leb k.window 64) (leb k.turn 4) (ltb k.slot 64) (leb k.pending k.window))
 
-pub core-fits-spec : {M : Type 1} → statement M
-core-fits-spec = tie.close (tie.spec is-accord-requires returns)
+pub core_fits_spec : {M : Type 1} → statement M
+core_fits_spec = tie.close (tie.spec is-accord-requires returns)

@@ -16,29 +16,29 @@ use Rattle.openings.proofs.fresh_sums.Tie as tie
 below : (b : Start) (n : ℕ) → b ≡ At n → start_fits b ≡ true → n < 16
 below b n e f = omega (arith, leb-true n 15 (sym (ap start_fits e) ∙ f))
 
-enum_told : tie.Need-enum-told
+enum_told : tie.Need-enum_told-1
 enum_told c = search rules
 
-enum-known-start : tie.Need-enum-known-start
+enum-known-start : tie.Need-enum_known-start
 enum-known-start c = search rules
 
-cast-sums : tie.Need-overflow-cast-sums
+cast-sums : tie.Need-overflow_cast-sums
 cast-sums c = search rules
 
-mul-sums : tie.Need-overflow-mul-sums
+mul-sums : tie.Need-offset_bounds-sums-s
 mul-sums c = search rules
 
-array-write-sums : tie.Need-array-write-sums
-array-write-sums c = below _ _ c.before.start.given.1 c.before.before.before.requires
+array-write-sums : tie.Need-bounds-sums-s
+array-write-sums c = below _ _ c.in-At.is c.requires
 
-returns : tie.Need-returns
+returns : tie.Need-returns-in-Free
 unfolding fresh_sums
-returns c = sym (ap (λ (b : Start). fresh_sums (start_of b)) c.enum_told.given.1)
+returns c = sym (ap (λ (b : Start). fresh_sums (start_of b)) c.in-Free.is)
 
-returns-2 : tie.Need-returns-2
-returns-2 c = named-sums _ (below _ _ c.before.start.given.1 c.before.before.before.requires) ∙ sym (ap (λ (b : Start). fresh_sums (start_of b)) c.before.start.given.1)
+returns-2 : tie.Need-returns-in-At
+returns-2 c = named-sums _ (below _ _ c.in-At.is c.requires) ∙ sym (ap (λ (b : Start). fresh_sums (start_of b)) c.in-At.is)
 
-pub fresh-sums-spec : {M : Type 1} → statement M
-fresh-sums-spec =
+pub fresh_sums_spec : {M : Type 1} → statement M
+fresh_sums_spec =
     tie.close
     (tie.spec enum_told enum-known-start cast-sums mul-sums array-write-sums returns returns-2)

@@ -5,11 +5,11 @@ use borrow.Author.Rules.{rules}
 use Rattle.openings.proofs.not_opened.Statement.{statement}
 use Rattle.openings.proofs.not_opened.Tie as tie
 
-closed-receiver-requires : tie.Need-closed-receiver-requires
+closed-receiver-requires : tie.Need-closed_receiver-requires
 closed-receiver-requires c κs = search rules
 
 returns : tie.Need-returns
-returns c = ap (λ (rx : Receiver). record { receiver = rx; why = c.before.args.why }) c.closed-receiver.ensures
+returns c = ap (λ (rx : Receiver). record { receiver = rx; why = c.args.why }) c.closed_receiver.ensures
 
-pub not-opened-spec : {M : Type 1} → statement M
-not-opened-spec = tie.close (tie.spec closed-receiver-requires returns)
+pub not_opened_spec : {M : Type 1} → statement M
+not_opened_spec = tie.close (tie.spec closed-receiver-requires returns)

@@ -17,81 +17,76 @@ use borrow.Author.Rules.{rules}
 use Rattle.openings.proofs.open_receiver.Statement.{statement}
 use Rattle.openings.proofs.open_receiver.Tie as tie
 
-is-accord-requires : tie.Need-is-accord-requires
+is-accord-requires : tie.Need-is_accord-requires
 is-accord-requires c κs = search rules
 
-not-opened-requires : tie.Need-not-opened-requires
+not-opened-requires : tie.Need-not_opened-requires
 not-opened-requires c κs = search rules
 
-returns : tie.Need-returns
+returns : tie.Need-returns-then-not-is_accord
 returns c =
-    let a = c.before.before.before.args in
-    opens-wide a.accord a.window a.start c.not_opened.result (sym c.before.before.is-accord.ensures ∙ not-true _ c.before.if1.true) c.not_opened.ensures
+    let a = c.args in
+    opens-wide a.accord a.window a.start c.not_opened.result (sym c.is_accord.ensures ∙ c.if-not-is_accord.true) c.not_opened.ensures
 
 -- the accord has passed
-module _ (e : tie.Else1) where
+module _ (e : tie.Else-not-is_accord) where
   abbrev k : Accord
-  k = e.before.before.args.accord
+  k = e.args.accord
 
   abbrev w : ℕ
-  w = e.before.before.args.window
+  w = e.args.window
 
   abbrev b : Start
-  b = e.before.before.args.start
+  b = e.args.start
 
   fits : is_accord k ≡ true
-  fits = sym e.before.is-accord.ensures ∙ not-false _ e.if1.left
+  fits = sym e.is_accord.ensures ∙ not-false _ e.if-not-is_accord.left
 
-not-opened-requires-2 : tie.Need-not-opened-requires-2
+not-opened-requires-2 : tie.Need-not_opened-requires-then-not-window
 not-opened-requires-2 c κs = search rules
 
-returns-2 : tie.Need-returns-2
-returns-2 c = let e = c.before.before in opens-window (k e) (w e) (b e) c.not-opened2.result (fits e) (not-true _ c.before.if2.true) c.not-opened2.ensures
+returns-2 : tie.Need-returns-then-not-window
+returns-2 c = opens-window (k c.before.before) (w c.before.before) (b c.before.before) c.not_opened-then-not-window.result (fits c.before.before) (c.if-not-window.true) c.not_opened-then-not-window.ensures
 
-start-fits-requires : tie.Need-start-fits-requires
+start-fits-requires : tie.Need-start_fits-requires
 start-fits-requires c κs = search rules
 
 -- the window has passed
-held : (h : tie.Else2) → (leb 1 (w h.before) && leb (w h.before) 64) ≡ true
-held h = not-false _ h.if2.false
+held : (h : tie.Else-not-window) → (leb 1 (w h.before) && leb (w h.before) 64) ≡ true
+held h = h.if-not-window.false
 
-not-opened-requires-3 : tie.Need-not-opened-requires-3
+not-opened-requires-3 : tie.Need-not_opened-requires-then-not-start_fits
 not-opened-requires-3 c κs = search rules
 
-returns-3 : tie.Need-returns-3
+returns-3 : tie.Need-returns-then-not-start_fits
 returns-3 c =
-    let h = c.before.before.before in
-    let e = h.before in
-    opens-start (k e) (w e) (b e) c.not-opened3.result (fits e) (held h)
-    (sym c.before.before.start_fits.ensures ∙ not-true c.before.before.start_fits.result c.before.if3.true) c.not-opened3.ensures
+    opens-start (k c.before.before.before.before) (w c.before.before.before.before) (b c.before.before.before.before) c.not_opened-then-not-start_fits.result (fits c.before.before.before.before) (held c.before.before.before)
+    (sym c.start_fits.ensures ∙ c.if-not-start_fits.true) c.not_opened-then-not-start_fits.ensures
 
-first-turn-requires : tie.Need-first-turn-requires
+first-turn-requires : tie.Need-first_turn-requires
 first-turn-requires c κs = search rules
 
-fresh-core-requires : tie.Need-fresh-core-requires
+fresh-core-requires : tie.Need-fresh_core-requires
 fresh-core-requires c κs = search rules
 
 -- the start has passed
-starts : (s : tie.Else3) → start_fits (b s.before.before.before) ≡ true
-starts s = sym s.before.start_fits.ensures ∙ not-false s.before.start_fits.result s.if3.false
+starts : (s : tie.Else-not-start_fits) → start_fits (b s.before.before.before) ≡ true
+starts s = sym s.start_fits.ensures ∙ s.if-not-start_fits.false
 
-fresh-sums-requires : tie.Need-fresh-sums-requires
+fresh-sums-requires : tie.Need-fresh_sums-requires
 fresh-sums-requires c κs = starts c.before.before
 
-returns-4 : tie.Need-returns-4
+returns-4 : tie.Need-returns
 unfolding opened
 returns-4 c =
-    let s = c.before.before.before in
-    let h = s.before.before in
-    let e = h.before in
-    let f = c.before.fresh-core.ensures ∙ ap (core (k e) (w e)) c.before.before.first-turn.ensures in
-    let g = c.fresh-sums.ensures in
-    let m = and_both _ _ (held h) in
-    opens-done (k e) (w e) (b e) _ (fits e) (leb-true 1 (w e) m.0) (leb-true (w e) 64 m.1) (starts s)
+    let f = c.fresh_core.ensures ∙ ap (core (k c.before.before.before.before.before.before) (w c.before.before.before.before.before.before)) c.first_turn.ensures in
+    let g = c.fresh_sums.ensures in
+    let m = and_both _ _ (held c.before.before.before.before.before) in
+    opens-done (k c.before.before.before.before.before.before) (w c.before.before.before.before.before.before) (b c.before.before.before.before.before.before) _ (fits c.before.before.before.before.before.before) (leb-true 1 (w c.before.before.before.before.before.before) m.0) (leb-true (w c.before.before.before.before.before.before) 64 m.1) (starts c.before.before.before)
     (λ i. record { receiver = record { live = true; core = f i; sums = g i; registers = replicate 48 0; picks = replicate 72 0 }; why = Done })
 
-pub open-receiver-spec : {M : Type 1} → statement M
-open-receiver-spec =
+pub open_receiver_spec : {M : Type 1} → statement M
+open_receiver_spec =
     tie.close
     (tie.spec
     is-accord-requires

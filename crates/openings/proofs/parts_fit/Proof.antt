@@ -5,14 +5,14 @@ use borrow.Author.Rules.{rules}
 use Rattle.openings.proofs.parts_fit.Statement.{statement}
 use Rattle.openings.proofs.parts_fit.Tie as tie
 
-core-fits-requires : tie.Need-core-fits-requires
+core-fits-requires : tie.Need-core_fits-requires
 core-fits-requires c κs = search rules
 
-all-up-to-requires : tie.Need-all-up-to-requires
+all-up-to-requires : tie.Need-all_up_to-requires
 all-up-to-requires c κs = search rules
 
 returns : tie.Need-returns
-returns c = ap₂ (λ (a b : Bool). c.before.before.args.live && (a && b)) c.before.core-fits.ensures c.all-up-to.ensures
+returns c = ap₂ (λ (a b : Bool). c.args.live && (a && b)) c.core_fits.ensures c.all_up_to.ensures
 
-pub parts-fit-spec : {M : Type 1} → statement M
-parts-fit-spec = tie.close (tie.spec core-fits-requires all-up-to-requires returns)
+pub parts_fit_spec : {M : Type 1} → statement M
+parts_fit_spec = tie.close (tie.spec core-fits-requires all-up-to-requires returns)

@@ -6,19 +6,19 @@ use borrow.Author.Rules.{rules}
 use Rattle.phrases.proofs.next_whole.Statement.{statement}
 use Rattle.phrases.proofs.next_whole.Tie as tie
 
-put-byte-requires : tie.Need-put-byte-requires
+put-byte-requires : tie.Need-put_byte-p-requires
 put-byte-requires c κs = search rules
 
-put-whole-requires : tie.Need-put-whole-requires
+put-whole-requires : tie.Need-put_whole-requires
 put-whole-requires c κs = search rules
 
-same_length : tie.Need-same-length
+same_length : tie.Need-shape_of-page
 same_length c = search rules
 
 returns : tie.Need-returns
 returns c =
-    joined (omega arith) c.before.before.before.before.before.before.put_byte.ensures
-    (says-whole _ c.before.before.before.before.before.before.before.before.before.ranges.x c.before.before.put_whole.ensures)
+    joined (omega arith) c.put_byte-p.ensures
+    (says-whole _ c.ranges.x c.put_whole.ensures)
 
-pub next-whole-spec : {M : Type 1} → statement M
-next-whole-spec = tie.close (tie.spec put-byte-requires put-whole-requires same_length returns)
+pub next_whole_spec : {M : Type 1} → statement M
+next_whole_spec = tie.close (tie.spec put-byte-requires put-whole-requires same_length returns)

@@ -6,32 +6,28 @@ use borrow.Author.Rules.{rules}
 use Rattle.phrases.proofs.said.Statement.{statement}
 use Rattle.phrases.proofs.said.Tie as tie
 
-returns : tie.Need-returns
-returns c = puts-as (none_said _ c.if1.true) (nothing_put _ _)
+returns : tie.Need-returns-then-written-eq0
+returns c = puts-as (none_said _ c.if-written-eq0.true) (nothing_put _ _)
 
-slice-aggregate-put-text : tie.Need-slice-aggregate-put-text
-slice-aggregate-put-text c = search rules
-
-put-text-requires : tie.Need-put-text-requires
+put-text-requires : tie.Need-put_text-p-requires
 put-text-requires c κs = search rules
 
 words-requires : tie.Need-words-requires
 words-requires c κs = search rules
 
-same_length : tie.Need-same-length
+same_length : tie.Need-shape_of-page
 same_length c = search rules
 
-returns-2 : tie.Need-returns-2
+returns-2 : tie.Need-returns
 returns-2 c =
-    puts-as (some-said _ c.before.before.before.before.before.before.before.before.before.if1.false)
-    (joined (omega arith) c.before.before.before.before.before.before.put-text.ensures c.before.before.words.ensures)
+    puts-as (some-said _ c.if-written-eq0.false)
+    (joined (omega arith) c.put_text-p.ensures c.words.ensures)
 
-pub said-spec : {M : Type 1} → statement M
-said-spec =
+pub said_spec : {M : Type 1} → statement M
+said_spec =
     tie.close
     (tie.spec
     returns
-    slice-aggregate-put-text
     put-text-requires
     words-requires
     same_length

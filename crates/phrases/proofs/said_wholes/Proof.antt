@@ -6,32 +6,27 @@ use borrow.Author.Rules.{rules}
 use Rattle.phrases.proofs.said_wholes.Statement.{statement}
 use Rattle.phrases.proofs.said_wholes.Tie as tie
 
-returns : tie.Need-returns
-returns c = puts-as (no-coordinates _ c.if1.true) (nothing_put _ _)
+returns : tie.Need-returns-then-written-eq0
+returns c = puts-as (no-coordinates _ c.if-written-eq0.true) (nothing_put _ _)
 
-slice-aggregate-put-text : tie.Need-slice-aggregate-put-text
-slice-aggregate-put-text c = search rules
-
-put-text-requires : tie.Need-put-text-requires
+put-text-requires : tie.Need-put_text-p-requires
 put-text-requires c κs = search rules
 
 wholes-requires : tie.Need-wholes-requires
 wholes-requires c κs = search rules
 
-same_length : tie.Need-same-length
+same_length : tie.Need-shape_of-page
 same_length c = search rules
 
-returns-2 : tie.Need-returns-2
+returns-2 : tie.Need-returns
 returns-2 c =
-    let m = c.before.before.before.before.before.before in
-    puts-as (some-coordinates _ m.before.before.before.if1.false) (joined (omega arith) m.put-text.ensures c.before.before.wholes.ensures)
+    puts-as (some-coordinates _ c.if-written-eq0.false) (joined (omega arith) c.put_text-p.ensures c.wholes.ensures)
 
-pub said-wholes-spec : {M : Type 1} → statement M
-said-wholes-spec =
+pub said_wholes_spec : {M : Type 1} → statement M
+said_wholes_spec =
     tie.close
     (tie.spec
     returns
-    slice-aggregate-put-text
     put-text-requires
     wholes-requires
     same_length

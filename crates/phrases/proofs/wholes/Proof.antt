@@ -15,55 +15,53 @@ use borrow.Author.Rules.{rules}
 use Rattle.phrases.proofs.wholes.Statement.{statement}
 use Rattle.phrases.proofs.wholes.Tie as tie
 
-abbrev invariant-loop : tie.invariant-loop
-invariant-loop page₀ at numbers p₀ i₀ page p i = (i ≤ length numbers) × (p ≤ at + i * 22) × (length page ≡ length page₀) × Puts page₀ at (after_spaces (map whole (take i numbers))) p page
+abbrev invariant-loop-i : tie.invariant-loop-i
+invariant-loop-i page₀ at numbers p₀ i₀ page p i = (i ≤ length numbers) × (p ≤ at + i * 22) × (length page ≡ length page₀) × Puts page₀ at (after_spaces (map whole (take i numbers))) p page
 
-abbrev decreases-loop : tie.decreases-loop
-decreases-loop page₀ at numbers p₀ i₀ page p i = length numbers - i
+abbrev decreases-loop-i : tie.decreases-loop-i
+decreases-loop-i page₀ at numbers p₀ i₀ page p i = length numbers - i
 
-loop-holds : tie.Need-loop-init invariant-loop decreases-loop
+loop-holds : tie.Need-loop-i-init invariant-loop-i decreases-loop-i
 loop-holds c = (omega arith, omega arith, refl, nothing_put _ _)
 
-mul-next-whole : tie.Need-overflow-mul-next-whole invariant-loop decreases-loop
+mul-next-whole : tie.Need-offset_bounds-numbers-i invariant-loop-i decreases-loop-i
 mul-next-whole c = search rules
 
-shared-slice-copy-out-next-whole : tie.Need-shared-slice-copy-out-next-whole invariant-loop decreases-loop
+shared-slice-copy-out-next-whole : tie.Need-bounds-numbers-i invariant-loop-i decreases-loop-i
 shared-slice-copy-out-next-whole c = search rules
 
-next-whole-requires : tie.Need-next-whole-requires invariant-loop decreases-loop
+next-whole-requires : tie.Need-next_whole-p-requires invariant-loop-i decreases-loop-i
 next-whole-requires c κs = search rules
 
-add-i : tie.Need-overflow-add-i invariant-loop decreases-loop
+add-i : tie.Need-overflow_add-i invariant-loop-i decreases-loop-i
 add-i c = search rules
 
-loop-less : tie.Need-loop-smaller invariant-loop decreases-loop
+loop-less : tie.Need-loop-i-smaller invariant-loop-i decreases-loop-i
 loop-less c = search rules
 
-loop-again : tie.Need-loop-preserved invariant-loop decreases-loop
+loop-again : tie.Need-loop-i-preserved invariant-loop-i decreases-loop-i
 loop-again c =
-    let n = c.before.before in
-    let l = n.before.before.before.before in
-    let zs = l.before.before.args.numbers.now in
-    let x = get_or zs l.loop.i (pos 0) in
-    let f : SFits w32 x = record { sfits = n.before.next-whole-arg2.given } in (
-      omega (arith, n.before.before.before.loop-test.true),
-      omega (arith, l.loop.invariant.1, next-near x (says-next x f n.next-whole.ensures)),
+    let zs = c.args.numbers.now in
+    let x = get_or zs c.loop-i.i (pos 0) in
+    let f : SFits w32 x = record { sfits = c.next_whole-arg-in-loop-i-1.given } in (
+      omega (arith, c.loop-i-test.true),
+      omega (arith, c.loop-i.invariant.1, next-near x (says-next x f c.next_whole-p.ensures)),
       search rules,
-      puts-as (one-whole-more zs l.loop.i n.before.before.before.loop-test.true) (joined (omega (arith, l.loop.invariant.1)) l.loop.invariant.3 (says-next x f n.next-whole.ensures)),
+      puts-as (one-whole-more zs c.loop-i.i c.loop-i-test.true) (joined (omega (arith, c.loop-i.invariant.1)) c.loop-i.invariant.3 (says-next x f c.next_whole-p.ensures)),
     )
 
-same_length : tie.Need-same-length invariant-loop decreases-loop
+same_length : tie.Need-shape_of-page invariant-loop-i decreases-loop-i
 same_length c = search rules
 
-returns : tie.Need-returns invariant-loop decreases-loop
-returns c = puts-as (all-wholes _ _ c.loop-test.false) c.before.loop.invariant.3
+returns : tie.Need-returns invariant-loop-i decreases-loop-i
+returns c = puts-as (all-wholes _ _ c.loop-i-test.false) c.loop-i.invariant.3
 
-pub wholes-spec : {M : Type 1} → statement M
-wholes-spec =
+pub wholes_spec : {M : Type 1} → statement M
+wholes_spec =
     tie.close
     (tie.spec
-    invariant-loop
-    decreases-loop
+    invariant-loop-i
+    decreases-loop-i
     loop-holds
     mul-next-whole
     shared-slice-copy-out-next-whole

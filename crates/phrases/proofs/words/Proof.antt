@@ -14,59 +14,59 @@ use borrow.Author.Rules.{rules}
 use Rattle.phrases.proofs.words.Statement.{statement}
 use Rattle.phrases.proofs.words.Tie as tie
 
-abbrev invariant-loop : tie.invariant-loop
-invariant-loop page₀ at words p₀ i₀ page p i = (i ≤ length words) × (p ≤ at + i * 21) × (length page ≡ length page₀) × Puts page₀ at (after_spaces (map decimal (take i words))) p page
+abbrev invariant-loop-i : tie.invariant-loop-i
+invariant-loop-i page₀ at words p₀ i₀ page p i = (i ≤ length words) × (p ≤ at + i * 21) × (length page ≡ length page₀) × Puts page₀ at (after_spaces (map decimal (take i words))) p page
 
-abbrev decreases-loop : tie.decreases-loop
-decreases-loop page₀ at words p₀ i₀ page p i = length words - i
+abbrev decreases-loop-i : tie.decreases-loop-i
+decreases-loop-i page₀ at words p₀ i₀ page p i = length words - i
 
-loop-holds : tie.Need-loop-init invariant-loop decreases-loop
+loop-holds : tie.Need-loop-i-init invariant-loop-i decreases-loop-i
 loop-holds c = (omega arith, omega arith, refl, nothing_put _ _)
 
-put-byte-requires : tie.Need-put-byte-requires invariant-loop decreases-loop
+put-byte-requires : tie.Need-put_byte-p-requires invariant-loop-i decreases-loop-i
 put-byte-requires c κs = search rules
 
-mul_wide : tie.Need-overflow-mul-wide invariant-loop decreases-loop
+mul_wide : tie.Need-offset_bounds-words-i invariant-loop-i decreases-loop-i
 mul_wide c = search rules
 
-shared-slice-read-wide : tie.Need-shared-slice-read-wide invariant-loop decreases-loop
+shared-slice-read-wide : tie.Need-bounds-words-i invariant-loop-i decreases-loop-i
 shared-slice-read-wide c = search rules
 
-wide-requires : tie.Need-wide-requires invariant-loop decreases-loop
+wide-requires : tie.Need-wide-requires invariant-loop-i decreases-loop-i
 wide-requires c κs = search rules
 
-put-number-requires : tie.Need-put-number-requires invariant-loop decreases-loop
+put-number-requires : tie.Need-put_number-p-requires invariant-loop-i decreases-loop-i
 put-number-requires c κs = search rules
 
-add-i : tie.Need-overflow-add-i invariant-loop decreases-loop
+add-i : tie.Need-overflow_add-i invariant-loop-i decreases-loop-i
 add-i c = search rules
 
-loop-less : tie.Need-loop-smaller invariant-loop decreases-loop
+loop-less : tie.Need-loop-i-smaller invariant-loop-i decreases-loop-i
 loop-less c = search rules
 
-loop-again : tie.Need-loop-preserved invariant-loop decreases-loop
+loop-again : tie.Need-loop-i-preserved invariant-loop-i decreases-loop-i
 loop-again c = (
   omega arith,
   omega arith,
   search rules,
-  puts-as (one_word _ _ c.before.before.before.before.before.before.before.before.before.before.loop-test.true)
-      (joined (omega arith) (joined (omega arith) c.before.before.before.before.before.before.before.before.before.before.before.loop.invariant.3
-      c.before.before.before.before.before.before.before.before.put_byte.ensures) (puts-as (ap decimal c.before.before.before.wide.ensures)
-      (says-number c.before.before.put-number.ensures))),
+  puts-as (one_word _ _ c.loop-i-test.true)
+      (joined (omega arith) (joined (omega arith) c.loop-i.invariant.3
+      c.put_byte-p.ensures) (puts-as (ap decimal c.wide.ensures)
+      (says-number c.put_number-p.ensures))),
 )
 
-same_length : tie.Need-same-length invariant-loop decreases-loop
+same_length : tie.Need-shape_of-page invariant-loop-i decreases-loop-i
 same_length c = search rules
 
-returns : tie.Need-returns invariant-loop decreases-loop
-returns c = puts-as (all_words _ _ c.loop-test.false) c.before.loop.invariant.3
+returns : tie.Need-returns invariant-loop-i decreases-loop-i
+returns c = puts-as (all_words _ _ c.loop-i-test.false) c.loop-i.invariant.3
 
-pub words-spec : {M : Type 1} → statement M
-words-spec =
+pub words_spec : {M : Type 1} → statement M
+words_spec =
     tie.close
     (tie.spec
-    invariant-loop
-    decreases-loop
+    invariant-loop-i
+    decreases-loop-i
     loop-holds
     put-byte-requires
     mul_wide

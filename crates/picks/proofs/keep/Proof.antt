@@ -11,75 +11,73 @@ use Rattle.picks.specs.Picks.{longer, longer_at, kept_in}
 use Rattle.picks.proofs.keep.Statement.{statement}
 use Rattle.picks.proofs.keep.Tie as tie
 
-abbrev invariant-loop : tie.invariant-loop
-invariant-loop picks₀ slot numbers i3 k₀ picks k = (k ≤ 8) × (length picks₀ ≡ 72) × (length i3 ≡ 8) × (length picks ≡ 72) × (picks ≡ tabled (longer_at picks₀ i3) k ++ drop k picks₀)
+abbrev invariant-loop-k : tie.invariant-loop-k
+invariant-loop-k picks₀ slot numbers i3 k₀ picks k = (k ≤ 8) × (length picks₀ ≡ 72) × (length i3 ≡ 8) × (length picks ≡ 72) × (picks ≡ tabled (longer_at picks₀ i3) k ++ drop k picks₀)
 
-abbrev decreases-loop : tie.decreases-loop
-decreases-loop picks₀ slot numbers i3 k₀ picks k = 8 - k
+abbrev decreases-loop-k : tie.decreases-loop-k
+decreases-loop-k picks₀ slot numbers i3 k₀ picks k = 8 - k
 
-loop-holds : tie.Need-loop-init invariant-loop decreases-loop
+loop-holds : tie.Need-loop-k-init invariant-loop-k decreases-loop-k
 unfolding tabled
-loop-holds c = (omega arith, c.before.requires.1, c.before.well-formed.1.1.0.1.0.1, c.before.requires.1, refl)
+loop-holds c = (omega arith, c.requires.1, c.well_formed.1.1.0.1.0.1, c.requires.1, refl)
 
-mul-longer-by : tie.Need-overflow-mul-longer-by invariant-loop decreases-loop
+mul-longer-by : tie.Need-offset_bounds-picks-k invariant-loop-k decreases-loop-k
 mul-longer-by c = omega arith
 
-slice-read-longer-by : tie.Need-slice-read-longer-by invariant-loop decreases-loop
+slice-read-longer-by : tie.Need-bounds-picks-k invariant-loop-k decreases-loop-k
 slice-read-longer-by c = omega arith
 
-array-read-longer-by : tie.Need-array-read-longer-by invariant-loop decreases-loop
+array-read-longer-by : tie.Need-bounds-i3-k invariant-loop-k decreases-loop-k
 array-read-longer-by c = omega arith
 
-longer-by-requires : tie.Need-longer-by-requires invariant-loop decreases-loop
+longer-by-requires : tie.Need-longer_by-requires invariant-loop-k decreases-loop-k
 longer-by-requires c κs = omega arith
 
-mul-picks : tie.Need-overflow-mul-picks invariant-loop decreases-loop
+mul-picks : tie.Need-offset_bounds-picks-k-in-loop-k invariant-loop-k decreases-loop-k
 mul-picks c = omega arith
 
-slice-write-picks : tie.Need-slice-write-picks invariant-loop decreases-loop
+slice-write-picks : tie.Need-bounds-picks-k-in-loop-k invariant-loop-k decreases-loop-k
 slice-write-picks c = omega arith
 
-add-k : tie.Need-overflow-add-k invariant-loop decreases-loop
+add-k : tie.Need-overflow_add-k invariant-loop-k decreases-loop-k
 add-k c = omega arith
 
-loop-less : tie.Need-loop-smaller invariant-loop decreases-loop
+loop-less : tie.Need-loop-k-smaller invariant-loop-k decreases-loop-k
 loop-less c = omega arith
 
-loop-again : tie.Need-loop-preserved invariant-loop decreases-loop
+loop-again : tie.Need-loop-k-preserved invariant-loop-k decreases-loop-k
 loop-again c =
-    let at = c.before.before.before in
-    let a = at.before.before.args in
-    let f = longer_at a.picks.now a.t3 in
-    let was = ap (λ (l : List ℕ). get_or l at.loop.k 0) at.loop.invariant.4 ∙ fill-next f at.loop.k a.picks.now in
-    let x : c.longer-by.result ≡ f at.loop.k = c.longer-by.ensures ∙ ap (λ (r : ℕ). longer r (get_or a.t3 at.loop.k 0 % 2)) was in
-    (omega arith, at.loop.invariant.1, at.loop.invariant.2, simp length-set at.loop.invariant.3, rw (at.loop.invariant.4, x, add-one at.loop.k) (tabled-more f at.loop.k a.picks.now (omega arith)))
+    let a = c.args in
+    let f = longer_at a.picks.now a.i3 in
+    let was = ap (λ (l : List ℕ). get_or l c.loop-k.k 0) c.loop-k.invariant.4 ∙ fill-next f c.loop-k.k a.picks.now in
+    let x : c.longer_by.result ≡ f c.loop-k.k = c.longer_by.ensures ∙ ap (λ (r : ℕ). longer r (get_or a.i3 c.loop-k.k 0 % 2)) was in
+    (omega arith, c.loop-k.invariant.1, c.loop-k.invariant.2, simp length-set c.loop-k.invariant.3, rw (c.loop-k.invariant.4, x, add-one c.loop-k.k) (tabled-more f c.loop-k.k a.picks.now (omega arith)))
 
-add-picks : tie.Need-overflow-add-picks invariant-loop decreases-loop
+add-picks : tie.Need-overflow_add-picks invariant-loop-k decreases-loop-k
 add-picks c = omega arith
 
-mul-picks-2 : tie.Need-overflow-mul-picks-2 invariant-loop decreases-loop
+mul-picks-2 : tie.Need-offset_bounds-picks-slot invariant-loop-k decreases-loop-k
 mul-picks-2 c = omega arith
 
-slice-write-picks-2 : tie.Need-slice-write-picks-2 invariant-loop decreases-loop
+slice-write-picks-2 : tie.Need-bounds-picks-slot invariant-loop-k decreases-loop-k
 slice-write-picks-2 c = omega arith
 
-same_length : tie.Need-same-length invariant-loop decreases-loop
-same_length c = simp length-set (c.before.loop.invariant.3 ∙ sym c.before.before.before.requires.1)
+same_length : tie.Need-shape_of-picks invariant-loop-k decreases-loop-k
+same_length c = simp length-set (c.loop-k.invariant.3 ∙ sym c.requires.1)
 
-returns : tie.Need-returns invariant-loop decreases-loop
+returns : tie.Need-returns invariant-loop-k decreases-loop-k
 unfolding kept_in
 returns c =
-    let at = c.before in
-    let a = at.before.before.args in
-    let end : at.loop.k ≡ 8 = omega arith in
-    ap (λ (l : List ℕ). set l (8 + a.slot) a.numbers) (at.loop.invariant.4 ∙ ap (λ (n : ℕ). tabled (longer_at a.picks.now a.t3) n ++ drop n a.picks.now) end)
+    let a = c.args in
+    let end : c.loop-k.k ≡ 8 = omega arith in
+    ap (λ (l : List ℕ). set l (8 + a.slot) a.numbers) (c.loop-k.invariant.4 ∙ ap (λ (n : ℕ). tabled (longer_at a.picks.now a.i3) n ++ drop n a.picks.now) end)
 
 pub keep_spec : {M : Type 1} → statement M
 keep_spec =
     tie.close
     (tie.spec
-    invariant-loop
-    decreases-loop
+    invariant-loop-k
+    decreases-loop-k
     loop-holds
     mul-longer-by
     slice-read-longer-by

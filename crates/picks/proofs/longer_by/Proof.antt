@@ -17,7 +17,7 @@ wide-requires : tie.Need-wide-requires
 wide-requires c κs = search rules
 
 returns : tie.Need-returns
-returns c = put_in _ _ _ c.before.requires c.wide.ensures
+returns c = put_in _ _ _ c.requires c.wide.ensures
 
-pub longer-by-spec : {M : Type 1} → statement M
-longer-by-spec = tie.close (tie.spec wide-requires returns)
+pub longer_by_spec : {M : Type 1} → statement M
+longer_by_spec = tie.close (tie.spec wide-requires returns)

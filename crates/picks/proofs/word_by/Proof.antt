@@ -8,67 +8,60 @@ use Rattle.picks.proofs.CodeWords.{bit_below, first_below, last-below, pack-in, 
 use Rattle.picks.proofs.word_by.Statement.{statement}
 use Rattle.picks.proofs.word_by.Tie as tie
 
-cast-b : tie.Need-overflow-cast-b
+cast-b : tie.Need-overflow_cast-b
 cast-b c = search rules
 
-mul-labels : tie.Need-overflow-mul-labels
+mul-labels : tie.Need-overflow_mul-i3
 mul-labels c = search rules
 
-add-labels : tie.Need-overflow-add-labels
+add-labels : tie.Need-overflow_add-i3
 add-labels c = record { fits = omega (arith, bit_below c.args.k, c.requires.2) }
 
-labels-requires : tie.Need-labels-requires
+labels-requires : tie.Need-labels-l-requires
 labels-requires c κs = (omega (arith, bit_below c.args.k, c.requires.2), bit_below (c.args.k / 4), bit_below (c.args.k / 2))
 
-first : (w : tie.After-labels) → w.labels.result.first < 4
-first w = let a = w.before.args in first_below a.u a.turn a.i3 a.numbers a.k w.labels.result w.before.requires.0 w.before.requires.2 w.labels.ensures
+first : (w : tie.After-labels-l) → w.labels-l.result.first < 4
+first w = let a = w.args in first_below a.u a.turn a.i3 a.numbers a.k w.labels-l.result w.requires.0 w.requires.2 w.labels-l.ensures
 
-second : (w : tie.After-labels) → w.labels.result.second < 4
-second w = let a = w.before.args in last-below a.u a.turn a.i3 a.numbers a.k w.labels.result w.before.requires.0 w.before.requires.2 w.labels.ensures
+second : (w : tie.After-labels-l) → w.labels-l.result.second < 4
+second w = let a = w.args in last-below a.u a.turn a.i3 a.numbers a.k w.labels-l.result w.requires.0 w.requires.2 w.labels-l.ensures
 
-number-at-requires : tie.Need-number-at-requires
+number-at-requires : tie.Need-number_at-w1-requires
 number-at-requires c κs = omega (arith, first c)
 
-add-number-at : tie.Need-overflow-add-number-at
+add-number-at : tie.Need-overflow_add-l
 add-number-at c = record { fits = omega (arith, second c.before.before) }
 
-number-at-requires-2 : tie.Need-number-at-requires-2
+number-at-requires-2 : tie.Need-number_at-w2-requires
 number-at-requires-2 c κs = omega (arith, second c.before.before)
 
-shl-mask : tie.Need-overflow-shl-mask
+shl-mask : tie.Need-overflow_shl-mask
 shl-mask c = search rules
 
-sub-mask : tie.Need-overflow-sub-mask
-sub-mask c = let s = c.before.before.before.before in omega (arith, bit_at s.args.u s.requires.0, pow_pos s.args.u)
+sub-mask : tie.Need-overflow_sub-mask
+sub-mask c = omega (arith, bit_at c.args.u c.requires.0, pow_pos c.args.u)
 
-turn-since-requires : tie.Need-turn-since-requires
-turn-since-requires c κs = (c.before.before.before.before.requires.1, first c.before.before.before)
+turn-since-requires : tie.Need-turn_since-d-requires
+turn-since-requires c κs = (c.requires.1, first c.before.before.before)
 
-pack-requires : tie.Need-pack-requires
+pack-requires : tie.Need-pack-word-requires
 pack-requires c κs =
-    let n = c.before in
-    let w = n.before.before.before in
-    let s = w.before in
-    let a = s.args in (
-      s.requires.0,
-      pack-in a.u a.turn a.i3 a.numbers a.k w.labels.result s.requires.0 s.requires.2 w.labels.ensures
-          n.before.before.number_at.result n.number-at2.result c.turn-since.result n.before.before.number_at.ensures n.number-at2.ensures
-          c.turn-since.ensures,
+    let a = c.args in (
+      c.requires.0,
+      pack-in a.u a.turn a.i3 a.numbers a.k c.labels-l.result c.requires.0 c.requires.2 c.labels-l.ensures
+          c.number_at-w1.result c.number_at-w2.result c.turn_since-d.result c.number_at-w1.ensures c.number_at-w2.ensures
+          c.turn_since-d.ensures,
     )
 
 returns : tie.Need-returns
 returns c =
-    let t = c.before in
-    let n = t.before in
-    let w = n.before.before.before in
-    let s = w.before in
-    let a = s.args in
-    said a.u a.turn a.i3 a.numbers a.k w.labels.result s.requires.0 s.requires.2 w.labels.ensures n.before.before.number_at.result
-    n.number-at2.result t.turn-since.result n.before.before.number_at.ensures n.number-at2.ensures t.turn-since.ensures c.pack.result
-    c.pack.ensures
+    let a = c.args in
+    said a.u a.turn a.i3 a.numbers a.k c.labels-l.result c.requires.0 c.requires.2 c.labels-l.ensures c.number_at-w1.result
+    c.number_at-w2.result c.turn_since-d.result c.number_at-w1.ensures c.number_at-w2.ensures c.turn_since-d.ensures c.pack-word.result
+    c.pack-word.ensures
 
-pub word-by-spec : {M : Type 1} → statement M
-word-by-spec =
+pub word_by_spec : {M : Type 1} → statement M
+word_by_spec =
     tie.close
     (tie.spec
     cast-b

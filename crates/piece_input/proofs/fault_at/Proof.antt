@@ -34,51 +34,47 @@ module _ (h : Received) (s : Spot) (e : h ≡ Heard s) where
   nowhere p q = rw (e, p, q)
 
 -- where the point was heard, from each test, and what the test says of it
-abbrev spot : tie.After-is-coordinate → Spot
-spot d = d.before.before.before.h.given.0.0
+abbrev spot : tie.After-is_coordinate → Spot
+spot d = d.in-Heard.s
 
-abbrev first : tie.After-is-coordinate2 → tie.After-is-coordinate
+abbrev first : tie.After-is_coordinate-2 → tie.After-is_coordinate
 first d = d.before.before.before
 
-x-says : (d : tie.After-is-coordinate) → d.is-coordinate.result ≡ is_coordinate (spot d).x
-x-says d = d.is-coordinate.ensures ∙ back (spot d).x (record { sfits = d.before.struct_told.given.0.1 })
+x-says : (d : tie.After-is_coordinate) → d.is_coordinate.result ≡ is_coordinate (spot d).x
+x-says d = d.is_coordinate.ensures ∙ back (spot d).x (record { sfits = d.struct_told-1.given.0.1 })
 
-y-says : (d : tie.After-is-coordinate2) → d.is-coordinate2.result ≡ is_coordinate (spot (first d)).y
-y-says d = d.is-coordinate2.ensures ∙ back (spot (first d)).y (record { sfits = d.before.struct-told2.given.1.0.1 })
+y-says : (d : tie.After-is_coordinate-2) → d.is_coordinate-2.result ≡ is_coordinate (spot (first d)).y
+y-says d = d.is_coordinate-2.ensures ∙ back (spot (first d)).y (record { sfits = d.struct_told-2-1.given.1.0.1 })
 
-enum-known-h : tie.Need-enum-known-h
+enum-known-h : tie.Need-enum_known-h
 enum-known-h c = search rules
 
-enum_told : tie.Need-enum-told
+enum_told : tie.Need-enum_told-1
 enum_told c = search rules
 
-returns : tie.Need-returns
+returns : tie.Need-returns-in_default
 unfolding fault_at
-returns c = sym (ap fault_at c.enum_told.given.1)
+returns c = sym (ap fault_at c.in_default.is)
 
-is-coordinate-requires : tie.Need-is-coordinate-requires
+is-coordinate-requires : tie.Need-is_coordinate-requires
 is-coordinate-requires c κs = search rules
 
-returns-2 : tie.Need-returns-2
-returns-2 c = let d = c.before in at_x _ _ d.before.before.before.h.given.1 (sym (x-says d) ∙ not-true _ c.if1.true)
+returns-2 : tie.Need-returns-then-not-is_coordinate
+returns-2 c = at_x _ _ c.in-Heard.is (sym (x-says c.before) ∙ c.if-not-is_coordinate.true)
 
-is-coordinate-requires-2 : tie.Need-is-coordinate-requires-2
+is-coordinate-requires-2 : tie.Need-is_coordinate-requires-2
 is-coordinate-requires-2 c κs = search rules
 
-returns-3 : tie.Need-returns-3
+returns-3 : tie.Need-returns-then-not-is_coordinate-2
 returns-3 c =
-    let e = c.before.before.before in
-    let d = e.before in
-    at_y _ _ d.before.before.before.h.given.1 (sym (x-says d) ∙ not-false _ e.if1.false) (sym (y-says c.before) ∙ not-true _ c.if2.true)
+    at_y _ _ c.in-Heard.is (sym (x-says c.before.before.before.before) ∙ c.if-not-is_coordinate.false) (sym (y-says c.before) ∙ c.if-not-is_coordinate-2.true)
 
-returns-4 : tie.Need-returns-4
+returns-4 : tie.Need-returns
 returns-4 c =
-    let e = c.before.before.before in
-    let d = e.before in
-    nowhere _ _ d.before.before.before.h.given.1 (sym (x-says d) ∙ not-false _ e.if1.false) (sym (y-says c.before) ∙ not-false _ c.if2.false)
+    nowhere _ _ c.in-Heard.is (sym (x-says c.before.before.before.before) ∙ c.if-not-is_coordinate.false) (sym (y-says c.before) ∙ c.if-not-is_coordinate-2.false)
 
-pub fault-at-spec : {M : Type 1} → statement M
-fault-at-spec =
+pub fault_at_spec : {M : Type 1} → statement M
+fault_at_spec =
     tie.close
     (tie.spec
     enum-known-h

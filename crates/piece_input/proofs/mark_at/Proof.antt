@@ -6,17 +6,17 @@ use Rattle.piece_input.proofs.Marks.{mark-past}
 use Rattle.piece_input.proofs.mark_at.Statement.{statement}
 use Rattle.piece_input.proofs.mark_at.Tie as tie
 
-returns : tie.Need-returns
-returns c = rw (not-true c.before.args.marked c.if1.true)
+returns : tie.Need-returns-then-not-marked
+returns c = rw (c.if-not-marked.true)
 
-returns-2 : tie.Need-returns-2
-returns-2 c = rw (not-false c.before.before.args.marked c.before.if1.false) (sym (mark-past c.before.before.args.marks.now c.before.before.args.j c.if2.true))
+returns-2 : tie.Need-returns-then-marks-j
+returns-2 c = rw (c.if-not-marked.false) (sym (mark-past c.args.marks.now c.args.j c.if-marks-j.true))
 
-shared-slice-read-result : tie.Need-shared-slice-read-result
+shared-slice-read-result : tie.Need-bounds-marks-j
 shared-slice-read-result c = search rules
 
-returns-3 : tie.Need-returns-3
-returns-3 c = rw (not-false c.before.before.before.args.marked c.before.before.if1.false)
+returns-3 : tie.Need-returns
+returns-3 c = rw (c.if-not-marked.false)
 
-pub mark-at-spec : {M : Type 1} → statement M
-mark-at-spec = tie.close (tie.spec returns returns-2 shared-slice-read-result returns-3)
+pub mark_at_spec : {M : Type 1} → statement M
+mark_at_spec = tie.close (tie.spec returns returns-2 shared-slice-read-result returns-3)

@@ -25,34 +25,33 @@ cast l k e h = subst (SFits w32) (sym (at8 l k e h)) (fits w32 (get_or coordinat
 value : (l : List ℤ) (k : ℕ) → l ≡ coordinates → k < 512 → to_z w32 (of_z w32 (to_z w8 (of_z w8 (get_or l k (pos 0))))) ≡ get_or coordinates k (pos 0)
 value l k e h = ap (λ (z : ℤ). to_z w32 (of_z w32 z)) (at8 l k e h) ∙ reads w32 (get_or coordinates k (pos 0)) (omega (arith, (entry k h).1))
 
-mul-x : tie.Need-overflow-mul-x
+mul-x : tie.Need-overflow_mul-x
 mul-x c = search rules
 
-element-copy-out-x : tie.Need-element-copy-out-x
+element-copy-out-x : tie.Need-bounds-t-w
 element-copy-out-x c = search rules
 
-mul-y : tie.Need-overflow-mul-y
+mul-y : tie.Need-overflow_mul-y
 mul-y c = search rules
 
-add-y : tie.Need-overflow-add-y
+add-y : tie.Need-overflow_add-y
 add-y c = search rules
 
-element-copy-out-y : tie.Need-element-copy-out-y
+element-copy-out-y : tie.Need-bounds-t-w-2
 element-copy-out-y c = search rules
 
-cast-t12 : tie.Need-overflow-cast-t12
-cast-t12 c = let s = c.before.before in cast s.args.t.now (s.args.w * 2) s.requires.0 (omega arith)
+cast-t12 : tie.Need-overflow_cast-result
+cast-t12 c = cast c.args.t.now (c.args.w * 2) c.requires.0 (omega arith)
 
-cast-t13 : tie.Need-overflow-cast-t13
-cast-t13 c = let s = c.before.before in cast s.args.t.now (s.args.w * 2 + 1) s.requires.0 (omega arith)
+cast-t13 : tie.Need-overflow_cast-result-2
+cast-t13 c = cast c.args.t.now (c.args.w * 2 + 1) c.requires.0 (omega arith)
 
 returns : tie.Need-returns
 unfolding a_point
 returns c =
-    let s = c.before.before in
-    ap₂ (λ (a b : ℤ). record { x = a; y = b }) (value s.args.t.now (s.args.w * 2) s.requires.0 (omega arith)) (value s.args.t.now (s.args.w * 2 + 1) s.requires.0 (omega arith))
+    ap₂ (λ (a b : ℤ). record { x = a; y = b }) (value c.args.t.now (c.args.w * 2) c.requires.0 (omega arith)) (value c.args.t.now (c.args.w * 2 + 1) c.requires.0 (omega arith))
 
-pub a-point-spec : {M : Type 1} → statement M
-a-point-spec =
+pub a_point_spec : {M : Type 1} → statement M
+a_point_spec =
     tie.close
     (tie.spec mul-x element-copy-out-x mul-y add-y element-copy-out-y cast-t12 cast-t13 returns)

@@ -10,40 +10,40 @@ use Rattle.points.proofs.Turns.{small-turns}
 use Rattle.points.proofs.point_of.Statement.{statement}
 use Rattle.points.proofs.point_of.Tie as tie
 
-abbrev invariant-loop : tie.invariant-loop
-invariant-loop t l w p₀ k₀ p k = (k ≤ l) × (p ≡ turns k (a_point w))
+abbrev invariant-loop-k : tie.invariant-loop-k
+invariant-loop-k t l w p₀ k₀ p k = (k ≤ l) × (p ≡ turns k (a_point w))
 
-abbrev decreases-loop : tie.decreases-loop
-decreases-loop t l w p₀ k₀ p k = l - k
+abbrev decreases-loop-k : tie.decreases-loop-k
+decreases-loop-k t l w p₀ k₀ p k = l - k
 
-a-point-requires : tie.Need-a-point-requires invariant-loop decreases-loop
+a-point-requires : tie.Need-a_point-p-requires invariant-loop-k decreases-loop-k
 a-point-requires c κs = search rules
 
-loop-holds : tie.Need-loop-init invariant-loop decreases-loop
-loop-holds c = (search rules, c.a_point.ensures)
+loop-holds : tie.Need-loop-k-init invariant-loop-k decreases-loop-k
+loop-holds c = (search rules, c.a_point-p.ensures)
 
-quarter-turn-requires : tie.Need-quarter-turn-requires invariant-loop decreases-loop
-quarter-turn-requires c κs = subst Small (sym c.before.loop.invariant.1) (small-turns c.before.loop.k c.before.before.before.args.w (omega arith))
+quarter-turn-requires : tie.Need-quarter_turn-p-requires invariant-loop-k decreases-loop-k
+quarter-turn-requires c κs = subst Small (sym c.loop-k.invariant.1) (small-turns c.loop-k.k c.args.w (omega arith))
 
-add-k : tie.Need-overflow-add-k invariant-loop decreases-loop
+add-k : tie.Need-overflow_add-k invariant-loop-k decreases-loop-k
 add-k c = search rules
 
-loop-less : tie.Need-loop-smaller invariant-loop decreases-loop
+loop-less : tie.Need-loop-k-smaller invariant-loop-k decreases-loop-k
 loop-less c = search rules
 
-loop-again : tie.Need-loop-preserved invariant-loop decreases-loop
-loop-again c = (search rules, c.quarter-turn.ensures ∙ ap turned c.before.before.loop.invariant.1 ∙ rw add-one)
+loop-again : tie.Need-loop-k-preserved invariant-loop-k decreases-loop-k
+loop-again c = (search rules, c.quarter_turn-p.ensures ∙ ap turned c.loop-k.invariant.1 ∙ rw add-one)
 
-returns : tie.Need-returns invariant-loop decreases-loop
+returns : tie.Need-returns invariant-loop-k decreases-loop-k
 unfolding point_of
-returns c = let e : c.before.loop.k ≡ c.before.before.before.args.l = omega arith in c.before.loop.invariant.1 ∙ ap (λ (k : ℕ). turns k (a_point c.before.before.before.args.w)) e
+returns c = let e : c.loop-k.k ≡ c.args.l = omega arith in c.loop-k.invariant.1 ∙ ap (λ (k : ℕ). turns k (a_point c.args.w)) e
 
-pub point-of-spec : {M : Type 1} → statement M
-point-of-spec =
+pub point_of_spec : {M : Type 1} → statement M
+point_of_spec =
     tie.close
     (tie.spec
-    invariant-loop
-    decreases-loop
+    invariant-loop-k
+    decreases-loop-k
     a-point-requires
     loop-holds
     quarter-turn-requires

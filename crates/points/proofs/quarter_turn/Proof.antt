@@ -7,11 +7,11 @@ use Rattle.points.proofs.Signed.{reads, neg-fits, neg-reads}
 use Rattle.points.proofs.quarter_turn.Statement.{statement}
 use Rattle.points.proofs.quarter_turn.Tie as tie
 
-sub-t2 : tie.Need-overflow-sub-t2
-sub-t2 c = let p = c.before.before.args.p in neg-fits w32 p.x (omega arith)
+sub-t2 : tie.Need-overflow_sub-result
+sub-t2 c = let p = c.args.p in neg-fits w32 p.x (omega arith)
 
 returns : tie.Need-returns
-returns c = let p = c.before.before.before.args.p in ap₂ (λ (a b : ℤ). record { x = a; y = b }) (reads w32 p.y (omega arith)) (neg-reads w32 p.x (omega arith))
+returns c = let p = c.args.p in ap₂ (λ (a b : ℤ). record { x = a; y = b }) (reads w32 p.y (omega arith)) (neg-reads w32 p.x (omega arith))
 
-pub quarter-turn-spec : {M : Type 1} → statement M
-quarter-turn-spec = tie.close (tie.spec sub-t2 returns)
+pub quarter_turn_spec : {M : Type 1} → statement M
+quarter_turn_spec = tie.close (tie.spec sub-t2 returns)

@@ -12,5 +12,5 @@ number-requires c κs = search rules
 returns : tie.Need-returns
 returns c = ap (λ (n : ℕ). eqb n 0) c.number.ensures
 
-pub is-done-spec : {M : Type 1} → statement M
-is-done-spec = tie.close (tie.spec number-requires returns)
+pub is_done_spec : {M : Type 1} → statement M
+is_done_spec = tie.close (tie.spec number-requires returns)

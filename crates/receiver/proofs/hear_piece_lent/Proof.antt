@@ -13,8 +13,8 @@ use Rattle.receiver.proofs.Doors.{hear-closed, hear-uneven, hear-parts, lent-all
 use Rattle.receiver.proofs.hear_piece_lent.Statement.{statement}
 use Rattle.receiver.proofs.hear_piece_lent.Tie as tie
 
-abbrev first : tie.After-lent-fit → tie.Start
-first f = f.before.before.before.before.before.before
+abbrev first : tie.After-lent_fit → tie.Start
+first f = f.before.before.before.before
 
 -- the receiver whose parts are lent
 abbrev rx : tie.Start → Receiver
@@ -25,80 +25,72 @@ abbrev piece : tie.Start → Piece
 piece s = let a = s.args in piece_with a.marked a.marks.now a.samples.now
 
 -- the test of the parts says whether it is open
-open_by : (f : tie.After-lent-fit) → sound (rx (first f)) ≡ f.lent-fit.result
+open_by : (f : tie.After-lent_fit) → sound (rx (first f)) ≡ f.lent_fit.result
 unfolding sound
-open_by f = sym f.lent-fit.ensures
+open_by f = sym f.lent_fit.ensures
 
-opened : (e : tie.Else1) → sound (rx (first e.before)) ≡ true
-opened e = open_by e.before ∙ not-false _ e.if1.false
+opened : (e : tie.Else-not-lent_fit) → sound (rx (first e.before)) ≡ true
+opened e = open_by e.before ∙ e.if-not-lent_fit.false
 
 -- and the second test whether the piece is of whole symbols
-whole-symbols : (e : tie.Else2) → (piece (first e.before.before.before)).fits ≡ true
-whole-symbols e = sym e.before.fits2.ensures ∙ not-false _ e.if2.false
+whole-symbols : (e : tie.Else-not-fits) → (piece (first e.before.before.before)).fits ≡ true
+whole-symbols e = sym e.fits2.ensures ∙ e.if-not-fits.false
 
-lent-fit-requires : tie.Need-lent-fit-requires
+lent-fit-requires : tie.Need-lent_fit-requires
 lent-fit-requires c κs = search rules
 
-nothing-heard-requires : tie.Need-nothing-heard-requires
+nothing-heard-requires : tie.Need-nothing_heard-requires
 nothing-heard-requires c κs = search rules
 
-same_length : tie.Need-same-length
+same_length : tie.Need-shape_of-picks-then-not-lent_fit
 same_length c = search rules
 
-returns : tie.Need-returns
+returns : tie.Need-returns-then-not-lent_fit
 returns c =
-    let f = c.before.before in
-    let s = first f in
-    rw c.nothing-heard.ensures (hear-closed (rx s) s.args.out.now (piece s) (open_by f ∙ not-true _ c.before.if1.true))
+    let s = first c.before.before in
+    rw c.nothing_heard.ensures (hear-closed (rx s) s.args.out.now (piece s) (open_by c.before.before ∙ c.if-not-lent_fit.true))
 
 fits-requires : tie.Need-fits-requires
 fits-requires c κs = search rules
 
-nothing-heard-requires-2 : tie.Need-nothing-heard-requires-2
+nothing-heard-requires-2 : tie.Need-nothing_heard-requires-then-not-fits
 nothing-heard-requires-2 c κs = search rules
 
-same-length-2 : tie.Need-same-length-2
+same-length-2 : tie.Need-shape_of-picks-then-not-fits
 same-length-2 c = search rules
 
-returns-2 : tie.Need-returns-2
+returns-2 : tie.Need-returns-then-not-fits
 returns-2 c =
-    let t = c.before.before in
-    let e = t.before in
-    let s = first e.before in
-    rw c.nothing-heard2.ensures
-    (hear-uneven (rx s) s.args.out.now (piece s) (opened e) (sym t.fits2.ensures ∙ not-true _ c.before.if2.true))
+    let s = first c.before.before.before.before in
+    rw c.nothing_heard-then-not-fits.ensures
+    (hear-uneven (rx s) s.args.out.now (piece s) (opened c.before.before.before) (sym c.fits2.ensures ∙ c.if-not-fits.true))
 
-hear-symbols-requires : tie.Need-hear-symbols-requires
+hear-symbols-requires : tie.Need-hear_symbols-requires
 hear-symbols-requires c κs =
-    let i = c.before.before.before.before in
-    let e = i.before.before in
-    let s = first e.before in
+    let s = first c.before.before.before.before.before.before.before in
     let a = s.args in
-    let l = sound-live (rx s) (opened e) in (
-      subst (λ (b : Bool). sound (parts_of b a.core a.sums.now a.registers.now a.picks.now) ≡ true) l (opened e),
+    let l = sound-live (rx s) (opened c.before.before.before.before.before.before) in (
+      subst (λ (b : Bool). sound (parts_of b a.core a.sums.now a.registers.now a.picks.now) ≡ true) l (opened c.before.before.before.before.before.before),
       fits-even
-          a.marks.now _ a.marked (whole-symbols i),
+          a.marks.now _ a.marked (whole-symbols c.before.before.before.before),
       lent-all a.live a.picks.now l,
     )
 
-same-length-3 : tie.Need-same-length-3
+same-length-3 : tie.Need-shape_of-picks
 same-length-3 c = search rules
 
-same-length-4 : tie.Need-same-length-4
+same-length-4 : tie.Need-shape_of-out
 same-length-4 c = search rules
 
-returns-3 : tie.Need-returns-3
+returns-3 : tie.Need-returns
 returns-3 c =
-    let h = c.before.before.before.before in
-    let i = h.before.before.before.before.before in
-    let e = i.before.before in
-    let s = first e.before in
+    let s = first c.before.before.before.before.before.before.before.before.before.before.before.before in
     let a = s.args in
     hear-parts (lent_live a.live a.picks.now) a.core a.sums.now a.registers.now a.picks.now a.out.now (piece s)
-    (opened e) (whole-symbols i) _ _ _ _ _ h.hear-symbols.ensures
+    (opened c.before.before.before.before.before.before.before.before.before.before.before) (whole-symbols c.before.before.before.before.before.before.before.before.before) _ _ _ _ _ c.hear_symbols.ensures
 
-pub hear-piece-lent-spec : {M : Type 1} → statement M
-hear-piece-lent-spec =
+pub hear_piece_lent_spec : {M : Type 1} → statement M
+hear_piece_lent_spec =
     tie.close
     (tie.spec
     lent-fit-requires

@@ -8,102 +8,96 @@ use borrow.Author.Rules.{rules}
 use Rattle.record_files.proofs.hear_chunk.Statement.{statement}
 use Rattle.record_files.proofs.hear_chunk.Tie as tie
 
-abbrev invariant-loop : tie.invariant-loop
-invariant-loop chunk line₀ bytes₀ page₀ now₀ from₀ line bytes page now from =
+abbrev invariant-loop-from : tie.invariant-loop-from
+invariant-loop-from chunk line₀ bytes₀ page₀ now₀ from₀ line bytes page now from =
     (from ≤ length chunk) × (now.part.held ≤ length line) × (length line ≡ length line₀) × (length bytes ≡ 30720) × (length page ≡ 98304)
 
-abbrev decreases-loop : tie.decreases-loop
-decreases-loop chunk line₀ bytes₀ page₀ now₀ from₀ line bytes page now from = length chunk - from
+abbrev decreases-loop-from : tie.decreases-loop-from
+decreases-loop-from chunk line₀ bytes₀ page₀ now₀ from₀ line bytes page now from = length chunk - from
 
-loop-holds : tie.Need-loop-init invariant-loop decreases-loop
+loop-holds : tie.Need-loop-from-init invariant-loop-from decreases-loop-from
 loop-holds c = search rules
 
-sub-before : tie.Need-overflow-sub-before invariant-loop decreases-loop
+sub-before : tie.Need-slice_bounds-before-count invariant-loop-from decreases-loop-from
 sub-before c = search rules
 
-part-before-start : tie.Need-slice-bounds-before-start invariant-loop decreases-loop
+part-before-start : tie.Need-slice_bounds-before-start invariant-loop-from decreases-loop-from
 part-before-start c = search rules
 
-part-before-end : tie.Need-slice-bounds-before-end invariant-loop decreases-loop
+part-before-end : tie.Need-slice_bounds-before-end invariant-loop-from decreases-loop-from
 part-before-end c = search rules
 
-before-requires : tie.Need-before-requires invariant-loop decreases-loop
+before-requires : tie.Need-before-n-requires invariant-loop-from decreases-loop-from
 before-requires c κs = search rules
 
-add-end : tie.Need-overflow-add-end invariant-loop decreases-loop
+add-end : tie.Need-overflow_add-end invariant-loop-from decreases-loop-from
 add-end c = search rules
 
-sub-gather : tie.Need-overflow-sub-gather invariant-loop decreases-loop
+sub-gather : tie.Need-slice_bounds-gather-count invariant-loop-from decreases-loop-from
 sub-gather c = search rules
 
-part-gather-start : tie.Need-slice-bounds-gather-start invariant-loop decreases-loop
+part-gather-start : tie.Need-slice_bounds-gather-start invariant-loop-from decreases-loop-from
 part-gather-start c = search rules
 
-part-gather-end : tie.Need-slice-bounds-gather-end invariant-loop decreases-loop
+part-gather-end : tie.Need-slice_bounds-gather-end invariant-loop-from decreases-loop-from
 part-gather-end c = search rules
 
-gather-requires : tie.Need-gather-requires invariant-loop decreases-loop
+gather-requires : tie.Need-gather-grown-requires invariant-loop-from decreases-loop-from
 gather-requires c κs = search rules
 
-same_length : tie.Need-same-length invariant-loop decreases-loop
+same_length : tie.Need-shape_of-line-then-end-chunk invariant-loop-from decreases-loop-from
 same_length c = search rules
 
-returns : tie.Need-returns invariant-loop decreases-loop
+returns : tie.Need-returns-then-end-chunk invariant-loop-from decreases-loop-from
 returns c = search rules
 
-slice-aggregate-end-line : tie.Need-slice-aggregate-end-line invariant-loop decreases-loop
+slice-aggregate-end-line : tie.Need-slice_bounds-end_line-end invariant-loop-from decreases-loop-from
 slice-aggregate-end-line c = search rules
 
-slice-aggregate-end-line-2 : tie.Need-slice-aggregate-end-line-2 invariant-loop decreases-loop
+slice-aggregate-end-line-2 : tie.Need-slice_bounds-end_line-end-in-loop-from invariant-loop-from decreases-loop-from
 slice-aggregate-end-line-2 c = search rules
 
-end-line-requires : tie.Need-end-line-requires invariant-loop decreases-loop
+end-line-requires : tie.Need-end_line-now-requires invariant-loop-from decreases-loop-from
 end-line-requires c κs = search rules
 
 -- there is a newline in what is left of the chunk
-found : (c : tie.After-page2 invariant-loop decreases-loop) →
-    let b = c.before.before.before.before.before.before.before.before.before.before.before.before.before in
-    let l = b.before.before.before.before in
-    l.loop.from + b.before2.result < length l.before.before.before.args.chunk.now
+found : (c : tie.After-page-in-loop-from-1 invariant-loop-from decreases-loop-from) →
+    c.loop-from.from + c.before-n.result < length c.args.chunk.now
 found c =
-    let b = c.before.before.before.before.before.before.before.before.before.before.before.before.before in
-    let l = b.before.before.before.before in
     omega (
       arith,
-      token_end l.before.before.before.args.chunk.now l.loop.from l.loop.invariant.0 b.before2.ensures,
-      c.before.before.before.before.before.before.if2.false,
+      token_end c.args.chunk.now c.loop-from.from c.loop-from.invariant.0 c.before-n.ensures,
+      c.if-end-chunk.false,
     )
 
-add-from : tie.Need-overflow-add-from invariant-loop decreases-loop
-add-from c = omega (arith, found c, c.before.before.before.before.before.before.before.before.before.before.before.before.before.before.before.before.before.before.before.before.well-formed)
+add-from : tie.Need-overflow_add-from invariant-loop-from decreases-loop-from
+add-from c = omega (arith, found c, c.well_formed)
 
-loop-less : tie.Need-loop-smaller invariant-loop decreases-loop
+loop-less : tie.Need-loop-from-smaller invariant-loop-from decreases-loop-from
 loop-less c = omega (arith, found c)
 
-loop-again : tie.Need-loop-preserved invariant-loop decreases-loop
+loop-again : tie.Need-loop-from-preserved invariant-loop-from decreases-loop-from
 loop-again c =
-    let gathered = c.before.before.before.before.before.before.before.before.before in
-    let l = gathered.before.before.before.before.before.before.before.before in
-    (omega (arith, found c), search rules, gathered.gather.auto.1.0 ∙ l.loop.invariant.2, search rules, search rules)
+    (omega (arith, found c), search rules, c.gather-grown.auto.line ∙ c.loop-from.invariant.2, search rules, search rules)
 
-same-length-2 : tie.Need-same-length-2 invariant-loop decreases-loop
+same-length-2 : tie.Need-shape_of-line-else-now invariant-loop-from decreases-loop-from
 same-length-2 c = search rules
 
-returns-2 : tie.Need-returns-2 invariant-loop decreases-loop
+returns-2 : tie.Need-returns-else-now invariant-loop-from decreases-loop-from
 returns-2 c = search rules
 
-same-length-3 : tie.Need-same-length-3 invariant-loop decreases-loop
+same-length-3 : tie.Need-shape_of-line-after-loop-from invariant-loop-from decreases-loop-from
 same-length-3 c = search rules
 
-returns-3 : tie.Need-returns-3 invariant-loop decreases-loop
+returns-3 : tie.Need-returns-after-loop-from invariant-loop-from decreases-loop-from
 returns-3 c = search rules
 
-pub hear-chunk-spec : {M : Type 1} → statement M
-hear-chunk-spec =
+pub hear_chunk_spec : {M : Type 1} → statement M
+hear_chunk_spec =
     tie.close
     (tie.spec
-    invariant-loop
-    decreases-loop
+    invariant-loop-from
+    decreases-loop-from
     loop-holds
     sub-before
     part-before-start

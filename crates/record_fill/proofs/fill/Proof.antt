@@ -8,51 +8,49 @@ use Rattle.record_fill.proofs.Gathers.{sets_more}
 use Rattle.record_fill.proofs.fill.Statement.{statement}
 use Rattle.record_fill.proofs.fill.Tie as tie
 
-abbrev invariant-loop : tie.invariant-loop
-invariant-loop have bytes from n filled₀ k₀ filled k = (k ≤ n) × (filled ≡ sets filled₀ have (take k (drop from bytes)))
+abbrev invariant-loop-k : tie.invariant-loop-k
+invariant-loop-k have bytes from n filled₀ k₀ filled k = (k ≤ n) × (filled ≡ sets filled₀ have (take k (drop from bytes)))
 
-abbrev decreases-loop : tie.decreases-loop
-decreases-loop have bytes from n filled₀ k₀ filled k = n - k
+abbrev decreases-loop-k : tie.decreases-loop-k
+decreases-loop-k have bytes from n filled₀ k₀ filled k = n - k
 
-loop-holds : tie.Need-loop-init invariant-loop decreases-loop
+loop-holds : tie.Need-loop-k-init invariant-loop-k decreases-loop-k
 loop-holds c = (omega arith, refl)
 
-add-filled : tie.Need-overflow-add-filled invariant-loop decreases-loop
-add-filled c = omega (arith, c.before.before.requires.1)
+add-filled : tie.Need-overflow_add-filled invariant-loop-k decreases-loop-k
+add-filled c = omega (arith, c.requires.1)
 
-shared-slice-read-filled : tie.Need-shared-slice-read-filled invariant-loop decreases-loop
-shared-slice-read-filled c = omega (arith, c.before.before.before.requires.1)
+shared-slice-read-filled : tie.Need-bounds-bytes-from invariant-loop-k decreases-loop-k
+shared-slice-read-filled c = omega (arith, c.requires.1)
 
-add-filled-2 : tie.Need-overflow-add-filled-2 invariant-loop decreases-loop
-add-filled-2 c = omega (arith, c.before.before.before.requires.0)
+add-filled-2 : tie.Need-overflow_add-filled-in-loop-k invariant-loop-k decreases-loop-k
+add-filled-2 c = omega (arith, c.requires.0)
 
-array-write-filled : tie.Need-array-write-filled invariant-loop decreases-loop
-array-write-filled c = omega (arith, c.before.before.before.requires.0)
+array-write-filled : tie.Need-bounds-filled-have invariant-loop-k decreases-loop-k
+array-write-filled c = omega (arith, c.requires.0)
 
-add-k : tie.Need-overflow-add-k invariant-loop decreases-loop
+add-k : tie.Need-overflow_add-k invariant-loop-k decreases-loop-k
 add-k c = omega arith
 
-loop-less : tie.Need-loop-smaller invariant-loop decreases-loop
+loop-less : tie.Need-loop-k-smaller invariant-loop-k decreases-loop-k
 loop-less c = omega arith
 
-loop-again : tie.Need-loop-preserved invariant-loop decreases-loop
+loop-again : tie.Need-loop-k-preserved invariant-loop-k decreases-loop-k
 loop-again c =
-    let p = c.before.before in
-    let a = p.before.args in
-    (omega arith, rw p.loop.invariant.1 (sets_more a.bytes.now _ _ a.from p.loop.k (omega (arith, p.before.requires.1))))
+    let a = c.args in
+    (omega arith, rw c.loop-k.invariant.1 (sets_more a.bytes.now _ _ a.from c.loop-k.k (omega (arith, c.requires.1))))
 
-returns : tie.Need-returns invariant-loop decreases-loop
+returns : tie.Need-returns invariant-loop-k decreases-loop-k
 returns c =
-    let p = c.before in
-    let k : p.loop.k ≡ p.before.args.n = omega arith in
-    p.loop.invariant.1 ∙ rw k
+    let k : c.loop-k.k ≡ c.args.n = omega arith in
+    c.loop-k.invariant.1 ∙ rw k
 
 pub fill_spec : {M : Type 1} → statement M
 fill_spec =
     tie.close
     (tie.spec
-    invariant-loop
-    decreases-loop
+    invariant-loop-k
+    decreases-loop-k
     loop-holds
     add-filled
     shared-slice-read-filled

@@ -6,47 +6,43 @@ use borrow.Author.Rules.{rules}
 use Rattle.record_fill.proofs.grow.Statement.{statement}
 use Rattle.record_fill.proofs.grow.Tie as tie
 
-kind-of-requires : tie.Need-kind-of-requires
+kind-of-requires : tie.Need-kind_of-kind-requires
 kind-of-requires c κs = search rules
 
-sub-least : tie.Need-overflow-sub-least
+sub-least : tie.Need-overflow_sub-kind
 sub-least c =
-    let s = c.before.before.before.before in
-    let w = wants s.args.f _ s.requires.0 c.before.kind-of.ensures in
+    let w = wants c.args.f _ c.requires.0 c.kind_of-kind.ensures in
     omega (arith, w.0)
 
-sub-least-2 : tie.Need-overflow-sub-least-2
+sub-least-2 : tie.Need-overflow_sub-bytes
 sub-least-2 c = search rules
 
-least-requires : tie.Need-least-requires
+least-requires : tie.Need-least-n-requires
 least-requires c κs = search rules
 
-add-stage-at : tie.Need-overflow-add-stage-at
+add-stage-at : tie.Need-overflow_add-have
 add-stage-at c = search rules
 
-stage-at-requires : tie.Need-stage-at-requires
+stage-at-requires : tie.Need-stage_at-requires
 stage-at-requires c κs = search rules
 
-add-t11 : tie.Need-overflow-add-t11
+add-t11 : tie.Need-overflow_add-result
 add-t11 c = search rules
 
 fill-requires : tie.Need-fill-requires
 fill-requires c κs =
-    let q = c.before.before.before in
-    let s = q.before.before.before in
-    let w = wants s.args.f _ s.requires.0 q.kind-of.ensures in
-    let n = c.before.least.ensures in
-    (omega (arith, w.0, w.1, n), omega (arith, n, s.requires.1))
+    let w = wants c.args.f _ c.requires.0 c.kind_of-kind.ensures in
+    let n = c.least-n.ensures in
+    (omega (arith, w.0, w.1, n), omega (arith, n, c.requires.1))
 
-fed-on-requires : tie.Need-fed-on-requires
+fed-on-requires : tie.Need-fed_on-requires
 fed-on-requires c κs = search rules
 
 returns : tie.Need-returns
 returns c =
-    let p = c.before.before.before in
-    let q = p.before.before in (
-      rw (sym q.kind-of.ensures) p.least.ensures,
-      simp (c.fed-on.ensures, c.before.fill.ensures, c.before.before.Stage-at.ensures, q.kind-of.ensures),
+    (
+      rw (sym c.kind_of-kind.ensures) c.least-n.ensures,
+      simp (c.fed_on.ensures, c.fill.ensures, c.stage_at.ensures, c.kind_of-kind.ensures),
     )
 
 pub grow_spec : {M : Type 1} → statement M

@@ -10,54 +10,50 @@ use Rattle.records.proofs.Fits.{plain_fits, fit-here, unfit-here, fit-end}
 use Rattle.record_front.proofs.fits.Statement.{statement}
 use Rattle.record_front.proofs.fits.Tie as tie
 
-abbrev invariant-loop : tie.invariant-loop
-invariant-loop kind body i₀ i = (i ≤ length body) × (fits_from kind (get_or body 0 0) i (drop i body) ≡ body_fits kind body)
+abbrev invariant-loop-i : tie.invariant-loop-i
+invariant-loop-i kind body i₀ i = (i ≤ length body) × (fits_from kind (get_or body 0 0) i (drop i body) ≡ body_fits kind body)
 
-abbrev decreases-loop : tie.decreases-loop
-decreases-loop kind body i₀ i = length body - i
+abbrev decreases-loop-i : tie.decreases-loop-i
+decreases-loop-i kind body i₀ i = length body - i
 
-returns : tie.Need-returns invariant-loop decreases-loop
-returns c = sym (plain_fits _ c.before.before.args.body.now (ne_eqb _ 5 c.if1.true))
+returns : tie.Need-returns-then-kind-ne5 invariant-loop-i decreases-loop-i
+returns c = sym (plain_fits _ c.args.body.now (ne_eqb _ 5 c.if-kind-ne5.true))
 
-loop-holds : tie.Need-loop-init invariant-loop decreases-loop
+loop-holds : tie.Need-loop-i-init invariant-loop-i decreases-loop-i
 loop-holds c = (omega arith, refl)
 
-shared-slice-read-byte-fits : tie.Need-shared-slice-read-byte-fits invariant-loop decreases-loop
+shared-slice-read-byte-fits : tie.Need-bounds-body-0 invariant-loop-i decreases-loop-i
 shared-slice-read-byte-fits c = search rules
 
-shared-slice-read-byte-fits-2 : tie.Need-shared-slice-read-byte-fits-2 invariant-loop decreases-loop
+shared-slice-read-byte-fits-2 : tie.Need-bounds-body-i invariant-loop-i decreases-loop-i
 shared-slice-read-byte-fits-2 c = search rules
 
-byte-fits-requires : tie.Need-byte-fits-requires invariant-loop decreases-loop
+byte-fits-requires : tie.Need-byte_fits-requires invariant-loop-i decreases-loop-i
 byte-fits-requires c κs = search rules
 
-returns-2 : tie.Need-returns-2 invariant-loop decreases-loop
+returns-2 : tie.Need-returns-then-not-byte_fits invariant-loop-i decreases-loop-i
 returns-2 c =
-    let b = c.before in
-    let l = b.before.before.before in
-    sym (unfit-here _ _ _ _ l.loop-test.true (sym b.byte-fits.ensures ∙ not-true _ c.if2.true)) ∙ l.before.loop.invariant.1
+    sym (unfit-here _ _ _ _ c.loop-i-test.true (sym c.byte_fits.ensures ∙ c.if-not-byte_fits.true)) ∙ c.loop-i.invariant.1
 
-add-i : tie.Need-overflow-add-i invariant-loop decreases-loop
+add-i : tie.Need-overflow_add-i invariant-loop-i decreases-loop-i
 add-i c = search rules
 
-loop-less : tie.Need-loop-smaller invariant-loop decreases-loop
+loop-less : tie.Need-loop-i-smaller invariant-loop-i decreases-loop-i
 loop-less c = search rules
 
-loop-again : tie.Need-loop-preserved invariant-loop decreases-loop
+loop-again : tie.Need-loop-i-preserved invariant-loop-i decreases-loop-i
 loop-again c =
-    let b = c.before in
-    let l = b.before.before.before in
-    (omega arith, fit-here _ _ _ _ l.loop-test.true (sym b.byte-fits.ensures ∙ not-false _ c.if2.false) ∙ l.before.loop.invariant.1)
+    (omega arith, fit-here _ _ _ _ c.loop-i-test.true (sym c.byte_fits.ensures ∙ c.if-not-byte_fits.false) ∙ c.loop-i.invariant.1)
 
-returns-3 : tie.Need-returns-3 invariant-loop decreases-loop
-returns-3 c = sym (fit-end _ _ _ _ c.loop-test.false) ∙ c.before.loop.invariant.1
+returns-3 : tie.Need-returns invariant-loop-i decreases-loop-i
+returns-3 c = sym (fit-end _ _ _ _ c.loop-i-test.false) ∙ c.loop-i.invariant.1
 
-pub fits-spec : {M : Type 1} → statement M
-fits-spec =
+pub fits_spec : {M : Type 1} → statement M
+fits_spec =
     tie.close
     (tie.spec
-    invariant-loop
-    decreases-loop
+    invariant-loop-i
+    decreases-loop-i
     returns
     loop-holds
     shared-slice-read-byte-fits

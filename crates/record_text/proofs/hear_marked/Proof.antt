@@ -5,31 +5,29 @@ use borrow.Author.Rules.{rules}
 use Rattle.record_text.proofs.hear_marked.Statement.{statement}
 use Rattle.record_text.proofs.hear_marked.Tie as tie
 
-hear-marked-requires : tie.Need-hear-marked-requires
+hear-marked-requires : tie.Need-hear_marked-t-requires
 hear-marked-requires c κs = search rules
 
 tell-requires : tie.Need-tell-requires
 tell-requires c κs =
-    let at_call = c.before.before.before.before.before.before in
-    let call = at_call.hear-marked in
-    let start = at_call.before.before.before.before.before.before.before in
-    (omega (arith, is-few _ _ _ _ _ _ call.ensures.always call.auto.1.1.1.0, call.auto.1.1.1.0), omega (arith, call.auto.1.1.1.0, start.requires.0), omega (arith, start.requires.1))
+    let call = c.hear_marked-t in
+    (omega (arith, is-few _ _ _ _ _ _ call.ensures.always call.auto.1.1.1.0, call.auto.1.1.1.0), omega (arith, call.auto.1.1.1.0, c.requires.0), omega (arith, c.requires.1))
 
-same_length : tie.Need-same-length
+same_length : tie.Need-shape_of-out
 same_length c = search rules
 
-same-length-2 : tie.Need-same-length-2
+same-length-2 : tie.Need-shape_of-bytes
 same-length-2 c = search rules
 
-same-length-3 : tie.Need-same-length-3
+same-length-3 : tie.Need-shape_of-page
 same-length-3 c = search rules
 
 returns : tie.Need-returns
 returns c =
-    let call = c.before.before.before.before.before.before.before.before.before.hear-marked in
-    c.before.before.tell.ensures _ _ _ _ call.ensures.always call.auto.1.1.1.1.0
+    let call = c.hear_marked-t in
+    c.tell.ensures _ _ _ _ call.ensures.always call.auto.1.1.1.1.0
 
-pub hear-marked-spec : {M : Type 1} → statement M
-hear-marked-spec =
+pub hear_marked_spec : {M : Type 1} → statement M
+hear_marked_spec =
     tie.close
     (tie.spec hear-marked-requires tell-requires same_length same-length-2 same-length-3 returns)

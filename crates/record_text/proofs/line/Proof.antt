@@ -9,38 +9,36 @@ use Rattle.record_text.proofs.line.Tie as tie
 unread-requires : tie.Need-unread-requires
 unread-requires c κs = search rules
 
-same_length : tie.Need-same-length
+same_length : tie.Need-shape_of-bytes-then-part
 same_length c = search rules
 
-same-length-2 : tie.Need-same-length-2
+same-length-2 : tie.Need-shape_of-page-then-part
 same-length-2 c = search rules
 
-returns : tie.Need-returns
+returns : tie.Need-returns-then-part
 returns c =
-    let call = c.before.before in
-    let a = call.before.before.before.before.before.before.before.args in
-    λ s g. notes-same (long-noted g a.rx a.begun _ call.before.before.before.if1.true) call.unread.ensures
+    let a = c.args in
+    λ s g. notes-same (long-noted g a.rx a.begun _ c.if-part.true) c.unread.ensures
 
-slice-aggregate-obey : tie.Need-slice-aggregate-obey
-slice-aggregate-obey c = sym (length-take-le _ _ c.before.before.before.before.before.requires.1)
+slice-aggregate-obey : tie.Need-slice_bounds-obey-end
+slice-aggregate-obey c = sym (length-take-le _ _ c.requires.1)
 
 obey-requires : tie.Need-obey-requires
 obey-requires c κs = search rules
 
-same-length-3 : tie.Need-same-length-3
+same-length-3 : tie.Need-shape_of-bytes
 same-length-3 c = search rules
 
-same-length-4 : tie.Need-same-length-4
+same-length-4 : tie.Need-shape_of-page
 same-length-4 c = search rules
 
-returns-2 : tie.Need-returns-2
+returns-2 : tie.Need-returns
 returns-2 c =
-    let call = c.before.before.before.before in
-    let a = call.before.before.before.before.before.before.before.before.args in
-    λ s g. notes-same (line-noted g a.rx a.begun _ call.before.before.before.before.if1.false) call.obey.ensures
+    let a = c.args in
+    λ s g. notes-same (line-noted g a.rx a.begun _ c.if-part.false) c.obey.ensures
 
-pub line-spec : {M : Type 1} → statement M
-line-spec =
+pub line_spec : {M : Type 1} → statement M
+line_spec =
     tie.close
     (tie.spec
     unread-requires

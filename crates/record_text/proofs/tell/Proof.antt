@@ -9,21 +9,20 @@ use borrow.Author.Rules.{rules}
 use Rattle.record_text.proofs.tell.Statement.{statement}
 use Rattle.record_text.proofs.tell.Tie as tie
 
-slice-aggregate-heard : tie.Need-slice-aggregate-heard
-slice-aggregate-heard c = sym (length-take-le _ _ c.before.before.before.before.requires.0)
+slice-aggregate-heard : tie.Need-slice_bounds-heard-end
+slice-aggregate-heard c = sym (length-take-le _ _ c.requires.0)
 
-heard-requires : tie.Need-heard-requires
+heard-requires : tie.Need-heard-at-requires
 heard-requires c κs = rw length-take (omega arith)
 
-same_length : tie.Need-same-length
+same_length : tie.Need-shape_of-page
 same_length c = search rules
 
 returns : tie.Need-returns
 returns c =
-    let heard = c.before.before.before.heard in
-    let start = c.before.before.before.before.before.before.before.before in
-    λ ran room bytes b is kept. tells start.args.begun ran room bytes _ b start.args.t is kept _ _ _
-    (omega (arith, heard-near _ _ _ heard.ensures, length-take start.args.t.written start.args.out.now)) heard.ensures
+    let heard = c.heard-at in
+    λ ran room bytes b is kept. tells c.args.begun ran room bytes _ b c.args.t is kept _ _ _
+    (omega (arith, heard-near _ _ _ heard.ensures, length-take c.args.t.written c.args.out.now)) heard.ensures
 
-pub tell-spec : {M : Type 1} → statement M
-tell-spec = tie.close (tie.spec slice-aggregate-heard heard-requires same_length returns)
+pub tell_spec : {M : Type 1} → statement M
+tell_spec = tie.close (tie.spec slice-aggregate-heard heard-requires same_length returns)

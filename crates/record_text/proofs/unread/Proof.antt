@@ -9,14 +9,14 @@ use Rattle.record_text.proofs.unread.Tie as tie
 unread-requires : tie.Need-unread-requires
 unread-requires c κs = search rules
 
-same_length : tie.Need-same-length
+same_length : tie.Need-shape_of-page
 same_length c = search rules
 
 returns : tie.Need-returns
 returns c =
-    let put = c.before.before.unread in
+    let put = c.unread in
     let two : put.result ≡ 2 = put.ensures.next in
     idles _ _ _ _ _ _ _ (omega arith) put.ensures
 
-pub unread-spec : {M : Type 1} → statement M
-unread-spec = tie.close (tie.spec unread-requires same_length returns)
+pub unread_spec : {M : Type 1} → statement M
+unread_spec = tie.close (tie.spec unread-requires same_length returns)

@@ -4,14 +4,14 @@ use borrow.Author.Tests.{le-leb, lt-leb}
 use Rattle.record_write.proofs.one_of_four.Statement.{statement}
 use Rattle.record_write.proofs.one_of_four.Tie as tie
 
-add-result : tie.Need-overflow-add-result
+add-result : tie.Need-overflow_add-result
 add-result c = search rules
 
-returns : tie.Need-returns
-returns c = rw (le-leb 2 _ c.if1.true)
+returns : tie.Need-returns-then-mark-ge2
+returns c = rw (le-leb 2 _ c.if-mark-ge2.true)
 
-returns-2 : tie.Need-returns-2
-returns-2 c = rw (lt-leb 2 _ c.if1.false)
+returns-2 : tie.Need-returns-else-mark-ge2
+returns-2 c = rw (lt-leb 2 _ c.if-mark-ge2.false)
 
-pub one-of-four-spec : {M : Type 1} → statement M
-one-of-four-spec = tie.close (tie.spec add-result returns returns-2)
+pub one_of_four_spec : {M : Type 1} → statement M
+one_of_four_spec = tie.close (tie.spec add-result returns returns-2)

@@ -8,41 +8,40 @@ use borrow.Author.Rules.{rules}
 use Rattle.record_write.proofs.put_open.Statement.{statement}
 use Rattle.record_write.proofs.put_open.Tie as tie
 
-open-kind-requires : tie.Need-open-kind-requires
+open-kind-requires : tie.Need-open_kind-requires
 open-kind-requires c κs = search rules
 
-slice-write-bytes : tie.Need-slice-write-bytes
+slice-write-bytes : tie.Need-bounds-bytes-0
 slice-write-bytes c = search rules
 
-cast-bytes : tie.Need-overflow-cast-bytes
+cast-bytes : tie.Need-overflow_cast-bytes
 cast-bytes c = search rules
 
-slice-write-bytes-2 : tie.Need-slice-write-bytes-2
+slice-write-bytes-2 : tie.Need-bounds-bytes-1
 slice-write-bytes-2 c = simp length-set (omega arith)
 
-cast-bytes-2 : tie.Need-overflow-cast-bytes-2
+cast-bytes-2 : tie.Need-overflow_cast-bytes-2
 cast-bytes-2 c = search rules
 
-slice-write-bytes-3 : tie.Need-slice-write-bytes-3
+slice-write-bytes-3 : tie.Need-bounds-bytes-2
 slice-write-bytes-3 c = simp length-set (omega arith)
 
-cast-bytes-3 : tie.Need-overflow-cast-bytes-3
+cast-bytes-3 : tie.Need-overflow_cast-bytes-3
 cast-bytes-3 c = search rules
 
-slice-write-bytes-4 : tie.Need-slice-write-bytes-4
+slice-write-bytes-4 : tie.Need-bounds-bytes-3
 slice-write-bytes-4 c = search rules
 
-same_length : tie.Need-same-length
+same_length : tie.Need-shape_of-bytes
 same_length c = search rules
 
 returns : tie.Need-returns
 unfolding bytes_of
 returns c =
-    let s = c.before.before.before in
-    rw c.before.open-kind.ensures (fronted (open_entry s.args.k s.args.window s.args.start ∷ []) s.args.bytes.now s.requires.0)
+    rw c.open_kind.ensures (fronted (open_entry c.args.k c.args.window c.args.start ∷ []) c.args.bytes.now c.requires.0)
 
-pub put-open-spec : {M : Type 1} → statement M
-put-open-spec =
+pub put_open_spec : {M : Type 1} → statement M
+put_open_spec =
     tie.close
     (tie.spec
     open-kind-requires

@@ -7,40 +7,36 @@ use borrow.Author.Rules.{rules}
 use Rattle.record_write.proofs.put_taken.Statement.{statement}
 use Rattle.record_write.proofs.put_taken.Tie as tie
 
-symbol-space-requires : tie.Need-symbol-space-requires
+symbol-space-requires : tie.Need-symbol_space-size-requires
 symbol-space-requires c κs = search rules
 
-put-record-requires : tie.Need-put-record-requires
+put-record-requires : tie.Need-put_record-requires
 put-record-requires c κs =
-    let s = c.before.before.before.before in
-    (s.requires.0, s.requires.1, omega (arith, s.requires.2))
+    (c.requires.0, c.requires.1, omega (arith, c.requires.2))
 
-sub-put-words : tie.Need-overflow-sub-put-words
+sub-put-words : tie.Need-slice_bounds-put_words-count
 sub-put-words c = search rules
 
-part-put-words-start : tie.Need-slice-bounds-put-words-start
+part-put-words-start : tie.Need-slice_bounds-put_words-start
 part-put-words-start c = search rules
 
-part-put-words-end : tie.Need-slice-bounds-put-words-end
+part-put-words-end : tie.Need-slice_bounds-put_words-end
 part-put-words-end c = search rules
 
-put-words-requires : tie.Need-put-words-requires
+put-words-requires : tie.Need-put_words-requires
 put-words-requires c κs = search rules
 
-same_length : tie.Need-same-length
+same_length : tie.Need-shape_of-bytes
 same_length c = search rules
 
 returns : tie.Need-returns
 returns c =
-    let p = c.before.before.before.before.before.before in
-    let z = p.before.before in
-    let s = z.before.before.before in
-    let size = z.symbol-space.ensures in
-    then-words (symbol_record (symbol_in s.args.mark s.args.four.now)) s.args.words.now s.args.bytes.now _ _ _ (sym size)
-    (p.put_record.ensures ∙ rw size) c.before.before.put-words.ensures
+    let size = c.symbol_space-size.ensures in
+    then-words (symbol_record (symbol_in c.args.mark c.args.four.now)) c.args.words.now c.args.bytes.now _ _ _ (sym size)
+    (c.put_record.ensures ∙ rw size) c.put_words.ensures
 
-pub put-taken-spec : {M : Type 1} → statement M
-put-taken-spec =
+pub put_taken_spec : {M : Type 1} → statement M
+put_taken_spec =
     tie.close
     (tie.spec
     symbol-space-requires

@@ -8,42 +8,42 @@ use borrow.Author.Rules.{rules}
 use Rattle.record_write.proofs.put_word.Statement.{statement}
 use Rattle.record_write.proofs.put_word.Tie as tie
 
-slice-write-bytes : tie.Need-slice-write-bytes
+slice-write-bytes : tie.Need-bounds-bytes-0
 slice-write-bytes c = search rules
 
-cast-bytes : tie.Need-overflow-cast-bytes
+cast-bytes : tie.Need-overflow_cast-bytes
 cast-bytes c = search rules
 
-slice-write-bytes-2 : tie.Need-slice-write-bytes-2
+slice-write-bytes-2 : tie.Need-bounds-bytes-1
 slice-write-bytes-2 c = simp length-set (omega arith)
 
-cast-bytes-2 : tie.Need-overflow-cast-bytes-2
+cast-bytes-2 : tie.Need-overflow_cast-bytes-2
 cast-bytes-2 c = search rules
 
-slice-write-bytes-3 : tie.Need-slice-write-bytes-3
+slice-write-bytes-3 : tie.Need-bounds-bytes-2
 slice-write-bytes-3 c = simp length-set (omega arith)
 
-cast-bytes-3 : tie.Need-overflow-cast-bytes-3
+cast-bytes-3 : tie.Need-overflow_cast-bytes-3
 cast-bytes-3 c = search rules
 
-slice-write-bytes-4 : tie.Need-slice-write-bytes-4
+slice-write-bytes-4 : tie.Need-bounds-bytes-3
 slice-write-bytes-4 c = simp length-set (omega arith)
 
-cast-bytes-4 : tie.Need-overflow-cast-bytes-4
+cast-bytes-4 : tie.Need-overflow_cast-bytes-4
 cast-bytes-4 c = search rules
 
-slice-write-bytes-5 : tie.Need-slice-write-bytes-5
+slice-write-bytes-5 : tie.Need-bounds-bytes-4
 slice-write-bytes-5 c = search rules
 
-same_length : tie.Need-same-length
+same_length : tie.Need-shape_of-bytes
 same_length c = search rules
 
 returns : tie.Need-returns
 unfolding bytes_of
 returns c = fronted (word_entry c.args.w ∷ []) c.args.bytes.now c.requires
 
-pub put-word-spec : {M : Type 1} → statement M
-put-word-spec =
+pub put_word_spec : {M : Type 1} → statement M
+put_word_spec =
     tie.close
     (tie.spec
     slice-write-bytes

@@ -4,11 +4,11 @@ use Rattle.record_write.proofs.Fronts.{nine-bytes, ten-bytes}
 use Rattle.record_write.proofs.symbol_space.Statement.{statement}
 use Rattle.record_write.proofs.symbol_space.Tie as tie
 
-returns : tie.Need-returns
-returns c = sym (nine-bytes _ c.before.args.four.now c.if1.true)
+returns : tie.Need-returns-then-mark-eq0
+returns c = sym (nine-bytes _ c.args.four.now c.if-mark-eq0.true)
 
-returns-2 : tie.Need-returns-2
-returns-2 c = sym (ten-bytes _ c.before.args.four.now c.if1.false)
+returns-2 : tie.Need-returns-else-mark-eq0
+returns-2 c = sym (ten-bytes _ c.args.four.now c.if-mark-eq0.false)
 
-pub symbol-space-spec : {M : Type 1} → statement M
-symbol-space-spec = tie.close (tie.spec returns returns-2)
+pub symbol_space_spec : {M : Type 1} → statement M
+symbol_space_spec = tie.close (tie.spec returns returns-2)

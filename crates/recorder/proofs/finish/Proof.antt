@@ -16,111 +16,104 @@ use Rattle.recorder.proofs.finish.Statement.{statement}
 use Rattle.recorder.proofs.finish.Tie as tie
 
 -- after the receiver's own finish: the start, that the receiver was open, and that no more words are written than there are places
-abbrev first : tie.After-finish → tie.Start
+abbrev first : tie.After-finish-a → tie.Start
 first f = f.before.before.before.before.before.before.before.before.before
 
-opened : (e : tie.Else1) → sound e.before.before.before.before.args.rx ≡ true
-opened e = sym e.before.is_open.ensures ∙ not-false _ e.if1.false
+opened : (e : tie.Else-not-is_open) → sound e.args.rx ≡ true
+opened e = sym e.is_open.ensures ∙ e.if-not-is_open.false
 
-fits : (f : tie.After-finish) → f.finish.result.written ≤ length f.finish.new.1.0
+fits : (f : tie.After-finish-a) → f.finish-a.result.written ≤ length f.finish-a.new.out
 fits f =
-    let a = (first f).args in
-    omega (arith, finishes-fit a.rx a.out.now f.finish.result _ f.finish.ensures, f.finish.auto.1.0)
+    let a = f.args in
+    omega (arith, finishes-fit a.rx a.out.now f.finish-a.result _ f.finish-a.ensures, f.finish-a.auto.out)
 
 -- where it was done: how many words it wrote
-abbrev finished : tie.Else3 → tie.After-finish
+abbrev finished : tie.Else-not-is_done → tie.After-finish-a
 finished e = e.before.before.before.before
 
-done : (e : tie.Else3) → is_done (finished e).finish.result.why ≡ true
-done e = sym e.before.is-done.ensures ∙ not-false _ e.if3.false
+done : (e : tie.Else-not-is_done) → is_done e.finish-a.result.why ≡ true
+done e = sym e.is_done.ensures ∙ e.if-not-is_done.false
 
-written : (e : tie.Else3) → (finished e).finish.result.written ≡ (first (finished e)).args.rx.core.pending
+written : (e : tie.Else-not-is_done) → e.finish-a.result.written ≡ (first (finished e)).args.rx.core.pending
 written e =
     let f = finished e in
     let a = (first f).args in
-    finish-written a.rx a.out.now a.bytes.now f.finish.result _ f.finish.ensures (done e)
+    finish-written a.rx a.out.now a.bytes.now f.finish-a.result _ f.finish-a.ensures (done e)
 
-is-open-requires : tie.Need-is-open-requires
+is-open-requires : tie.Need-is_open-requires
 is-open-requires c κs = tt
 
 stopped-requires : tie.Need-stopped-requires
 stopped-requires c κs = tt
 
-returns : tie.Need-returns
+returns : tie.Need-returns-then-not-is_open
 returns c =
-    let s = c.before.before.before.before.before in
-    rw c.stopped.ensures (finish-closed s.args.rx s.args.out.now s.args.bytes.now (sym c.before.before.is_open.ensures ∙ not-true _ c.before.if1.true))
+    rw c.stopped.ensures (finish-closed c.args.rx c.args.out.now c.args.bytes.now (sym c.is_open.ensures ∙ c.if-not-is_open.true))
 
-mul-if2 : tie.Need-overflow-mul-if2
+mul-if2 : tie.Need-overflow_mul-core
 mul-if2 c = let k = sound-core _ (opened c.before.before) in omega (arith, k.held, k.small-window)
 
-add-if2 : tie.Need-overflow-add-if2
+add-if2 : tie.Need-overflow_add-core
 add-if2 c = let k = sound-core _ (opened c.before.before) in omega (arith, k.held, k.small-window)
 
-stopped-requires-2 : tie.Need-stopped-requires-2
+stopped-requires-2 : tie.Need-stopped-requires-then-bytes-core
 stopped-requires-2 c κs = tt
 
-returns-2 : tie.Need-returns-2
+returns-2 : tie.Need-returns-then-bytes-core
 returns-2 c =
-    let e = c.before.before.before.before in
-    let a = e.before.before.before.before.args in
-    rw c.stopped2.ensures (finish-short a.rx a.out.now a.bytes.now (opened e) c.before.if2.true)
+    let a = c.args in
+    rw c.stopped-then-bytes-core.ensures (finish-short a.rx a.out.now a.bytes.now (opened c.before.before.before.before) c.if-bytes-core.true)
 
-finish-requires : tie.Need-finish-requires
+finish-requires : tie.Need-finish-a-requires
 finish-requires c κs = tt
 
-is-done-requires : tie.Need-is-done-requires
+is-done-requires : tie.Need-is_done-requires
 is-done-requires c κs = tt
 
-stopped-requires-3 : tie.Need-stopped-requires-3
+stopped-requires-3 : tie.Need-stopped-requires-then-not-is_done
 stopped-requires-3 c κs = tt
 
-same_length : tie.Need-same-length
+same_length : tie.Need-shape_of-out-then-not-is_done
 same_length c = search rules
 
-returns-3 : tie.Need-returns-3
+returns-3 : tie.Need-returns-then-not-is_done
 returns-3 c =
-    let f = c.before.before.before.before.before in
-    let a = (first f).args in
-    let no = sym c.before.before.is-done.ensures ∙ not-true _ c.before.if3.true in
-    rw c.stopped3.ensures (finish-refused a.rx a.out.now a.bytes.now f.finish.result _ f.finish.ensures no)
+    let a = c.args in
+    let no = sym c.is_done.ensures ∙ c.if-not-is_done.true in
+    rw c.stopped-then-not-is_done.ensures (finish-refused a.rx a.out.now a.bytes.now c.finish-a.result _ c.finish-a.ensures no)
 
-slice-reshare-prefix-put-finish : tie.Need-slice-reshare-prefix-put-finish
+slice-reshare-prefix-put-finish : tie.Need-slice_bounds-put_finish-end
 slice-reshare-prefix-put-finish c = fits c.before.before.before.before.before
 
-slice-aggregate-put-finish : tie.Need-slice-aggregate-put-finish
-slice-aggregate-put-finish c = sym (length-take-le _ _ (fits c.before.before.before.before.before.before))
+slice-aggregate-put-finish : tie.Need-slice_bounds-put_finish-end-2
+slice-aggregate-put-finish c = sym (length-take-le _ _ (fits c.before.before.before.before.before))
 
-put-finish-requires : tie.Need-put-finish-requires
+put-finish-requires : tie.Need-put_finish-requires
 put-finish-requires c κs =
-    let e = c.before.before.before in
-    let f = finished e in
-    omega (arith, length-take-le f.finish.result.written f.finish.last.1.0 (fits f), written e, f.before.before.if2.left)
+    let f = finished c.before.before in
+    omega (arith, length-take-le f.finish-a.result.written f.finish-a.last.1.0 (fits f), written c.before.before, f.if-bytes-core.left)
 
-mul-t12 : tie.Need-overflow-mul-t12
+mul-t12 : tie.Need-overflow_mul-result
 mul-t12 c =
-    let e = c.before.before.before.before.before.before in
-    let k = sound-core _ (opened (finished e).before.before.before.before.before) in
-    omega (arith, written e, k.held, k.small-window)
+    let k = sound-core _ (opened c.before.before.before.before.before.before.before.before.before.before.before.before.before.before) in
+    omega (arith, written c.before.before.before.before.before, k.held, k.small-window)
 
-add-t13 : tie.Need-overflow-add-t13
+add-t13 : tie.Need-overflow_add-result
 add-t13 c =
-    let e = c.before.before.before.before.before.before in
-    let k = sound-core _ (opened (finished e).before.before.before.before.before) in
-    omega (arith, written e, k.held, k.small-window)
+    let k = sound-core _ (opened c.before.before.before.before.before.before.before.before.before.before.before.before.before.before) in
+    omega (arith, written c.before.before.before.before.before, k.held, k.small-window)
 
-same-length-2 : tie.Need-same-length-2
+same-length-2 : tie.Need-shape_of-out
 same-length-2 c = search rules
 
-same-length-3 : tie.Need-same-length-3
+same-length-3 : tie.Need-shape_of-bytes
 same-length-3 c = search rules
 
-returns-4 : tie.Need-returns-4
+returns-4 : tie.Need-returns
 returns-4 c =
-    let e = c.before.before.before.before.before.before in
-    let f = finished e in
+    let f = finished c.before.before.before.before.before in
     let a = (first f).args in
-    finish-done a.rx a.out.now a.bytes.now f.finish.result _ f.finish.ensures (done e) f.before.before.if2.left _ c.before.before.put-finish.ensures
+    finish-done a.rx a.out.now a.bytes.now f.finish-a.result _ f.finish-a.ensures (done c.before.before.before.before.before) f.if-bytes-core.left _ c.put_finish.ensures
 
 pub finish_spec : {M : Type 1} → statement M
 finish_spec =

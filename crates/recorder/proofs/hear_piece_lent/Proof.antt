@@ -15,8 +15,8 @@ use borrow.Author.Rules.{rules}
 use Rattle.recorder.proofs.hear_piece_lent.Statement.{statement}
 use Rattle.recorder.proofs.hear_piece_lent.Tie as tie
 
-abbrev first : tie.After-parts-fit → tie.Start
-first f = f.before.before.before.before.before.before.before
+abbrev first : tie.After-parts_fit → tie.Start
+first f = f.before.before.before.before.before.before
 
 -- the receiver whose parts are lent
 abbrev rx : tie.Start → Receiver
@@ -27,88 +27,77 @@ abbrev piece : tie.Start → Piece
 piece s = let a = s.args in piece_with a.marked a.marks.now a.samples.now
 
 -- other picks than 72 are no receiver's
-none : (c : tie.Then1) → sound (rx c.before.before.before.before.before) ≡ false
+none : (c : tie.Then-picks-ne72) → sound (rx c.before.before.before.before.before) ≡ false
 unfolding sound
-none c = let a = c.before.before.before.before.before.args in rw (lent_none a.live a.picks.now c.if1.true)
+none c = let a = c.args in rw (lent_none a.live a.picks.now c.if-picks-ne72.true)
 
 -- the test of the parts says whether the receiver is open
-open_by : (f : tie.After-parts-fit) → sound (rx (first f)) ≡ f.parts-fit.result
+open_by : (f : tie.After-parts_fit) → sound (rx (first f)) ≡ f.parts_fit.result
 unfolding sound
-open_by f = let a = (first f).args in rw (lent-live a.live a.picks.now f.before.before.if1.false) (sym f.parts-fit.ensures)
+open_by f = let a = f.args in rw (lent-live a.live a.picks.now f.if-picks-ne72.false) (sym f.parts_fit.ensures)
 
 -- and the last test whether the piece is of whole symbols
-whole-symbols : (e : tie.Else3) → (piece (first e.before.before.before)).fits ≡ true
-whole-symbols e = sym e.before.fits2.ensures ∙ not-false _ e.if3.false
+whole-symbols : (e : tie.Else-not-fits) → (piece (first e.before.before.before)).fits ≡ true
+whole-symbols e = sym e.fits2.ensures ∙ e.if-not-fits.false
 
-nothing-kept-requires : tie.Need-nothing-kept-requires
+nothing-kept-requires : tie.Need-nothing_kept-requires
 nothing-kept-requires c κs = tt
 
-returns : tie.Need-returns
+returns : tie.Need-returns-then-picks-ne72
 returns c =
-    let s = c.before.before.before.before.before.before in
-    rw c.nothing-kept.ensures (tape-closed (rx s) s.args.out.now s.args.bytes.now (piece s) (none c.before))
+    rw c.nothing_kept.ensures (tape-closed (rx c.before.before.before.before.before.before) c.args.out.now c.args.bytes.now (piece c.before.before.before.before.before.before) (none c.before))
 
-parts-fit-requires : tie.Need-parts-fit-requires
+parts-fit-requires : tie.Need-parts_fit-requires
 parts-fit-requires c κs = tt
 
-nothing-kept-requires-2 : tie.Need-nothing-kept-requires-2
+nothing-kept-requires-2 : tie.Need-nothing_kept-requires-then-not-parts_fit
 nothing-kept-requires-2 c κs = tt
 
-returns-2 : tie.Need-returns-2
+returns-2 : tie.Need-returns-then-not-parts_fit
 returns-2 c =
-    let f = c.before.before in
-    let s = first f in
-    rw c.nothing-kept2.ensures
-    (tape-closed (rx s) s.args.out.now s.args.bytes.now (piece s) (open_by f ∙ not-true _ c.before.if2.true))
+    let s = first c.before.before in
+    rw c.nothing_kept-then-not-parts_fit.ensures
+    (tape-closed (rx s) s.args.out.now s.args.bytes.now (piece s) (open_by c.before.before ∙ c.if-not-parts_fit.true))
 
 fits-requires : tie.Need-fits-requires
 fits-requires c κs = tt
 
-nothing-kept-requires-3 : tie.Need-nothing-kept-requires-3
+nothing-kept-requires-3 : tie.Need-nothing_kept-requires-then-not-fits
 nothing-kept-requires-3 c κs = tt
 
-returns-3 : tie.Need-returns-3
+returns-3 : tie.Need-returns-then-not-fits
 returns-3 c =
-    let t = c.before.before in
-    let f = t.before.before in
-    let s = first f in
-    rw c.nothing-kept3.ensures
-    (tape-uneven (rx s) s.args.out.now s.args.bytes.now (piece s) (open_by f ∙ not-false _ t.before.if2.false)
-    (sym t.fits2.ensures ∙ not-true _ c.before.if3.true))
+    let s = first c.before.before.before.before in
+    rw c.nothing_kept-then-not-fits.ensures
+    (tape-uneven (rx s) s.args.out.now s.args.bytes.now (piece s) (open_by c.before.before.before.before ∙ c.if-not-parts_fit.false)
+    (sym c.fits2.ensures ∙ c.if-not-fits.true))
 
-record-symbols-requires : tie.Need-record-symbols-requires
+record-symbols-requires : tie.Need-record_symbols-requires
 record-symbols-requires c κs =
-    let i = c.before.before.before.before.before in
-    let e = i.before.before in
-    let f = e.before in
-    let a = (first f).args in
-    let o = open_by f ∙ not-false _ e.if2.false in (
-      subst (λ (b : Bool). sound (parts_of b a.core a.sums.now a.registers.now a.picks.now) ≡ true) (sound-live (rx (first f)) o) o,
-      fits-even a.marks.now _ a.marked (whole-symbols i),
-      f.before.before.if1.false,
+    let a = c.args in
+    let o = open_by c.before.before.before.before.before.before.before.before ∙ c.if-not-parts_fit.false in (
+      subst (λ (b : Bool). sound (parts_of b a.core a.sums.now a.registers.now a.picks.now) ≡ true) (sound-live (rx (first c.before.before.before.before.before.before.before.before)) o) o,
+      fits-even a.marks.now _ a.marked (whole-symbols c.before.before.before.before.before),
+      c.if-picks-ne72.false,
     )
 
-same_length : tie.Need-same-length
+same_length : tie.Need-shape_of-picks
 same_length c = search rules
 
-same-length-2 : tie.Need-same-length-2
+same-length-2 : tie.Need-shape_of-out
 same-length-2 c = search rules
 
-same-length-3 : tie.Need-same-length-3
+same-length-3 : tie.Need-shape_of-bytes
 same-length-3 c = search rules
 
-returns-4 : tie.Need-returns-4
+returns-4 : tie.Need-returns
 returns-4 c =
-    let h = c.before.before.before.before.before.before in
-    let i = h.before.before.before.before.before.before in
-    let e = i.before.before in
-    let f = e.before in
-    let s = first f in
-    tape-parts (rx s) s.args.out.now s.args.bytes.now (piece s) (open_by f ∙ not-false _ e.if2.false) (whole-symbols i)
-    _ _ _ _ _ _ h.record-symbols.ensures
+    let s = first c.before.before.before.before.before.before.before.before.before.before.before.before.before.before.before in
+    tape-parts (rx s) s.args.out.now s.args.bytes.now (piece s) (open_by c.before.before.before.before.before.before.before.before.before.before.before.before.before.before.before ∙ c.if-not-parts_fit.false) (whole-symbols c.before.before.before.before.before.before.before.before.before.before.before.before)
+    _ _ _ _ _ _ c.record_symbols.ensures
 
-pub hear-piece-lent-spec : {M : Type 1} → statement M
-hear-piece-lent-spec =
+pub hear_piece_lent_spec : {M : Type 1} → statement M
+hear_piece_lent_spec =
     tie.close
     (tie.spec
     nothing-kept-requires

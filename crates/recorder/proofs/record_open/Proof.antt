@@ -11,56 +11,51 @@ use Rattle.recorder.proofs.record_open.Statement.{statement}
 use Rattle.recorder.proofs.record_open.Tie as tie
 
 -- after the number of the opening: the start, the opening, and what it gave
-abbrev first : tie.After-number → tie.Start
+abbrev first : tie.After-number-n → tie.Start
 first m = m.before.before.before.before.before
 
-enough : (m : tie.After-number) → 4 ≤ length (first m).args.bytes.now
-enough m = m.before.before.before.if1.false
+enough : (m : tie.After-number-n) → 4 ≤ length m.args.bytes.now
+enough m = m.if-bytes-lt4.false
 
-opened : (m : tie.After-number) → let a = (first m).args in Opens a.accord a.window (start_at a.start) m.before.open-receiver.result
+opened : (m : tie.After-number-n) → let a = m.args in Opens a.accord a.window (start_at a.start) m.open_receiver-o.result
 opened m =
-    let a = (first m).args in
-    let o = m.before in
-    subst (λ (b : Start). Opens a.accord a.window b o.open-receiver.result) o.before.start-at.ensures o.open-receiver.ensures
+    let a = m.args in
+    subst (λ (b : Start). Opens a.accord a.window b m.open_receiver-o.result) m.start_at.ensures m.open_receiver-o.ensures
 
-returns : tie.Need-returns
-returns c = let s = c.before.before in open-short s.args.accord s.args.window s.args.start s.args.bytes.now c.if1.true
+returns : tie.Need-returns-then-bytes-lt4
+returns c = open-short c.args.accord c.args.window c.args.start c.args.bytes.now c.if-bytes-lt4.true
 
-start-at-requires : tie.Need-start-at-requires
+start-at-requires : tie.Need-start_at-requires
 start-at-requires c κs = tt
 
-open-receiver-requires : tie.Need-open-receiver-requires
+open-receiver-requires : tie.Need-open_receiver-o-requires
 open-receiver-requires c κs = tt
 
-number-requires : tie.Need-number-requires
+number-requires : tie.Need-number-n-requires
 number-requires c κs = tt
 
-returns-2 : tie.Need-returns-2
+returns-2 : tie.Need-returns-then-n-ne0
 returns-2 c =
-    let m = c.before in
-    let a = (first m).args in
-    open-refused a.accord a.window a.start a.bytes.now (enough m) _ (opened m) m.number.result m.number.ensures c.if2.true
+    let a = c.args in
+    open-refused a.accord a.window a.start a.bytes.now (enough c.before) _ (opened c.before) c.number-n.result c.number-n.ensures c.if-n-ne0.true
 
-put-open-requires : tie.Need-put-open-requires
+put-open-requires : tie.Need-put_open-requires
 put-open-requires c κs =
-    let m = c.before.before in
-    let a = (first m).args in
-    let k = open-small a.accord a.window a.start a.bytes.now (enough m) _ (opened m) m.number.result m.number.ensures c.before.if2.false in
-    (enough m, k.0, k.1, k.2)
+    let a = c.args in
+    let k = open-small a.accord a.window a.start a.bytes.now (enough c.before.before) _ (opened c.before.before) c.number-n.result c.number-n.ensures c.if-n-ne0.false in
+    (enough c.before.before, k.0, k.1, k.2)
 
-same_length : tie.Need-same-length
+same_length : tie.Need-shape_of-bytes
 same_length c = search rules
 
-returns-3 : tie.Need-returns-3
+returns-3 : tie.Need-returns
 returns-3 c =
-    let e = c.before.before.before.before in
-    let m = e.before in
-    let a = (first m).args in
-    open_done a.accord a.window a.start a.bytes.now (enough m) _ (opened m) m.number.result m.number.ensures e.if2.false
-    _ c.before.before.put-open.ensures
+    let a = c.args in
+    open_done a.accord a.window a.start a.bytes.now (enough c.before.before.before.before.before) _ (opened c.before.before.before.before.before) c.number-n.result c.number-n.ensures c.if-n-ne0.false
+    _ c.put_open.ensures
 
-pub record-open-spec : {M : Type 1} → statement M
-record-open-spec =
+pub record_open_spec : {M : Type 1} → statement M
+record_open_spec =
     tie.close
     (tie.spec
     returns

@@ -6,20 +6,20 @@ use borrow.Author.Rules.{rules}
 use Rattle.records.proofs.begin.Statement.{statement}
 use Rattle.records.proofs.begin.Tie as tie
 
-kind-of-requires : tie.Need-kind-of-requires
+kind-of-requires : tie.Need-kind_of-kind-requires
 kind-of-requires c κs = search rules
 
-may-stand-requires : tie.Need-may-stand-requires
+may-stand-requires : tie.Need-may_stand-requires
 may-stand-requires c κs = search rules
 
 counted-requires : tie.Need-counted-requires
 counted-requires c κs = search rules
 
-returns : tie.Need-returns
+returns : tie.Need-returns-then-not-may_stand
 unfolding begun
-returns c = simp (sym c.before.before.before.kind-of.ensures, sym c.before.before.may-stand.ensures ∙ not-true _ c.before.if1.true, c.counted.ensures)
+returns c = simp (sym c.kind_of-kind.ensures, sym c.may_stand.ensures ∙ c.if-not-may_stand.true, c.counted.ensures)
 
-stage-at-requires : tie.Need-stage-at-requires
+stage-at-requires : tie.Need-stage_at-requires
 stage-at-requires c κs = search rules
 
 after-requires : tie.Need-after-requires
@@ -28,20 +28,19 @@ after-requires c κs = search rules
 counted-requires-2 : tie.Need-counted-requires-2
 counted-requires-2 c κs = search rules
 
-returns-2 : tie.Need-returns-2
+returns-2 : tie.Need-returns
 unfolding begun
 returns-2 c =
-    let p = c.before.before.before in
     simp (
-      sym p.before.before.kind-of.ensures,
-      sym p.before.may-stand.ensures ∙ not-false _ p.if1.false,
-      c.counted2.ensures,
-      c.before.after.ensures,
-      c.before.before.Stage-at.ensures,
+      sym c.kind_of-kind.ensures,
+      sym c.may_stand.ensures ∙ c.if-not-may_stand.false,
+      c.counted-2.ensures,
+      c.after.ensures,
+      c.stage_at.ensures,
     )
 
-pub begin-spec : {M : Type 1} → statement M
-begin-spec =
+pub begin_spec : {M : Type 1} → statement M
+begin_spec =
     tie.close
     (tie.spec
     kind-of-requires

@@ -10,43 +10,42 @@ use borrow.Author.Rules.{rules}
 use Rattle.records.proofs.grow.Statement.{statement}
 use Rattle.records.proofs.grow.Tie as tie
 
-may-grow-requires : tie.Need-may-grow-requires
+may-grow-requires : tie.Need-may_grow-requires
 may-grow-requires c κs = search rules
 
-returns : tie.Need-returns
+returns : tie.Need-returns-then-not-may_grow
 unfolding grown
-returns c = simp (sym c.before.may-grow.ensures ∙ not-true _ c.if1.true)
+returns c = simp (sym c.may_grow.ensures ∙ c.if-not-may_grow.true)
 
 -- the byte may come, so there is room for it
-may : (e : tie.Else1) → may_grow e.before.before.before.args.f e.before.before.before.args.b ≡ true
-may e = sym e.before.may-grow.ensures ∙ not-false _ e.if1.false
+may : (e : tie.Else-not-may_grow) → may_grow e.args.f e.args.b ≡ true
+may e = sym e.may_grow.ensures ∙ e.if-not-may_grow.false
 
-roomy : (e : tie.Else1) → e.before.before.before.args.f.have < 9
+roomy : (e : tie.Else-not-may_grow) → e.args.f.have < 9
 roomy e = has_room _ _ (may e)
 
-array-write-body : tie.Need-array-write-body
+array-write-body : tie.Need-bounds-body-have
 array-write-body c = roomy c
 
-kind-of-requires : tie.Need-kind-of-requires
+kind-of-requires : tie.Need-kind_of-kind-requires
 kind-of-requires c κs = search rules
 
-add-stage-at : tie.Need-overflow-add-stage-at
+add-stage-at : tie.Need-overflow_add-have
 add-stage-at c = record { fits = omega (arith, roomy c.before) }
 
-stage-at-requires : tie.Need-stage-at-requires
+stage-at-requires : tie.Need-stage_at-requires
 stage-at-requires c κs = search rules
 
-add-t15 : tie.Need-overflow-add-t15
+add-t15 : tie.Need-overflow_add-result
 add-t15 c = record { fits = omega (arith, roomy c.before.before) }
 
 counted-requires : tie.Need-counted-requires
 counted-requires c κs = search rules
 
-returns-2 : tie.Need-returns-2
+returns-2 : tie.Need-returns
 unfolding grown
 returns-2 c =
-    let k = c.before.before in
-    simp (may k.before, c.before.Stage-at.ensures, k.kind-of.ensures, c.counted.ensures)
+    simp (may c.before.before.before, c.stage_at.ensures, c.kind_of-kind.ensures, c.counted.ensures)
 
 pub grow_spec : {M : Type 1} → statement M
 grow_spec =

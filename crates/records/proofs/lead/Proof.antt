@@ -4,11 +4,11 @@ use borrow.Author.Tests.{eq-eqb, ne_eqb}
 use Rattle.records.proofs.lead.Statement.{statement}
 use Rattle.records.proofs.lead.Tie as tie
 
-returns : tie.Need-returns
-returns c = (simp (eq-eqb _ _ c.if1.true), omega arith)
+returns : tie.Need-returns-then-k-eq5
+returns c = (simp (eq-eqb _ _ c.if-k-eq5.true), omega arith)
 
-returns-2 : tie.Need-returns-2
-returns-2 c = (simp (ne_eqb _ _ c.if1.false), omega arith)
+returns-2 : tie.Need-returns-else-k-eq5
+returns-2 c = (simp (ne_eqb _ _ c.if-k-eq5.false), omega arith)
 
-pub lead-spec : {M : Type 1} → statement M
-lead-spec = tie.close (tie.spec returns returns-2)
+pub lead_spec : {M : Type 1} → statement M
+lead_spec = tie.close (tie.spec returns returns-2)

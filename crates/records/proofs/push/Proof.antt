@@ -4,42 +4,42 @@ use borrow.Author.Rules.{rules}
 use Rattle.records.proofs.push.Statement.{statement}
 use Rattle.records.proofs.push.Tie as tie
 
-enum_told : tie.Need-enum-told
+enum_told : tie.Need-enum_told-1
 enum_told c = search rules
 
 begin-requires : tie.Need-begin-requires
 begin-requires c κs = search rules
 
-enum-told-2 : tie.Need-enum-told-2
+enum-told-2 : tie.Need-enum_told-in-Part
 enum-told-2 c = search rules
 
 grow-requires : tie.Need-grow-requires
 grow-requires c κs = search rules
 
-enum-told-3 : tie.Need-enum-told-3
+enum-told-3 : tie.Need-enum_told-in-Whole
 enum-told-3 c = search rules
 
-begin-requires-2 : tie.Need-begin-requires-2
+begin-requires-2 : tie.Need-begin-requires-in-Whole
 begin-requires-2 c κs = search rules
 
-enum-told-4 : tie.Need-enum-told-4
+enum-told-4 : tie.Need-enum_told-in-Bad
 enum-told-4 c = search rules
 
-returns : tie.Need-returns
+returns : tie.Need-returns-in-Fresh
 unfolding pushed
-returns c = simp (c.before.enum_told.given.1, c.begin.ensures)
+returns c = simp (c.in-Fresh.is, c.begin.ensures)
 
-returns-2 : tie.Need-returns-2
+returns-2 : tie.Need-returns-in-Part
 unfolding pushed
-returns-2 c = simp (c.before.enum-told2.given.1, c.grow.ensures)
+returns-2 c = simp (c.in-Part.is, c.grow.ensures)
 
-returns-3 : tie.Need-returns-3
+returns-3 : tie.Need-returns-in-Whole
 unfolding pushed
-returns-3 c = simp (c.before.enum-told3.given.1, c.begin2.ensures)
+returns-3 c = simp (c.in-Whole.is, c.begin-in-Whole.ensures)
 
-returns-4 : tie.Need-returns-4
+returns-4 : tie.Need-returns-in-Bad
 unfolding pushed
-returns-4 c = simp c.enum-told4.given.1
+returns-4 c = simp c.in-Bad.is
 
 pub push_spec : {M : Type 1} → statement M
 push_spec =

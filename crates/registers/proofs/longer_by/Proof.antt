@@ -15,5 +15,5 @@ put_in r b h =
 returns : tie.Need-returns
 returns c = put_in _ _ c.requires
 
-pub longer-by-spec : {M : Type 1} → statement M
-longer-by-spec = tie.close (tie.spec returns)
+pub longer_by_spec : {M : Type 1} → statement M
+longer_by_spec = tie.close (tie.spec returns)

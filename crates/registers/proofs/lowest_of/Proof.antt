@@ -21,17 +21,17 @@ whole d n h k = sym (ap (λ (x : Bool). d % 2 ^ cond x 64 n) (le-leb 64 n h) ∙
 masked : (d n : ℕ) → n < 64 → bit_and d (1 * 2 ^ n % 2 ^ 64 - 1) ≡ lowest d n
 masked d n h = ap (λ (x : ℕ). bit_and d (x - 1)) (power n h) ∙ and_mask d n ∙ sym (ap (λ (x : Bool). d % 2 ^ cond x 64 n) (lt-leb 64 n h))
 
-returns : tie.Need-returns
-returns c = whole c.before.args.bits c.before.args.n c.if1.true (omega arith)
+returns : tie.Need-returns-then-n-ge64
+returns c = whole c.args.bits c.args.n c.if-n-ge64.true (omega arith)
 
-shl-result : tie.Need-overflow-shl-result
+shl-result : tie.Need-overflow_shl-result
 shl-result c = search rules
 
-sub-result : tie.Need-overflow-sub-result
-sub-result c = omega (arith, power c.before.args.n (omega arith), pow_pos c.before.args.n)
+sub-result : tie.Need-overflow_sub-result
+sub-result c = omega (arith, power c.args.n (omega arith), pow_pos c.args.n)
 
-returns-2 : tie.Need-returns-2
-returns-2 c = masked c.before.args.bits c.before.args.n (omega arith)
+returns-2 : tie.Need-returns
+returns-2 c = masked c.args.bits c.args.n (omega arith)
 
-pub lowest-of-spec : {M : Type 1} → statement M
-lowest-of-spec = tie.close (tie.spec returns shl-result sub-result returns-2)
+pub lowest_of_spec : {M : Type 1} → statement M
+lowest_of_spec = tie.close (tie.spec returns shl-result sub-result returns-2)

@@ -4,62 +4,48 @@ use Rattle.registers.proofs.Places.{shift_one, shift_two, shift-three}
 use Rattle.registers.proofs.shift.Statement.{statement}
 use Rattle.registers.proofs.shift.Tie as tie
 
-move-first-requires : tie.Need-move-first-requires
+move-first-requires : tie.Need-move_first-requires
 move-first-requires c κs = search rules
 
-words-before-requires : tie.Need-words-before-requires
+words-before-requires : tie.Need-words_before-middle-requires
 words-before-requires c κs = search rules
 
-move-up-requires : tie.Need-move-up-requires
+move-up-requires : tie.Need-move_up-requires
 move-up-requires c κs = search rules
 
-move-first-requires-2 : tie.Need-move-first-requires-2
+move-first-requires-2 : tie.Need-move_first-requires-then-n-le42
 move-first-requires-2 c κs = search rules
 
-words-before-requires-2 : tie.Need-words-before-requires-2
+words-before-requires-2 : tie.Need-words_before-high-requires
 words-before-requires-2 c κs = search rules
 
-move-up-requires-2 : tie.Need-move-up-requires-2
+move-up-requires-2 : tie.Need-move_up-requires-else-n-le42
 move-up-requires-2 c κs = search rules
 
-move-up-requires-3 : tie.Need-move-up-requires-3
+move-up-requires-3 : tie.Need-move_up-requires-else-n-le42-2
 move-up-requires-3 c κs = search rules
 
-move-first-requires-3 : tie.Need-move-first-requires-3
+move-first-requires-3 : tie.Need-move_first-requires-else-n-le42
 move-first-requires-3 c κs = search rules
 
-returns : tie.Need-returns
+returns : tie.Need-returns-then-n-le21
 returns c =
-    let t = c.before.before in
-    let s = t.before in
-    let a = s.args in
-    shift_one a.n a.registers.now a.steps.now a.ways.now s.requires _ t.if1.true c.move-first.ensures
+    let a = c.args in
+    shift_one a.n a.registers.now a.steps.now a.ways.now c.requires _ c.if-n-le21.true c.move_first.ensures
 
-returns-2 : tie.Need-returns-2
+returns-2 : tie.Need-returns-then-n-le42
 returns-2 c =
-    let u = c.before.before in
-    let t = u.before.before.before in
-    let w = t.before in
-    let e = w.before.before in
-    let s = e.before in
-    let a = s.args in
-    shift_two a.n a.registers.now a.steps.now a.ways.now s.requires _ _ _ w.words-before.ensures e.if1.false t.if2.true u.move_up.ensures c.move-first2.ensures
+    let a = c.args in
+    shift_two a.n a.registers.now a.steps.now a.ways.now c.requires _ _ _ c.words_before-middle.ensures c.if-n-le21.false c.if-n-le42.true c.move_up.ensures c.move_first-then-n-le42.ensures
 
-returns-3 : tie.Need-returns-3
+returns-3 : tie.Need-returns-else-n-le42
 returns-3 c =
-    let u = c.before.before in
-    let v = u.before.before.before in
-    let x = v.before.before.before.before in
-    let d = x.before.before in
-    let w = d.before in
-    let e = w.before.before in
-    let s = e.before in
-    let a = s.args in
-    shift-three a.n a.registers.now a.steps.now a.ways.now s.requires _ _ _ w.words-before.ensures _ _ x.words-before2.ensures d.if2.false
-    v.move-up2.ensures u.move-up3.ensures c.move-first3.ensures
+    let a = c.args in
+    shift-three a.n a.registers.now a.steps.now a.ways.now c.requires _ _ _ c.words_before-middle.ensures _ _ c.words_before-high.ensures c.if-n-le42.false
+    c.move_up-else-n-le42.ensures c.move_up-else-n-le42-2.ensures c.move_first-else-n-le42.ensures
 
-pub shift-spec : {M : Type 1} → statement M
-shift-spec =
+pub shift_spec : {M : Type 1} → statement M
+shift_spec =
     tie.close
     (tie.spec
     move-first-requires

@@ -6,17 +6,17 @@ use borrow.Author.Rules.{rules}
 use Rattle.replay.proofs.found.Statement.{statement}
 use Rattle.replay.proofs.found.Tie as tie
 
-is-agreed-requires : tie.Need-is-agreed-requires
+is-agreed-requires : tie.Need-is_agreed-requires
 is-agreed-requires c κs = search rules
 
-returns : tie.Need-returns
-returns c = found-fault _ _ (sym c.before.is-agreed.ensures ∙ not-true _ c.if1.true)
+returns : tie.Need-returns-then-not-is_agreed
+returns c = found-fault _ _ (sym c.is_agreed.ensures ∙ c.if-not-is_agreed.true)
 
-is-bad-requires : tie.Need-is-bad-requires
+is-bad-requires : tie.Need-is_bad-requires
 is-bad-requires c κs = search rules
 
-returns-2 : tie.Need-returns-2
-returns-2 c = found-bad _ _ _ (sym c.before.before.is-agreed.ensures ∙ not-false _ c.before.if1.false) c.is-bad.ensures
+returns-2 : tie.Need-returns
+returns-2 c = found-bad _ _ _ (sym c.is_agreed.ensures ∙ c.if-not-is_agreed.false) c.is_bad.ensures
 
-pub found-spec : {M : Type 1} → statement M
-found-spec = tie.close (tie.spec is-agreed-requires returns is-bad-requires returns-2)
+pub found_spec : {M : Type 1} → statement M
+found_spec = tie.close (tie.spec is-agreed-requires returns is-bad-requires returns-2)

@@ -6,23 +6,21 @@ use borrow.Author.Rules.{rules}
 use Rattle.replay.proofs.settle.Statement.{statement}
 use Rattle.replay.proofs.settle.Tie as tie
 
-is-whole-requires : tie.Need-is-whole-requires
+is-whole-requires : tie.Need-is_whole-requires
 is-whole-requires c κs = search rules
 
-returns : tie.Need-returns
-returns c = settle-no _ _ _ (sym c.before.is_whole.ensures ∙ not-true _ c.if1.true)
+returns : tie.Need-returns-then-not-is_whole
+returns c = settle-no _ _ _ (sym c.is_whole.ensures ∙ c.if-not-is_whole.true)
 
 take-requires : tie.Need-take-requires
 take-requires c κs = search rules
 
-same_length : tie.Need-same-length
+same_length : tie.Need-shape_of-due
 same_length c = search rules
 
-returns-2 : tie.Need-returns-2
+returns-2 : tie.Need-returns
 returns-2 c =
-    let p = c.before.before in
-    let q = p.before.before.before.before.before.before in
-    settle-yes _ _ _ _ _ (sym q.before.is_whole.ensures ∙ not-false _ q.if1.false) p.take.ensures
+    settle-yes _ _ _ _ _ (sym c.is_whole.ensures ∙ c.if-not-is_whole.false) c.take.ensures
 
-pub settle-spec : {M : Type 1} → statement M
-settle-spec = tie.close (tie.spec is-whole-requires returns take-requires same_length returns-2)
+pub settle_spec : {M : Type 1} → statement M
+settle_spec = tie.close (tie.spec is-whole-requires returns take-requires same_length returns-2)

@@ -6,43 +6,39 @@ use borrow.Author.Rules.{rules}
 use Rattle.replay.proofs.verdict.Statement.{statement}
 use Rattle.replay.proofs.verdict.Tie as tie
 
-is-agreed-requires : tie.Need-is-agreed-requires
+is-agreed-requires : tie.Need-is_agreed-requires
 is-agreed-requires c κs = search rules
 
-returns : tie.Need-returns
-returns c = ended-fault _ _ _ (sym c.before.is-agreed.ensures ∙ not-true _ c.if1.true)
+returns : tie.Need-returns-then-not-is_agreed
+returns c = ended-fault _ _ _ (sym c.is_agreed.ensures ∙ c.if-not-is_agreed.true)
 
-is-whole-requires : tie.Need-is-whole-requires
+is-whole-requires : tie.Need-is_whole-requires
 is-whole-requires c κs = search rules
 
-returns-2 : tie.Need-returns-2
-returns-2 c = ended-cut _ _ _ (sym c.before.before.before.is-agreed.ensures ∙ not-false _ c.before.before.if1.false) (sym c.before.is_whole.ensures ∙ not-true _ c.if2.true)
+returns-2 : tie.Need-returns-then-not-is_whole
+returns-2 c = ended-cut _ _ _ (sym c.is_agreed.ensures ∙ c.if-not-is_agreed.false) (sym c.is_whole.ensures ∙ c.if-not-is_whole.true)
 
-next-due-requires : tie.Need-next-due-requires
+next-due-requires : tie.Need-next_due-d-requires
 next-due-requires c κs = search rules
 
-enum_told : tie.Need-enum-told
+enum_told : tie.Need-enum_told-1
 enum_told c = search rules
 
-enum-known-d : tie.Need-enum-known-d
+enum-known-d : tie.Need-enum_known-d
 enum-known-d c = search rules
 
-returns-3 : tie.Need-returns-3
+returns-3 : tie.Need-returns-in-None
 returns-3 c =
-    let p = c.before.before.before in
-    let q = p.before.before in
-    ended-agree _ _ _ (sym q.before.is-agreed.ensures ∙ not-false _ q.if1.false) (sym p.before.is_whole.ensures ∙ not-false _ p.if2.false)
-    (sym c.before.before.next-due.ensures ∙ c.enum_told.given.1)
+    ended-agree _ _ _ (sym c.is_agreed.ensures ∙ c.if-not-is_agreed.false) (sym c.is_whole.ensures ∙ c.if-not-is_whole.false)
+    (sym c.next_due-d.ensures ∙ c.in-None.is)
 
-returns-4 : tie.Need-returns-4
+returns-4 : tie.Need-returns-in-Word
 returns-4 c =
-    let p = c.before.before.before.before in
-    let q = p.before.before in
-    ended-due _ _ _ (sym q.before.is-agreed.ensures ∙ not-false _ q.if1.false) (sym p.before.is_whole.ensures ∙ not-false _ p.if2.false) _
-    (sym c.before.before.before.next-due.ensures ∙ c.before.d.given.1)
+    ended-due _ _ _ (sym c.is_agreed.ensures ∙ c.if-not-is_agreed.false) (sym c.is_whole.ensures ∙ c.if-not-is_whole.false) _
+    (sym c.next_due-d.ensures ∙ c.in-Word.is)
 
-pub verdict-spec : {M : Type 1} → statement M
-verdict-spec =
+pub verdict_spec : {M : Type 1} → statement M
+verdict_spec =
     tie.close
     (tie.spec
     is-agreed-requires

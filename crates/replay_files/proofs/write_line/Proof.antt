@@ -6,43 +6,35 @@ use borrow.Author.Rules.{rules}
 use Rattle.replay_files.proofs.write_line.Statement.{statement}
 use Rattle.replay_files.proofs.write_line.Tie as tie
 
-returns : tie.Need-returns
+returns : tie.Need-returns-then-size-text
 returns c = search rules
 
-slice-aggregate-write-all : tie.Need-slice-aggregate-write-all
+slice-aggregate-write-all : tie.Need-slice_bounds-write_all-end
 slice-aggregate-write-all c = sym (length-take-le _ _ (omega arith))
 
-write-all-requires : tie.Need-write-all-requires
+write-all-requires : tie.Need-write_all-requires
 write-all-requires c κs = search rules
 
-slice-aggregate-write-all-2 : tie.Need-slice-aggregate-write-all-2
-slice-aggregate-write-all-2 c = search rules
-
-write-all-requires-2 : tie.Need-write-all-requires-2
+write-all-requires-2 : tie.Need-write_all-is_written-requires
 write-all-requires-2 c κs = search rules
-
-slice-aggregate-fail : tie.Need-slice-aggregate-fail
-slice-aggregate-fail c = search rules
 
 fail-requires : tie.Need-fail-requires
 fail-requires c κs = search rules
 
-returns-2 : tie.Need-returns-2
+returns-2 : tie.Need-returns-then-not-is_written
 returns-2 c = search rules
 
-returns-3 : tie.Need-returns-3
+returns-3 : tie.Need-returns-else-not-is_written
 returns-3 c = search rules
 
-pub write-line-spec : {M : Type 1} → statement M
-write-line-spec =
+pub write_line_spec : {M : Type 1} → statement M
+write_line_spec =
     tie.close
     (tie.spec
     returns
     slice-aggregate-write-all
     write-all-requires
-    slice-aggregate-write-all-2
     write-all-requires-2
-    slice-aggregate-fail
     fail-requires
     returns-2
     returns-3)

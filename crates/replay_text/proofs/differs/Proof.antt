@@ -8,29 +8,25 @@ use borrow.Author.Rules.{rules}
 use Rattle.replay_text.proofs.differs.Statement.{statement}
 use Rattle.replay_text.proofs.differs.Tie as tie
 
-slice-aggregate-expected : tie.Need-slice-aggregate-expected
-slice-aggregate-expected c = search rules
-
-expected-requires : tie.Need-expected-requires
+expected-requires : tie.Need-expected-p-requires
 expected-requires c κs = search rules
 
-put-hex-requires : tie.Need-put-hex-requires
-put-hex-requires c κs = omega (arith, expected-near _ _ (bytes " expected ") c.before.before.before.expected.ensures, c.before.before.page.given)
+put-hex-requires : tie.Need-put_hex-requires
+put-hex-requires c κs = omega (arith, expected-near _ _ (bytes " expected ") c.expected-p.ensures, c.page-1.given)
 
-same_length : tie.Need-same-length
+same_length : tie.Need-shape_of-page
 same_length c = search rules
 
 returns : tie.Need-returns
 unfolding line_of
 returns c =
-    let h = c.before.before.before.before.before.before.expected.ensures in
-    joined (omega (arith, expected-near _ _ (bytes " expected ") h)) h c.before.before.put-hex.ensures
+    let h = c.expected-p.ensures in
+    joined (omega (arith, expected-near _ _ (bytes " expected ") h)) h c.put_hex.ensures
 
-pub differs-spec : {M : Type 1} → statement M
-differs-spec =
+pub differs_spec : {M : Type 1} → statement M
+differs_spec =
     tie.close
     (tie.spec
-    slice-aggregate-expected
     expected-requires
     put-hex-requires
     same_length

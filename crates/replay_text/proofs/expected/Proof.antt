@@ -6,28 +6,24 @@ use borrow.Author.Rules.{rules}
 use Rattle.replay_text.proofs.expected.Statement.{statement}
 use Rattle.replay_text.proofs.expected.Tie as tie
 
-slice-aggregate-worded : tie.Need-slice-aggregate-worded
-slice-aggregate-worded c = search rules
-
-worded-requires : tie.Need-worded-requires
+worded-requires : tie.Need-worded-p-requires
 worded-requires c κs = search rules
 
-put-text-requires : tie.Need-put-text-requires
-put-text-requires c κs = omega (arith, word-near _ _ c.before.before.before.worded.ensures, c.before.before.page.given)
+put-text-requires : tie.Need-put_text-requires
+put-text-requires c κs = omega (arith, word-near _ _ c.worded-p.ensures, c.page-1.given)
 
-same_length : tie.Need-same-length
+same_length : tie.Need-shape_of-page
 same_length c = search rules
 
 returns : tie.Need-returns
 returns c =
-    let h = c.before.before.before.before.before.before.worded.ensures in
-    joined (omega (arith, word-near _ _ h)) h c.before.before.put-text.ensures
+    let h = c.worded-p.ensures in
+    joined (omega (arith, word-near _ _ h)) h c.put_text.ensures
 
-pub expected-spec : {M : Type 1} → statement M
-expected-spec =
+pub expected_spec : {M : Type 1} → statement M
+expected_spec =
     tie.close
     (tie.spec
-    slice-aggregate-worded
     worded-requires
     put-text-requires
     same_length

@@ -6,14 +6,14 @@ use borrow.Author.Rules.{rules}
 use Rattle.replay_text.proofs.line_of.Statement.{statement}
 use Rattle.replay_text.proofs.line_of.Tie as tie
 
-slice-aggregate-put-line : tie.Need-slice-aggregate-put-line
+slice-aggregate-put-line : tie.Need-slice_bounds-put_line-end
 slice-aggregate-put-line c = search rules
 
-put-line-requires : tie.Need-put-line-requires
+put-line-requires : tie.Need-put_line-size-requires
 put-line-requires c κs = search rules
 
 returns : tie.Need-returns
-returns c = (front-is c.before.put-line.ensures, omega (arith, c.before.put-line.ensures.next, line-short c.before.before.before.args.v))
+returns c = (front-is c.put_line-size.ensures, omega (arith, c.put_line-size.ensures.next, line-short c.args.v))
 
-pub line-of-spec : {M : Type 1} → statement M
-line-of-spec = tie.close (tie.spec slice-aggregate-put-line put-line-requires returns)
+pub line_of_spec : {M : Type 1} → statement M
+line_of_spec = tie.close (tie.spec slice-aggregate-put-line put-line-requires returns)

@@ -9,33 +9,25 @@ use borrow.Author.Rules.{rules}
 use Rattle.replay_text.proofs.refused.Statement.{statement}
 use Rattle.replay_text.proofs.refused.Tie as tie
 
-slice-aggregate-head : tie.Need-slice-aggregate-head
-slice-aggregate-head c = search rules
-
-slice-aggregate-head-2 : tie.Need-slice-aggregate-head-2
-slice-aggregate-head-2 c = search rules
-
-head-requires : tie.Need-head-requires
+head-requires : tie.Need-head-p-requires
 head-requires c κs = search rules
 
-put-number-requires : tie.Need-put-number-requires
-put-number-requires c κs = omega (arith, head_near (bytes "record ") _ (bytes " refused ") c.before.before.before.head.ensures, c.before.before.page.given)
+put-number-requires : tie.Need-put_number-requires
+put-number-requires c κs = omega (arith, head_near (bytes "record ") _ (bytes " refused ") c.head-p.ensures, c.page-1.given)
 
-same_length : tie.Need-same-length
+same_length : tie.Need-shape_of-page
 same_length c = search rules
 
 returns : tie.Need-returns
 unfolding line_of
 returns c =
-    let h = c.before.before.before.before.before.before.head.ensures in
-    joined (omega (arith, head_near (bytes "record ") _ (bytes " refused ") h)) h (says-number c.before.before.put-number.ensures)
+    let h = c.head-p.ensures in
+    joined (omega (arith, head_near (bytes "record ") _ (bytes " refused ") h)) h (says-number c.put_number.ensures)
 
-pub refused-spec : {M : Type 1} → statement M
-refused-spec =
+pub refused_spec : {M : Type 1} → statement M
+refused_spec =
     tie.close
     (tie.spec
-    slice-aggregate-head
-    slice-aggregate-head-2
     head-requires
     put-number-requires
     same_length

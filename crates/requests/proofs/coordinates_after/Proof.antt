@@ -5,35 +5,35 @@ use borrow.Author.Rules.{rules}
 use Rattle.requests.proofs.coordinates_after.Statement.{statement}
 use Rattle.requests.proofs.coordinates_after.Tie as tie
 
-returns : tie.Need-returns
-returns c = let e = no_more c.before.before.requires c.if1.true in (rw e, rw e)
+returns : tie.Need-returns-then-n-rest
+returns c = let e = no_more c.requires c.if-n-rest.true in (rw e, rw e)
 
-add-signed-list : tie.Need-overflow-add-signed-list
+add-signed-list : tie.Need-overflow_add-n
 add-signed-list c = search rules
 
-sub-signed-list : tie.Need-overflow-sub-signed-list
+sub-signed-list : tie.Need-slice_bounds-signed_list-count
 sub-signed-list c = search rules
 
-part-signed-list-start : tie.Need-slice-bounds-signed-list-start
+part-signed-list-start : tie.Need-slice_bounds-signed_list-start
 part-signed-list-start c = search rules
 
-part-signed-list-end : tie.Need-slice-bounds-signed-list-end
+part-signed-list-end : tie.Need-slice_bounds-signed_list-end
 part-signed-list-end c = search rules
 
-signed-list-requires : tie.Need-signed-list-requires
+signed-list-requires : tie.Need-signed_list-requires
 signed-list-requires c κs = search rules
 
-same_length : tie.Need-same-length
+same_length : tie.Need-shape_of-list
 same_length c = search rules
 
-returns-2 : tie.Need-returns-2
+returns-2 : tie.Need-returns
 returns-2 c =
-    let e = some_more c.before.before.before.before.before.before.requires c.before.before.before.before.if1.false in
-    let lists = c.before.signed-list.ensures in
+    let e = some_more c.requires c.if-n-rest.false in
+    let lists = c.signed_list.ensures in
     (lists.answer ∙ rw e, lists.filled ∙ rw e)
 
-pub coordinates-after-spec : {M : Type 1} → statement M
-coordinates-after-spec =
+pub coordinates_after_spec : {M : Type 1} → statement M
+coordinates_after_spec =
     tie.close
     (tie.spec
     returns

@@ -20,22 +20,20 @@ failed a b h = sym (ap (λ (t : Bool). t && ltb b 4737) (le-ltb a 4737 h))
 apart-requires : tie.Need-apart-requires
 apart-requires c κs = search rules
 
-apart-requires-2 : tie.Need-apart-requires-2
+apart-requires-2 : tie.Need-apart-requires-then-apart-lt4737
 apart-requires-2 c κs = search rules
 
-returns : tie.Need-returns
+returns : tie.Need-returns-then-apart-lt4737
 returns c =
-    let p = c.before.before in
-    let a = p.before.args in
-    let h : apart_of a.x 12160 < 4737 = omega (arith, c.before.if1.true, p.apart.ensures) in
-    ap (λ (n : ℕ). ltb n 4737) c.apart2.ensures ∙ held (apart_of a.x 12160) (apart_of a.y 12160) h
+    let a = c.args in
+    let h : apart_of a.x 12160 < 4737 = omega (arith, c.if-apart-lt4737.true, c.apart.ensures) in
+    ap (λ (n : ℕ). ltb n 4737) c.apart-then-apart-lt4737.ensures ∙ held (apart_of a.x 12160) (apart_of a.y 12160) h
 
-returns-2 : tie.Need-returns-2
+returns-2 : tie.Need-returns-else-apart-lt4737
 returns-2 c =
-    let p = c.before in
-    let a = p.before.args in
-    let h : 4737 ≤ apart_of a.x 12160 = omega (arith, c.if1.false, p.apart.ensures) in
-    le-ltb p.apart.result 4737 c.if1.false ∙ failed (apart_of a.x 12160) (apart_of a.y 12160) h
+    let a = c.args in
+    let h : 4737 ≤ apart_of a.x 12160 = omega (arith, c.if-apart-lt4737.false, c.apart.ensures) in
+    le-ltb c.apart.result 4737 c.if-apart-lt4737.false ∙ failed (apart_of a.x 12160) (apart_of a.y 12160) h
 
-pub are-near-spec : {M : Type 1} → statement M
-are-near-spec = tie.close (tie.spec apart-requires apart-requires-2 returns returns-2)
+pub are_near_spec : {M : Type 1} → statement M
+are_near_spec = tie.close (tie.spec apart-requires apart-requires-2 returns returns-2)

@@ -3,10 +3,10 @@ use Rattle.round_columns.proofs.Counts.{sum_fits, sum-cast, sum-reads}
 use Rattle.round_columns.proofs.counted.Statement.{statement}
 use Rattle.round_columns.proofs.counted.Tie as tie
 
-add-result : tie.Need-overflow-add-result
+add-result : tie.Need-overflow_add-result
 add-result c = sum_fits c.args.z c.requires
 
-cast-result : tie.Need-overflow-cast-result
+cast-result : tie.Need-overflow_cast-result
 cast-result c = sum-cast c.args.z c.requires
 
 returns : tie.Need-returns

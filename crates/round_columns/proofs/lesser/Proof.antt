@@ -4,11 +4,11 @@ use Rattle.round_columns.specs.Cells.{first, second}
 use Rattle.round_columns.proofs.lesser.Statement.{statement}
 use Rattle.round_columns.proofs.lesser.Tie as tie
 
-returns : tie.Need-returns
-returns c = second c.if1.true refl
+returns : tie.Need-returns-then-y-x
+returns c = second c.if-y-x.true refl
 
-returns-2 : tie.Need-returns-2
-returns-2 c = first c.if1.false refl
+returns-2 : tie.Need-returns-else-y-x
+returns-2 c = first c.if-y-x.false refl
 
-pub lesser-spec : {M : Type 1} → statement M
-lesser-spec = tie.close (tie.spec returns returns-2)
+pub lesser_spec : {M : Type 1} → statement M
+lesser_spec = tie.close (tie.spec returns returns-2)

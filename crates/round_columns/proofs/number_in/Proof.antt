@@ -36,41 +36,40 @@ module _ (c : tie.Start) where
       let t = in_table o m e c.requires.1.o-in c.requires.2 c.requires.3 in
       (omega (arith, onwards-is, t.0), omega (arith, backwards-is, t.1.0))
 
-mul-number : tie.Need-overflow-mul-number
+mul-number : tie.Need-overflow_mul-s
 mul-number c = omega (arith, bounds c.before)
 
-mul-number-2 : tie.Need-overflow-mul-number-2
+mul-number-2 : tie.Need-overflow_mul-s-2
 mul-number-2 c = omega (arith, bounds c.before.before)
 
-add-number : tie.Need-overflow-add-number
+add-number : tie.Need-overflow_add-s
 add-number c = omega (arith, bounds c.before.before)
 
-add-number-2 : tie.Need-overflow-add-number-2
+add-number-2 : tie.Need-overflow_add-s-2
 add-number-2 c = omega (arith, bounds c.before.before)
 
-mul-number-3 : tie.Need-overflow-mul-number-3
+mul-number-3 : tie.Need-overflow_mul-s-3
 mul-number-3 c = omega (arith, bounds c.before.before.before)
 
-mul-number-4 : tie.Need-overflow-mul-number-4
+mul-number-4 : tie.Need-overflow_mul-s-4
 mul-number-4 c = omega (arith, bounds c.before.before.before.before)
 
-add-number-3 : tie.Need-overflow-add-number-3
+add-number-3 : tie.Need-overflow_add-s-3
 add-number-3 c = omega (arith, bounds c.before.before.before.before)
 
-sub_number : tie.Need-overflow-sub-number
+sub_number : tie.Need-overflow_sub-s
 sub_number c = omega (arith, bounds c.before.before.before.before)
 
 number-requires : tie.Need-number-requires
-number-requires c κs = let s = c.before.before.before.before in (s.requires.0, omega (arith, bounds s))
+number-requires c κs = (c.requires.0, omega (arith, bounds c.before.before.before.before))
 
 returns : tie.Need-returns
 unfolding number_at
 returns c =
-    let s = c.before.before.before.before.before in
-    c.number.ensures ∙ ap (λ (k : ℕ). get_or listed k 0) (ap₂ (λ (a b : ℕ). 180 + a - b) (onwards-is s) (backwards-is s))
+    c.number.ensures ∙ ap (λ (k : ℕ). get_or listed k 0) (ap₂ (λ (a b : ℕ). 180 + a - b) (onwards-is c.before.before.before.before.before) (backwards-is c.before.before.before.before.before))
 
-pub number-in-spec : {M : Type 1} → statement M
-number-in-spec =
+pub number_in_spec : {M : Type 1} → statement M
+number_in_spec =
     tie.close
     (tie.spec
     mul-number

@@ -8,21 +8,21 @@ use borrow.Author.Rules.{rules}
 use Rattle.round_columns.proofs.placed.Statement.{statement}
 use Rattle.round_columns.proofs.placed.Tie as tie
 
-add-result : tie.Need-overflow-add-result
+add-result : tie.Need-overflow_add-result
 add-result c = search rules
 
-add-result-2 : tie.Need-overflow-add-result-2
+add-result-2 : tie.Need-overflow_add-result-else-v-lt12288
 add-result-2 c = search rules
 
-returns : tie.Need-returns
+returns : tie.Need-returns-then-v-lt12288
 returns c =
-    let v = c.before.args.v in
-    omega (arith, ap (λ (t : Bool). cond t ((v + 256) / 512) ((v + 255) / 512)) (lt-ltb v 12288 c.if1.true))
+    let v = c.args.v in
+    omega (arith, ap (λ (t : Bool). cond t ((v + 256) / 512) ((v + 255) / 512)) (lt-ltb v 12288 c.if-v-lt12288.true))
 
-returns-2 : tie.Need-returns-2
+returns-2 : tie.Need-returns-else-v-lt12288
 returns-2 c =
-    let v = c.before.args.v in
-    omega (arith, ap (λ (t : Bool). cond t ((v + 256) / 512) ((v + 255) / 512)) (le-ltb v 12288 c.if1.false))
+    let v = c.args.v in
+    omega (arith, ap (λ (t : Bool). cond t ((v + 256) / 512) ((v + 255) / 512)) (le-ltb v 12288 c.if-v-lt12288.false))
 
-pub placed-spec : {M : Type 1} → statement M
-placed-spec = tie.close (tie.spec add-result add-result-2 returns returns-2)
+pub placed_spec : {M : Type 1} → statement M
+placed_spec = tie.close (tie.spec add-result add-result-2 returns returns-2)

@@ -14,20 +14,18 @@ use Rattle.round_columns.proofs.side_of.Tie as tie
 both : (v : ℕ) (s : Side) → Counted v → s ≡ side_of v → (s ≡ side_of v) × Sided s
 both v s h e = (e, subst Sided (sym e) (side-in v h))
 
-sub-t3 : tie.Need-overflow-sub-t3
+sub-t3 : tie.Need-overflow_sub-result
 sub-t3 c = search rules
 
-returns : tie.Need-returns
+returns : tie.Need-returns-then-v-lt12288
 returns c =
-    let s = c.before in
-    let e = lt-ltb s.args.v 12288 (omega arith) in
-    both s.args.v _ s.requires (ap₂ (λ (t : Bool) (n : ℕ). record { back = cond t 1 0; far = n }) (sym e) (omega arith))
+    let e = lt-ltb c.args.v 12288 (omega arith) in
+    both c.args.v _ c.requires (ap₂ (λ (t : Bool) (n : ℕ). record { back = cond t 1 0; far = n }) (sym e) (omega arith))
 
-returns-2 : tie.Need-returns-2
+returns-2 : tie.Need-returns
 returns-2 c =
-    let s = c.before in
-    let e = le-ltb s.args.v 12288 (omega arith) in
-    both s.args.v _ s.requires (ap₂ (λ (t : Bool) (n : ℕ). record { back = cond t 1 0; far = n }) (sym e) (omega arith))
+    let e = le-ltb c.args.v 12288 (omega arith) in
+    both c.args.v _ c.requires (ap₂ (λ (t : Bool) (n : ℕ). record { back = cond t 1 0; far = n }) (sym e) (omega arith))
 
-pub side-of-spec : {M : Type 1} → statement M
-side-of-spec = tie.close (tie.spec sub-t3 returns returns-2)
+pub side_of_spec : {M : Type 1} → statement M
+side_of_spec = tie.close (tie.spec sub-t3 returns returns-2)

@@ -27,43 +27,42 @@ value l k z c e f g h =
     let i : z ≡ c = f ∙ ap (λ (l : List ℕ). pos (get_or l k 0) -ℤ pos 95) e ∙ g in
     ap (λ (z : ℤ). to_z w32 (of_z w32 z)) i ∙ reads w32 c (omega arith)
 
-mul-x : tie.Need-overflow-mul-x
+mul-x : tie.Need-overflow_mul-x
 mul-x c = search rules
 
-add-x : tie.Need-overflow-add-x
+add-x : tie.Need-overflow_add-x
 add-x c = search rules
 
-element-copy-out-x : tie.Need-element-copy-out-x
+element-copy-out-x : tie.Need-bounds-t-w
 element-copy-out-x c = search rules
 
-mul-y : tie.Need-overflow-mul-y
+mul-y : tie.Need-overflow_mul-y
 mul-y c = search rules
 
-add-y : tie.Need-overflow-add-y
+add-y : tie.Need-overflow_add-y
 add-y c = search rules
 
-element-copy-out-y : tie.Need-element-copy-out-y
+element-copy-out-y : tie.Need-bounds-t-w-2
 element-copy-out-y c = search rules
 
 uncounted-requires : tie.Need-uncounted-requires
-uncounted-requires c κs = let s = c.before.before in small-in s.args.t.now _ s.requires.0 (near-x s.args.w s.requires.1).1
+uncounted-requires c κs = small-in c.args.t.now _ c.requires.0 (near-x c.args.w c.requires.1).1
 
 uncounted-requires-2 : tie.Need-uncounted-requires-2
-uncounted-requires-2 c κs = let s = c.before.before.before in small-in s.args.t.now _ s.requires.0 (near-y s.args.w s.requires.1).1
+uncounted-requires-2 c κs = small-in c.args.t.now _ c.requires.0 (near-y c.args.w c.requires.1).1
 
 returns : tie.Need-returns
 returns c =
-    let s = c.before.before.before.before in
-    let w = s.args.w in
-    let l = small w (omega (arith, s.requires.1)) in
-    let x = c.before.uncounted in
-    let y = c.uncounted2 in
-    let a = value s.args.t.now _ x.result (a_point w).x s.requires.0 x.ensures (near-x w s.requires.1).0 l.x-small in
-    let b = value s.args.t.now _ y.result (a_point w).y s.requires.0 y.ensures (near-y w s.requires.1).0 l.y-small in
+    let w = c.args.w in
+    let l = small w (omega (arith, c.requires.1)) in
+    let x = c.uncounted in
+    let y = c.uncounted-2 in
+    let a = value c.args.t.now _ x.result (a_point w).x c.requires.0 x.ensures (near-x w c.requires.1).0 l.x-small in
+    let b = value c.args.t.now _ y.result (a_point w).y c.requires.0 y.ensures (near-y w c.requires.1).0 l.y-small in
     ap₂ (λ (a b : ℤ). record { x = a; y = b }) a b
 
-pub near-point-spec : {M : Type 1} → statement M
-near-point-spec =
+pub near_point_spec : {M : Type 1} → statement M
+near_point_spec =
     tie.close
     (tie.spec
     mul-x

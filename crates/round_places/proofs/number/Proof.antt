@@ -7,7 +7,7 @@ use borrow.Author.Rules.{rules}
 use Rattle.round_places.proofs.number.Statement.{statement}
 use Rattle.round_places.proofs.number.Tie as tie
 
-element-copy-out-wide : tie.Need-element-copy-out-wide
+element-copy-out-wide : tie.Need-bounds-t-k
 element-copy-out-wide c = search rules
 
 wide-requires : tie.Need-wide-requires
@@ -15,8 +15,7 @@ wide-requires c κs = search rules
 
 returns : tie.Need-returns
 returns c =
-    let s = c.before.before in
-    c.wide.ensures ∙ ap (λ (l : List ℕ). get_or l s.args.k 0) s.requires.0
+    c.wide.ensures ∙ ap (λ (l : List ℕ). get_or l c.args.k 0) c.requires.0
 
-pub number-spec : {M : Type 1} → statement M
-number-spec = tie.close (tie.spec element-copy-out-wide wide-requires returns)
+pub number_spec : {M : Type 1} → statement M
+number_spec = tie.close (tie.spec element-copy-out-wide wide-requires returns)

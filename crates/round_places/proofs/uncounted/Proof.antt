@@ -28,17 +28,17 @@ module _ (b : ℕ) (h : b < 128) where
   read_fits : SFits w32 (to_z w8 (of_z w8 z))
   read_fits = subst (SFits w32) (sym read_is) (fits w32 (pos b -ℤ pos 95) (omega (arith, less-95 b h)))
 
-cast-v : tie.Need-overflow-cast-v
+cast-v : tie.Need-overflow_cast-v
 cast-v c = search rules
 
-sub-v : tie.Need-overflow-sub-v
+sub-v : tie.Need-overflow_sub-v
 sub-v c = z-fits c.args.b c.requires
 
-cast-result : tie.Need-overflow-cast-result
+cast-result : tie.Need-overflow_cast-result
 cast-result c = read_fits c.args.b c.requires
 
 returns : tie.Need-returns
 returns c = to_z-of_z (read_fits c.args.b c.requires) ∙ read_is c.args.b c.requires
 
-pub uncounted-spec : {M : Type 1} → statement M
-uncounted-spec = tie.close (tie.spec cast-v sub-v cast-result returns)
+pub uncounted_spec : {M : Type 1} → statement M
+uncounted_spec = tie.close (tie.spec cast-v sub-v cast-result returns)

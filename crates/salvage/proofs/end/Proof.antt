@@ -3,22 +3,22 @@ use borrow.Author.Rules.{rules}
 use Rattle.salvage.proofs.end.Statement.{statement}
 use Rattle.salvage.proofs.end.Tie as tie
 
-slice-aggregate-missed : tie.Need-slice-aggregate-missed
+slice-aggregate-missed : tie.Need-slice_bounds-missed-end
 slice-aggregate-missed c = search rules
 
 missed-requires : tie.Need-missed-requires
 missed-requires c κs = search rules
 
-fed-on-requires : tie.Need-fed-on-requires
+fed-on-requires : tie.Need-fed_on-requires
 fed-on-requires c κs = search rules
 
 less-requires : tie.Need-less-requires
 less-requires c κs = search rules
 
 returns : tie.Need-returns
-returns c = rw (c.less.ensures, c.before.fed-on.ensures, c.before.before.missed.ensures)
+returns c = rw (c.less.ensures, c.fed_on.ensures, c.missed.ensures)
 
-pub end-spec : {M : Type 1} → statement M
-end-spec =
+pub end_spec : {M : Type 1} → statement M
+end_spec =
     tie.close
     (tie.spec slice-aggregate-missed missed-requires fed-on-requires less-requires returns)

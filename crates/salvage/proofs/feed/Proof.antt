@@ -9,17 +9,17 @@ use Rattle.salvage.proofs.feed.Tie as tie
 long : (p : tie.Start) → length p.args.s.replay.due ≡ 65
 long p = search rules
 
-slice-aggregate-feed-lent : tie.Need-slice-aggregate-feed-lent
+slice-aggregate-feed-lent : tie.Need-slice_bounds-feed_lent-end
 slice-aggregate-feed-lent c = sym (long c.before.before.before.before.before.before.before.before.before.before.before.before.before.before)
 
-feed-lent-requires : tie.Need-feed-lent-requires
+feed-lent-requires : tie.Need-feed_lent-f-requires
 feed-lent-requires c κs = long c.before.before.before.before.before.before.before.before.before.before.before.before.before.before.before
 
-same_length : tie.Need-same-length
+same_length : tie.Need-shape_of-page
 same_length c = search rules
 
 returns : tie.Need-returns
 returns c = search rules
 
-pub feed-spec : {M : Type 1} → statement M
-feed-spec = tie.close (tie.spec slice-aggregate-feed-lent feed-lent-requires same_length returns)
+pub feed_spec : {M : Type 1} → statement M
+feed_spec = tie.close (tie.spec slice-aggregate-feed-lent feed-lent-requires same_length returns)

@@ -10,89 +10,85 @@ use Rattle.salvage.proofs.Feeds.{test-taken, test-left, Going, going-none, going
 use Rattle.salvage.proofs.feed_lent.Statement.{statement}
 use Rattle.salvage.proofs.feed_lent.Tie as tie
 
-abbrev invariant-loop : tie.invariant-loop
-invariant-loop bytes sums₀ registers₀ picks₀ due₀ page₀ f₀ j₀ t₀ i₀ at₀ sums registers picks due page f j t i at =
+abbrev invariant-loop-i : tie.invariant-loop-i
+invariant-loop-i bytes sums₀ registers₀ picks₀ due₀ page₀ f₀ j₀ t₀ i₀ at₀ sums registers picks due page f j t i at =
     (length due ≡ 65) × Going (held_of f₀ j₀ t₀ sums₀ registers₀ picks₀ due₀) bytes page₀ (held_of f j t sums registers picks due) page i at
 
-abbrev decreases-loop : tie.decreases-loop
-decreases-loop bytes sums₀ registers₀ picks₀ due₀ page₀ f₀ j₀ t₀ i₀ at₀ sums registers picks due page f j t i at = length bytes - i
+abbrev decreases-loop-i : tie.decreases-loop-i
+decreases-loop-i bytes sums₀ registers₀ picks₀ due₀ page₀ f₀ j₀ t₀ i₀ at₀ sums registers picks due page f j t i at = length bytes - i
 
-abbrev to_start : tie.At-loop invariant-loop decreases-loop → tie.Start invariant-loop decreases-loop
+abbrev to_start : tie.At-loop-i invariant-loop-i decreases-loop-i → tie.Start invariant-loop-i decreases-loop-i
 to_start p = p.before.before.before.before
 
 -- the page has its length
-long : (p : tie.At-loop invariant-loop decreases-loop) → length p.loop.page ≡ length (to_start p).args.page.now
-long p = going-long _ _ _ _ _ _ _ p.loop.invariant.1
+long : (p : tie.At-loop-i invariant-loop-i decreases-loop-i) → length p.loop-i.page ≡ length p.args.page.now
+long p = going-long _ _ _ _ _ _ _ p.loop-i.invariant.1
 
 -- there are bytes, and room
-module _ (p : tie.In-loop invariant-loop decreases-loop) where
-  abbrev l : tie.At-loop invariant-loop decreases-loop
+module _ (p : tie.In-loop-i invariant-loop-i decreases-loop-i) where
+  abbrev l : tie.At-loop-i invariant-loop-i decreases-loop-i
   l = p.before
 
-  tests : (l.loop.i < length (to_start l).args.bytes.now) × (335 ≤ length l.loop.page - l.loop.at)
-  tests = test-taken _ _ _ p.loop-test.taken
+  tests : (l.loop-i.i < length (to_start l).args.bytes.now) × (335 ≤ length l.loop-i.page - l.loop-i.at)
+  tests = test-taken _ _ _ p.loop-i-test.taken
 
-  free : l.loop.at + 335 ≤ length (to_start l).args.page.now
+  free : l.loop-i.at + 335 ≤ length (to_start l).args.page.now
   free = omega (arith, tests.1, long l)
 
 -- the bytes that went into the frame
-moves : (p : tie.After-advance invariant-loop decreases-loop)
-    → (0 < p.advance.result.count) × (p.before.before.loop.i + p.advance.result.count ≤ length (to_start p.before.before).args.bytes.now)
-moves p = let l = p.before.before in runs l.loop.f (to_start l).args.bytes.now l.loop.i _ _ (tests p.before).0 p.advance.ensures
+moves : (p : tie.After-advance-m invariant-loop-i decreases-loop-i)
+    → (0 < p.advance-m.result.count) × (p.loop-i.i + p.advance-m.result.count ≤ length p.args.bytes.now)
+moves p = runs p.loop-i.f p.args.bytes.now p.loop-i.i _ _ (tests p.before).0 p.advance-m.ensures
 
-loop-holds : tie.Need-loop-init invariant-loop decreases-loop
-loop-holds c = (c.before.before.before.requires, going-none _ _ _)
+loop-holds : tie.Need-loop-i-init invariant-loop-i decreases-loop-i
+loop-holds c = (c.requires, going-none _ _ _)
 
-sub-loop : tie.Need-overflow-sub-loop invariant-loop decreases-loop
-sub-loop c = omega (arith, long c, c.loop.invariant.1.fits)
+sub-loop : tie.Need-overflow_sub-page invariant-loop-i decreases-loop-i
+sub-loop c = omega (arith, long c, c.loop-i.invariant.1.fits)
 
-advance-requires : tie.Need-advance-requires invariant-loop decreases-loop
+advance-requires : tie.Need-advance-m-requires invariant-loop-i decreases-loop-i
 advance-requires c κs = (tests c).0
 
-settle-requires : tie.Need-settle-requires invariant-loop decreases-loop
+settle-requires : tie.Need-settle-turn-requires invariant-loop-i decreases-loop-i
 settle-requires c κs = search rules
 
-abbrev to-advance : tie.After-put invariant-loop decreases-loop → tie.After-advance invariant-loop decreases-loop
-to-advance p = p.before.before.before.before.before.before.before.before.before.before.before.before.before
+abbrev to-advance : tie.After-put-at invariant-loop-i decreases-loop-i → tie.After-advance-m invariant-loop-i decreases-loop-i
+to-advance p = p.before.before.before.before.before.before.before.before.before.before.before.before
 
-put-requires : tie.Need-put-requires invariant-loop decreases-loop
+put-requires : tie.Need-put-at-requires invariant-loop-i decreases-loop-i
 put-requires c κs =
-    let i = c.before.before.before.before.before.before.before.before.before.before.before.before.before in
-    (c.before.before.before.before.before.due.given ∙ i.before.loop.invariant.0, omega (arith, free i, long i.before))
+    (c.due-1.given ∙ c.loop-i.invariant.0, omega (arith, free c.before.before.before.before.before.before.before.before.before.before.before.before, long c.before.before.before.before.before.before.before.before.before.before.before.before.before))
 
-add-i : tie.Need-overflow-add-i invariant-loop decreases-loop
+add-i : tie.Need-overflow_add-i invariant-loop-i decreases-loop-i
 add-i c = let p = to-advance c.before.before.before in omega (arith, (moves p).1, (to_start p.before.before).good)
 
-loop-less : tie.Need-loop-smaller invariant-loop decreases-loop
+loop-less : tie.Need-loop-i-smaller invariant-loop-i decreases-loop-i
 loop-less c = let p = to-advance c.before.before.before in omega (arith, (moves p).0, (moves p).1)
 
-loop-again : tie.Need-loop-preserved invariant-loop decreases-loop
+loop-again : tie.Need-loop-i-preserved invariant-loop-i decreases-loop-i
 loop-again c =
-    let w = c.before.before.before in
-    let s = w.before.before.before.before.before.before.before in
-    let p = to-advance w in
+    let p = to-advance c.before.before.before in
     let i = p.before in (
-      c.before.before.before.before.before.before.before.before.before.due.given ∙ i.before.loop.inv.0,
-      going_on _ _ _ _ _ _ _ i.before.loop.inv.1 (tests i).0 (free i) _ _ p.advance.ensures _ s.settle.ensures _ _ w.put.ensures.0 w.put.ensures.1,
+      c.due-1.given ∙ i.loop-i.invariant.0,
+      going_on _ _ _ _ _ _ _ i.loop-i.invariant.1 (tests i).0 (free i) _ _ p.advance-m.ensures _ c.settle-turn.ensures _ _ c.put-at.ensures.0 c.put-at.ensures.1,
     )
 
-same_length : tie.Need-same-length invariant-loop decreases-loop
-same_length c = c.before.loop.invariant.0 ∙ sym (to_start c.before).pre
+same_length : tie.Need-shape_of-due invariant-loop-i decreases-loop-i
+same_length c = c.loop-i.invariant.0 ∙ sym c.requires
 
-same-length-2 : tie.Need-same-length-2 invariant-loop decreases-loop
+same-length-2 : tie.Need-shape_of-page invariant-loop-i decreases-loop-i
 same-length-2 c = long c.before
 
-returns : tie.Need-returns invariant-loop decreases-loop
+returns : tie.Need-returns invariant-loop-i decreases-loop-i
 returns c =
-    let p = c.before in
-    going_done _ _ _ _ _ _ _ p.loop.invariant.1 (λ h. omega (arith, test-left p.loop.i _ (length p.loop.page - p.loop.at) c.loop-test.false h, long p))
+    going_done _ _ _ _ _ _ _ c.loop-i.invariant.1 (λ h. omega (arith, test-left c.loop-i.i _ (length c.loop-i.page - c.loop-i.at) c.loop-i-test.false h, long c.before))
 
-pub feed-lent-spec : {M : Type 1} → statement M
-feed-lent-spec =
+pub feed_lent_spec : {M : Type 1} → statement M
+feed_lent_spec =
     tie.close
     (tie.spec
-    invariant-loop
-    decreases-loop
+    invariant-loop-i
+    decreases-loop-i
     loop-holds
     sub-loop
     advance-requires

@@ -7,45 +7,41 @@ use borrow.Author.Rules.{rules}
 use Rattle.salvage.proofs.put_own.Statement.{statement}
 use Rattle.salvage.proofs.put_own.Tie as tie
 
-module _ (p : tie.After-kind-of) where
-  nine : length p.before.before.args.frame.body ≡ 9
+module _ (p : tie.After-kind_of-kind) where
+  nine : length p.args.frame.body ≡ 9
   nine = search rules
 
-  sized : Sized p.before.before.args.frame p.kind-of.result
-  sized = size_is p.before.before.args.frame p.kind-of.result p.kind-of.ensures nine
+  sized : Sized p.args.frame p.kind_of-kind.result
+  sized = size_is p.args.frame p.kind_of-kind.result p.kind_of-kind.ensures nine
 
-kind-of-requires : tie.Need-kind-of-requires
+kind-of-requires : tie.Need-kind_of-kind-requires
 kind-of-requires c κs = search rules
 
-put-byte-requires : tie.Need-put-byte-requires
+put-byte-requires : tie.Need-put_byte-p-requires
 put-byte-requires c κs = search rules
 
-array-share-prefix-body : tie.Need-array-share-prefix-body
-array-share-prefix-body c = let p = c.before.before.before.before.before.before in omega (arith, nine p, (sized p).few)
+array-share-prefix-body : tie.Need-slice_bounds-body-end
+array-share-prefix-body c = omega (arith, nine c.before.before.before.before.before.before, (sized c.before.before.before.before.before.before).few)
 
-slice-aggregate-put-text : tie.Need-slice-aggregate-put-text
+slice-aggregate-put-text : tie.Need-slice_bounds-put_text-end
 slice-aggregate-put-text c = sym (sized c.before.before.before.before.before.before.before).long
 
-put-text-requires : tie.Need-put-text-requires
+put-text-requires : tie.Need-put_text-requires
 put-text-requires c κs =
-    let b = c.before.before.before.before in
-    let p = b.before.before.before in
-    omega (arith, (sized p).long, (sized p).few, b.put_byte.ensures.next, p.before.before.requires)
+    omega (arith, (sized c.before.before.before.before.before.before.before).long, (sized c.before.before.before.before.before.before.before).few, c.put_byte-p.ensures.next, c.requires)
 
-same_length : tie.Need-same-length
+same_length : tie.Need-shape_of-page
 same_length c = search rules
 
 returns : tie.Need-returns
 returns c =
-    let t = c.before.before in
-    let b = t.before.before.before.before.before in
-    let p = b.before.before.before in (
-      own_put _ _ (sized p) _ _ _ _ _ _ (omega (arith, p.before.before.requires)) b.put_byte.ensures t.put-text.ensures,
-      omega (arith, b.put_byte.ensures.next, t.put-text.ensures.next, (sized p).long, (sized p).few),
+    (
+      own_put _ _ (sized c.before.before.before.before.before.before.before.before.before.before) _ _ _ _ _ _ (omega (arith, c.requires)) c.put_byte-p.ensures c.put_text.ensures,
+      omega (arith, c.put_byte-p.ensures.next, c.put_text.ensures.next, (sized c.before.before.before.before.before.before.before.before.before.before).long, (sized c.before.before.before.before.before.before.before.before.before.before).few),
     )
 
-pub put-own-spec : {M : Type 1} → statement M
-put-own-spec =
+pub put_own_spec : {M : Type 1} → statement M
+put_own_spec =
     tie.close
     (tie.spec
     kind-of-requires

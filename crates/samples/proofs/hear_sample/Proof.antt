@@ -14,47 +14,46 @@ use Rattle.samples.proofs.hear_sample.Tie as tie
 known : {r k : Coordinate} {g : GivenCoordinate} → r ≡ k → coordinate_given r ≡ g → coordinate_given k ≡ g
 known e h = sym (ap coordinate_given e) ∙ h
 
-hear-coordinate-requires : tie.Need-hear-coordinate-requires
+hear-coordinate-requires : tie.Need-hear_coordinate-requires
 hear-coordinate-requires c κs = search rules
 
-enum-known-x : tie.Need-enum-known-x
+enum-known-x : tie.Need-enum_known-x
 enum-known-x c = search rules
 
-enum_told : tie.Need-enum-told
+enum_told : tie.Need-enum_told-1
 enum_told c = search rules
 
-returns : tie.Need-returns
+returns : tie.Need-returns-in_default
 unfolding heard_sample
-returns c = ap (λ a. both_or_fault a (heard_coordinate c.before.before.before.args.s.y)) (known c.enum_told.given.1 c.before.before.hear-coordinate.ensures)
+returns c = ap (λ a. both_or_fault a (heard_coordinate c.args.s.y)) (known c.in_default.is c.hear_coordinate.ensures)
 
-hear-coordinate-requires-2 : tie.Need-hear-coordinate-requires-2
+hear-coordinate-requires-2 : tie.Need-hear_coordinate-requires-2
 hear-coordinate-requires-2 c κs = search rules
 
-enum-known-y : tie.Need-enum-known-y
+enum-known-y : tie.Need-enum_known-y
 enum-known-y c = search rules
 
-enum-told-2 : tie.Need-enum-told-2
+enum-told-2 : tie.Need-enum_told-in_default-hear_coordinate
 enum-told-2 c = search rules
 
-returns-2 : tie.Need-returns-2
+returns-2 : tie.Need-returns-in_default-hear_coordinate
 unfolding heard_sample
 returns-2 c =
-    let x = known c.before.before.before.before.x.given.1 c.before.before.before.before.before.before.hear-coordinate.ensures in
-    let y = known c.enum-told2.given.1 c.before.before.hear-coordinate2.ensures in
+    let x = known c.in-Heard.is c.hear_coordinate.ensures in
+    let y = known c.in_default-hear_coordinate.is c.hear_coordinate-2.ensures in
     λ i. both_or_fault (x i) (y i)
 
-returns-3 : tie.Need-returns-3
+returns-3 : tie.Need-returns
 unfolding heard_sample
 returns-3 c =
-    let x-told = c.before.before.before.before.before in
-    let x = known x-told.x.given.1 x-told.before.before.hear-coordinate.ensures in
-    let y = known c.before.y.given.1 c.before.before.before.hear-coordinate2.ensures in
-    let x_Fits = to_z-of_z w32 x-told.x.given.0.0 (record { sfits = c.before.before.before.before.known-told.given.0.1 }) in
-    let y-fits = to_z-of_z w32 c.before.y.given.0.0 (record { sfits = c.known-told2.given.0.1 }) in
+    let x = known c.in-Heard.is c.hear_coordinate.ensures in
+    let y = known c.in-Heard-hear_coordinate.is c.hear_coordinate-2.ensures in
+    let x_Fits = to_z-of_z w32 c.in-Heard.x (record { sfits = c.in-Heard.known_told-1-own.given.0.1 }) in
+    let y-fits = to_z-of_z w32 c.in-Heard-hear_coordinate.y (record { sfits = c.in-Heard-hear_coordinate.known_told-in-Heard-hear_coordinate-2-1-own.given.0.1 }) in
     (λ i. both_done (x_Fits i) (y-fits i)) ∙ (λ i. both_or_fault (x i) (y i))
 
-pub hear-sample-spec : {M : Type 1} → statement M
-hear-sample-spec =
+pub hear_sample_spec : {M : Type 1} → statement M
+hear_sample_spec =
     tie.close
     (tie.spec
     hear-coordinate-requires

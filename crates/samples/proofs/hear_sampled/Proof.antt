@@ -21,40 +21,37 @@ heard g = record { missing = false; given = g }
 known : {s : Sampled} {x y : Float} {p q : Pair} → s ≡ sampled.Heard x y → p ≡ q → sample_given p ≡ heard_sample x y → heard (sample_given q) ≡ heard_sampled s
 known e f h = ap heard (sym (ap sample_given f) ∙ h) ∙ sym (ap heard_sampled e)
 
-enum-known-s : tie.Need-enum-known-s
+enum-known-s : tie.Need-enum_known-s
 enum-known-s c = search rules
 
-enum_told : tie.Need-enum-told
+enum_told : tie.Need-enum_told-1
 enum_told c = search rules
 
-returns : tie.Need-returns
+returns : tie.Need-returns-in_default
 returns c = search rules
 
-hear-sample-requires : tie.Need-hear-sample-requires
+hear-sample-requires : tie.Need-hear_sample-p-requires
 hear-sample-requires c κs = search rules
 
-enum-known-p : tie.Need-enum-known-p
+enum-known-p : tie.Need-enum_known-p
 enum-known-p c = search rules
 
-enum-known-p-2 : tie.Need-enum-known-p-2
+enum-known-p-2 : tie.Need-enum_known-p-in-Refused-1
 enum-known-p-2 c = search rules
 
-returns-2 : tie.Need-returns-2
+returns-2 : tie.Need-returns-in-Heard-p
 returns-2 c =
-    let answer = c.before.before.before in
-    let g = c.before.p.given in
-    let k = c.known-told2.given in
-    let x = to_z-of_z w32 g.0.0 (record { sfits = k.0.1 }) in
-    let y = to_z-of_z w32 g.0.1.0 (record { sfits = k.1.0.1 }) in
-    (λ i. heard (both_done (x i) (y i))) ∙ known answer.before.before.s.given.1 g.1 answer.hear-sample.ensures
+    let k = c.in-Heard-p.known_told-in-Heard-p-1-own.given in
+    let x = to_z-of_z w32 c.in-Heard-p.a (record { sfits = k.0.1 }) in
+    let y = to_z-of_z w32 c.in-Heard-p.b (record { sfits = k.1.0.1 }) in
+    (λ i. heard (both_done (x i) (y i))) ∙ known c.in-Heard.is c.in-Heard-p.is c.hear_sample-p.ensures
 
-returns-3 : tie.Need-returns-3
+returns-3 : tie.Need-returns-in-Refused
 returns-3 c =
-    let answer = c.before.before.before in
-    known answer.before.before.s.given.1 c.before.p2.given.1 answer.hear-sample.ensures
+    known c.in-Heard.is c.in-Refused.is c.hear_sample-p.ensures
 
-pub hear-sampled-spec : {M : Type 1} → statement M
-hear-sampled-spec =
+pub hear_sampled_spec : {M : Type 1} → statement M
+hear_sampled_spec =
     tie.close
     (tie.spec
     enum-known-s

@@ -9,31 +9,31 @@ use Rattle.sender.specs.declared.Sender.{Sender}
 use Rattle.sender.proofs.is_open.Statement.{statement}
 use Rattle.sender.proofs.is_open.Tie as tie
 
-returns : tie.Need-returns
-returns c = let s = c.before.before.args.s in let a : s.live ≡ false = not-true s.live c.if1.true in rw a
+returns : tie.Need-returns-then-not-s
+returns c = let s = c.args.s in let a : s.live ≡ false = not-true s.live c.if-not-s.true in rw a
 
-is-accord-requires : tie.Need-is-accord-requires
+is-accord-requires : tie.Need-is_accord-requires
 is-accord-requires c κs = search rules
 
 -- the first test has passed
-module _ (e : tie.After-is-accord) where
+module _ (e : tie.After-is_accord) where
   abbrev s : Sender
-  s = e.before.before.before.before.args.s
+  s = e.args.s
 
   live : s.live ≡ true
-  live = not-false s.live e.before.before.if1.left
+  live = not-false s.live e.if-not-s.false
 
-  is : is_accord s.accord ≡ e.is-accord.result
-  is = sym e.is-accord.ensures
+  is : is_accord s.accord ≡ e.is_accord.result
+  is = sym e.is_accord.ensures
 
-returns-2 : tie.Need-returns-2
-returns-2 c = let e = c.before in rw (live e, is e ∙ not-true _ c.if2.true)
+returns-2 : tie.Need-returns-then-not-is_accord
+returns-2 c = rw (live c.before, is c.before ∙ c.if-not-is_accord.true)
 
-returns-3 : tie.Need-returns-3
-returns-3 c = let e = c.before.before.before in rw (live e, is e ∙ not-false _ c.before.before.if2.false, le-ltb (s e).turn 4 (omega arith))
+returns-3 : tie.Need-returns-then-s-gt3
+returns-3 c = rw (live c.before.before.before, is c.before.before.before ∙ c.if-not-is_accord.false, le-ltb (s c.before.before.before).turn 4 (omega arith))
 
-returns-4 : tie.Need-returns-4
-returns-4 c = let e = c.before.before.before.before in rw (live e, is e ∙ not-false _ c.before.before.before.if2.false, lt-ltb (s e).turn 4 (omega arith))
+returns-4 : tie.Need-returns
+returns-4 c = rw (live c.before.before.before.before, is c.before.before.before.before ∙ c.if-not-is_accord.false, lt-ltb (s c.before.before.before.before).turn 4 (omega arith))
 
-pub is-open-spec : {M : Type 1} → statement M
-is-open-spec = tie.close (tie.spec returns is-accord-requires returns-2 returns-3 returns-4)
+pub is_open_spec : {M : Type 1} → statement M
+is_open_spec = tie.close (tie.spec returns is-accord-requires returns-2 returns-3 returns-4)

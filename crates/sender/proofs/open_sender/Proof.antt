@@ -5,17 +5,17 @@ use borrow.Author.Rules.{rules}
 use Rattle.sender.proofs.open_sender.Statement.{statement}
 use Rattle.sender.proofs.open_sender.Tie as tie
 
-is-accord-requires : tie.Need-is-accord-requires
+is-accord-requires : tie.Need-is_accord-requires
 is-accord-requires c κs = search rules
 
-closed-sender-requires : tie.Need-closed-sender-requires
+closed-sender-requires : tie.Need-closed_sender-requires
 closed-sender-requires c κs = search rules
 
-returns : tie.Need-returns
-returns c = opens-done c.before.before.args.accord (sym c.before.is-accord.ensures ∙ c.if1.true)
+returns : tie.Need-returns-then-is_accord
+returns c = opens-done c.args.accord (sym c.is_accord.ensures ∙ c.if-is_accord.true)
 
-returns-2 : tie.Need-returns-2
-returns-2 c = opens-wide c.before.before.before.args.accord c.closed-sender.result (sym c.before.before.is-accord.ensures ∙ c.before.if1.false) c.closed-sender.ensures
+returns-2 : tie.Need-returns-else-is_accord
+returns-2 c = opens-wide c.args.accord c.closed_sender.result (sym c.is_accord.ensures ∙ c.if-is_accord.false) c.closed_sender.ensures
 
-pub open-sender-spec : {M : Type 1} → statement M
-open-sender-spec = tie.close (tie.spec is-accord-requires closed-sender-requires returns returns-2)
+pub open_sender_spec : {M : Type 1} → statement M
+open_sender_spec = tie.close (tie.spec is-accord-requires closed-sender-requires returns returns-2)

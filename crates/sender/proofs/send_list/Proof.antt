@@ -9,36 +9,32 @@ use borrow.Author.Rules.{rules}
 use Rattle.sender.proofs.send_list.Statement.{statement}
 use Rattle.sender.proofs.send_list.Tie as tie
 
-open_is : (c : tie.Else1) → sound c.before.before.before.args.s ≡ true
-open_is c = sym c.before.is_open.ensures ∙ not-false c.before.is_open.result c.if1.false
+open_is : (c : tie.Else-not-is_open) → sound c.args.s ≡ true
+open_is c = sym c.is_open.ensures ∙ c.if-not-is_open.false
 
-is-open-requires : tie.Need-is-open-requires
+is-open-requires : tie.Need-is_open-requires
 is-open-requires c κs = search rules
 
-returns : tie.Need-returns
+returns : tie.Need-returns-then-not-is_open
 returns c =
-    let t = c.before in
-    let a = t.before.before.args in
-    list-closed a.s a.words.now a.out.now (sym t.is_open.ensures ∙ not-true t.is_open.result c.if1.true)
+    let a = c.args in
+    list-closed a.s a.words.now a.out.now (sym c.is_open.ensures ∙ c.if-not-is_open.true)
 
-send-words-requires : tie.Need-send-words-requires
+send-words-requires : tie.Need-send_words-w-requires
 send-words-requires c κs =
-    let e = c.before.before in
-    subst (λ (s : Sender). sound s ≡ true) (at-is e.before.before.before.args.s _ (open_is e) refl) (open_is e)
+    subst (λ (s : Sender). sound s ≡ true) (at-is c.args.s _ (open_is c.before.before) refl) (open_is c.before.before)
 
-sender-at-requires : tie.Need-sender-at-requires
+sender-at-requires : tie.Need-sender_at-requires
 sender-at-requires c κs = search rules
 
-same_length : tie.Need-same-length
+same_length : tie.Need-shape_of-out
 same_length c = search rules
 
-returns-2 : tie.Need-returns-2
+returns-2 : tie.Need-returns
 returns-2 c =
-    let w = c.before.before in
-    let e = w.before.before.before in
-    let a = e.before.before.before.args in
-    rw c.sender-at.ensures (went-as a.s a.words.now a.out.now (open_is e) _ _ w.send-words.ensures)
+    let a = c.args in
+    rw c.sender_at.ensures (went-as a.s a.words.now a.out.now (open_is c.before.before.before.before.before) _ _ c.send_words-w.ensures)
 
-pub send-list-spec : {M : Type 1} → statement M
-send-list-spec =
+pub send_list_spec : {M : Type 1} → statement M
+send_list_spec =
     tie.close (tie.spec is-open-requires returns send-words-requires sender-at-requires same_length returns-2)

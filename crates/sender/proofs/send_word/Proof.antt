@@ -12,50 +12,43 @@ use Rattle.sender.proofs.send_word.Tie as tie
 range : (c : tie.Start) → Ranges c.args.s
 range c = ranges c.args.s c.requires.1
 
-word-is : (c : tie.Else1) → is_word c.before.before.args.s.accord.u c.before.before.args.word ≡ true
-word-is c = sym c.before.is_IsWord.ensures ∙ not-false c.before.is_IsWord.result c.if1.false
+word-is : (c : tie.Else-not-is_word) → is_word c.args.s.accord.u c.args.word ≡ true
+word-is c = sym c.is_word.ensures ∙ c.if-not-is_word.false
 
-is-word-requires : tie.Need-is-word-requires
+is-word-requires : tie.Need-is_word-requires
 is-word-requires c κs = wide _ (range c)
 
 refuse-requires : tie.Need-refuse-requires
 refuse-requires c κs = search rules
 
-returns : tie.Need-returns
+returns : tie.Need-returns-then-not-is_word
 returns c =
-    let t = c.before in
-    let s = t.before.before in
-    sends-bad s.args.s s.args.word s.args.out.now c.refuse.result s.requires.1
-    (sym t.before.is_IsWord.ensures ∙ not-true t.before.is_IsWord.result t.if1.true) c.refuse.ensures
+    sends-bad c.args.s c.args.word c.args.out.now c.refuse.result c.requires.1
+    (sym c.is_word.ensures ∙ c.if-not-is_word.true) c.refuse.ensures
 
-refuse-requires-2 : tie.Need-refuse-requires-2
+refuse-requires-2 : tie.Need-refuse-requires-then-out-lt4
 refuse-requires-2 c κs = search rules
 
-returns-2 : tie.Need-returns-2
+returns-2 : tie.Need-returns-then-out-lt4
 returns-2 c =
-    let t = c.before in
-    let s = t.before.before.before in
-    sends-short s.args.s s.args.word s.args.out.now c.refuse2.result s.requires.1 (word-is t.before) t.if2.true c.refuse2.ensures
+    sends-short c.args.s c.args.word c.args.out.now c.refuse-then-out-lt4.result c.requires.1 (word-is c.before.before) c.if-out-lt4.true c.refuse-then-out-lt4.ensures
 
-make-requires : tie.Need-make-requires
-make-requires c κs = let s = c.before.before.before.before in let r = range s in (s.requires.0, r.agreed, r.state, r.turn)
+make-requires : tie.Need-make-y-requires
+make-requires c κs = let r = range c.before.before.before.before in (c.requires.0, r.agreed, r.state, r.turn)
 
 put-requires : tie.Need-put-requires
 put-requires c κs = search rules
 
-same_length : tie.Need-same-length
+same_length : tie.Need-shape_of-out
 same_length c = search rules
 
-returns-3 : tie.Need-returns-3
+returns-3 : tie.Need-returns
 returns-3 c =
-    let m = c.before.before.before in
-    let t = m.before.before in
-    let s = t.before.before.before in
-    sends-done s.args.s s.args.word s.args.out.now m.make.result _ s.requires.1 (word-is t.before) t.if2.false m.make.ensures
-    c.before.put.ensures
+    sends-done c.args.s c.args.word c.args.out.now c.make-y.result _ c.requires.1 (word-is c.before.before.before.before.before.before.before.before) c.if-out-lt4.false c.make-y.ensures
+    c.put.ensures
 
-pub send-word-spec : {M : Type 1} → statement M
-send-word-spec =
+pub send_word_spec : {M : Type 1} → statement M
+send_word_spec =
     tie.close
     (tie.spec
     is-word-requires

@@ -5,48 +5,48 @@ use borrow.Author.Rules.{rules}
 use Rattle.show_files.proofs.run.Statement.{statement}
 use Rattle.show_files.proofs.run.Tie as tie
 
-abbrev invariant-loop : tie.invariant-loop
-invariant-loop fd chunk₀ now₀ turns₀ chunk now passes = length chunk ≡ 65536
+abbrev invariant-loop-passes : tie.invariant-loop-passes
+invariant-loop-passes fd chunk₀ now₀ turns₀ chunk now passes = length chunk ≡ 65536
 
-abbrev decreases-loop : tie.decreases-loop
-decreases-loop fd chunk₀ now₀ turns₀ chunk now passes = passes
+abbrev decreases-loop-passes : tie.decreases-loop-passes
+decreases-loop-passes fd chunk₀ now₀ turns₀ chunk now passes = passes
 
-returns : tie.Need-returns invariant-loop decreases-loop
+returns : tie.Need-returns-then-fd-lt0 invariant-loop-passes decreases-loop-passes
 returns c = search rules
 
-start-requires : tie.Need-start-requires invariant-loop decreases-loop
+start-requires : tie.Need-start-requires invariant-loop-passes decreases-loop-passes
 start-requires c κs = search rules
 
-loop-holds : tie.Need-loop-init invariant-loop decreases-loop
+loop-holds : tie.Need-loop-passes-init invariant-loop-passes decreases-loop-passes
 loop-holds c = search rules
 
-slice-aggregate-read-once : tie.Need-slice-aggregate-read-once invariant-loop decreases-loop
+slice-aggregate-read-once : tie.Need-slice_bounds-read_once-end invariant-loop-passes decreases-loop-passes
 slice-aggregate-read-once c = search rules
 
-read-once-requires : tie.Need-read-once-requires invariant-loop decreases-loop
+read-once-requires : tie.Need-read_once-now-requires invariant-loop-passes decreases-loop-passes
 read-once-requires c κs = search rules
 
-sub-passes : tie.Need-overflow-sub-passes invariant-loop decreases-loop
+sub-passes : tie.Need-overflow_sub-passes invariant-loop-passes decreases-loop-passes
 sub-passes c = search rules
 
-loop-less : tie.Need-loop-smaller invariant-loop decreases-loop
+loop-less : tie.Need-loop-passes-smaller invariant-loop-passes decreases-loop-passes
 loop-less c = search rules
 
-loop-again : tie.Need-loop-preserved invariant-loop decreases-loop
+loop-again : tie.Need-loop-passes-preserved invariant-loop-passes decreases-loop-passes
 loop-again c = search rules
 
-over-requires : tie.Need-over-requires invariant-loop decreases-loop
+over-requires : tie.Need-over-requires invariant-loop-passes decreases-loop-passes
 over-requires c κs = search rules
 
-returns-2 : tie.Need-returns-2 invariant-loop decreases-loop
+returns-2 : tie.Need-returns invariant-loop-passes decreases-loop-passes
 returns-2 c = search rules
 
 pub run_spec : {M : Type 1} → statement M
 run_spec =
     tie.close
     (tie.spec
-    invariant-loop
-    decreases-loop
+    invariant-loop-passes
+    decreases-loop-passes
     returns
     start-requires
     loop-holds

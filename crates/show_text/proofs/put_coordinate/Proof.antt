@@ -12,18 +12,18 @@ use Rattle.show_text.proofs.put_coordinate.Tie as tie
 coordinate-requires : tie.Need-coordinate-requires
 coordinate-requires c κs = search rules
 
-next-whole-requires : tie.Need-next-whole-requires
+next-whole-requires : tie.Need-next_whole-requires
 next-whole-requires c κs = search rules
 
-same_length : tie.Need-same-length
+same_length : tie.Need-shape_of-page
 same_length c = search rules
 
 returns : tie.Need-returns
 returns c =
-    let whole = c.before.before.next-whole.ensures in
-    let is = c.before.before.before.coordinate in
+    let whole = c.next_whole.ensures in
+    let is = c.coordinate in
     (puts-as (ap after (reads w32 is.result (omega (arith, is.ensures.1)) ∙ is.ensures.0)) whole, next-near _ whole)
 
-pub put-coordinate-spec : {M : Type 1} → statement M
-put-coordinate-spec =
+pub put_coordinate_spec : {M : Type 1} → statement M
+put_coordinate_spec =
     tie.close (tie.spec coordinate-requires next-whole-requires same_length returns)

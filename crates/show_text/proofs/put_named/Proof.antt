@@ -6,20 +6,20 @@ use borrow.Author.Rules.{rules}
 use Rattle.show_text.proofs.put_named.Statement.{statement}
 use Rattle.show_text.proofs.put_named.Tie as tie
 
-put-text-requires : tie.Need-put-text-requires
+put-text-requires : tie.Need-put_text-p-requires
 put-text-requires c κs = search rules
 
-put-number-requires : tie.Need-put-number-requires
+put-number-requires : tie.Need-put_number-requires
 put-number-requires c κs = search rules
 
-same_length : tie.Need-same-length
+same_length : tie.Need-shape_of-page
 same_length c = search rules
 
 returns : tie.Need-returns
 returns c =
-    let text = c.before.before.before.before.before.before.put-text.ensures in
-    let number = c.before.before.put-number.ensures in
+    let text = c.put_text-p.ensures in
+    let number = c.put_number.ensures in
     (joined (omega arith) text (says-number number), omega (arith, text.next, number.near))
 
-pub put-named-spec : {M : Type 1} → statement M
-put-named-spec = tie.close (tie.spec put-text-requires put-number-requires same_length returns)
+pub put_named_spec : {M : Type 1} → statement M
+put_named_spec = tie.close (tie.spec put-text-requires put-number-requires same_length returns)

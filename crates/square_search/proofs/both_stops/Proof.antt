@@ -29,28 +29,25 @@ module _ (r : ℤ) (h : nat_abs r ≤ 8192) (g : ℕ) (o : g ≡ origin_of (to_z
   made m a b e f =
       ap₂ {C = Stops} (λ (a b : Stop). record { zero = a; one = b }) (e ∙ ap (stop_of m 0) origin-is) (f ∙ ap (λ (g : ℕ). stop_of m 1 (g - 256)) origin-is)
 
-origin-requires : tie.Need-origin-requires
+origin-requires : tie.Need-origin-g-requires
 origin-requires c κs = search rules
 
-nearest-stop-requires : tie.Need-nearest-stop-requires
-nearest-stop-requires c κs = let s = c.before in (s.requires.0, omega arith, high s.args.r s.requires.1 c.origin.result c.origin.ensures)
+nearest-stop-requires : tie.Need-nearest_stop-zero-requires
+nearest-stop-requires c κs = (c.requires.0, omega arith, high c.args.r c.requires.1 c.origin-g.result c.origin-g.ensures)
 
-sub-nearest-stop : tie.Need-overflow-sub-nearest-stop
-sub-nearest-stop c = let s = c.before.before in low s.args.r s.requires.1 c.before.origin.result c.before.origin.ensures
+sub-nearest-stop : tie.Need-overflow_sub-g
+sub-nearest-stop c = low c.args.r c.requires.1 c.origin-g.result c.origin-g.ensures
 
-nearest-stop-requires-2 : tie.Need-nearest-stop-requires-2
+nearest-stop-requires-2 : tie.Need-nearest_stop-one-requires
 nearest-stop-requires-2 c κs =
-    let s = c.before.before in
-    (s.requires.0, omega arith, omega (arith, high s.args.r s.requires.1 c.before.origin.result c.before.origin.ensures))
+    (c.requires.0, omega arith, omega (arith, high c.args.r c.requires.1 c.origin-g.result c.origin-g.ensures))
 
 returns : tie.Need-returns
 returns c =
-    let o = c.before.before in
-    let s = o.before in
-    made s.args.r s.requires.1 o.origin.result o.origin.ensures s.args.m _ _ c.before.nearest-stop.ensures c.nearest-stop2.ensures
+    made c.args.r c.requires.1 c.origin-g.result c.origin-g.ensures c.args.m _ _ c.nearest_stop-zero.ensures c.nearest_stop-one.ensures
 
-pub both-stops-spec : {M : Type 1} → statement M
-both-stops-spec =
+pub both_stops_spec : {M : Type 1} → statement M
+both_stops_spec =
     tie.close
     (tie.spec
     origin-requires

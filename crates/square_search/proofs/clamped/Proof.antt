@@ -4,17 +4,17 @@ use Rattle.square_search.specs.Axis.{clamped_of}
 use Rattle.square_search.proofs.clamped.Statement.{statement}
 use Rattle.square_search.proofs.clamped.Tie as tie
 
-returns : tie.Need-returns
+returns : tie.Need-returns-then-q-lo
 unfolding clamped_of
-returns c = simp (lt-ltb _ _ c.if1.true)
+returns c = simp (lt-ltb _ _ c.if-q-lo.true)
 
-returns-2 : tie.Need-returns-2
+returns-2 : tie.Need-returns-then-hi-q
 unfolding clamped_of
-returns-2 c = simp (le-ltb _ _ c.before.if1.false, lt-ltb _ _ c.if2.true)
+returns-2 c = simp (le-ltb _ _ c.if-q-lo.false, lt-ltb _ _ c.if-hi-q.true)
 
-returns-3 : tie.Need-returns-3
+returns-3 : tie.Need-returns-else-hi-q
 unfolding clamped_of
-returns-3 c = simp (le-ltb _ _ c.before.if1.false, le-ltb _ _ c.if2.false)
+returns-3 c = simp (le-ltb _ _ c.if-q-lo.false, le-ltb _ _ c.if-hi-q.false)
 
-pub clamped-spec : {M : Type 1} → statement M
-clamped-spec = tie.close (tie.spec returns returns-2 returns-3)
+pub clamped_spec : {M : Type 1} → statement M
+clamped_spec = tie.close (tie.spec returns returns-2 returns-3)

@@ -68,57 +68,51 @@ module _ (m e g : ℕ) (p : (m < 5) × (e < 2) × (g ≤ 16768)) where
           ap₂ {C = Stop} (λ (s d : ℕ). record { s = s; d = d * d }) (h ∙ ap spread field_is) far-is
           ∙ ap (λ (t : ℕ). record { s = spread (field_at m t); d = far_squared g t }) place_is
 
-shl-side : tie.Need-overflow-shl-side
+shl-side : tie.Need-overflow_shl-side
 shl-side c = search rules
 
-add-lo : tie.Need-overflow-add-lo
+add-lo : tie.Need-overflow_add-lo
 add-lo c = omega (arith, (side-in c.args.m c.args.e c.args.g c.requires).1)
 
-sub-lo : tie.Need-overflow-sub-lo
+sub-lo : tie.Need-overflow_sub-lo
 sub-lo c = omega (arith, (side-in c.args.m c.args.e c.args.g c.requires).1)
 
 rounded-requires : tie.Need-rounded-requires
 rounded-requires c κs = search rules
 
-sub-clamped : tie.Need-overflow-sub-clamped
-sub-clamped c = let s = c.before in omega (arith, (side-in s.args.m s.args.e s.args.g s.requires).0)
+sub-clamped : tie.Need-overflow_sub-side
+sub-clamped c = omega (arith, (side-in c.args.m c.args.e c.args.g c.requires).0)
 
-add-clamped : tie.Need-overflow-add-clamped
+add-clamped : tie.Need-overflow_add-lo-2
 add-clamped c = search rules
 
-clamped-requires : tie.Need-clamped-requires
+clamped-requires : tie.Need-clamped-t-requires
 clamped-requires c κs = search rules
 
-add-spread-out : tie.Need-overflow-add-spread-out
+add-spread-out : tie.Need-overflow_add-t
 add-spread-out c =
-    let s = c.before.before in
-    omega (arith, place-le s.args.m s.args.e s.args.g s.requires _ _ c.before.rounded.ensures c.clamped.ensures)
+    omega (arith, place-le c.args.m c.args.e c.args.g c.requires _ _ c.rounded.ensures c.clamped-t.ensures)
 
-sub-spread-out : tie.Need-overflow-sub-spread-out
-sub-spread-out c = let s = c.before.before in omega (arith, (side-in s.args.m s.args.e s.args.g s.requires).0)
+sub-spread-out : tie.Need-overflow_sub-side-2
+sub-spread-out c = omega (arith, (side-in c.args.m c.args.e c.args.g c.requires).0)
 
-spread-out-requires : tie.Need-spread-out-requires
+spread-out-requires : tie.Need-spread_out-s-requires
 spread-out-requires c κs =
-    let s = c.before.before in
-    field-low s.args.m s.args.e s.args.g s.requires _ _ c.before.rounded.ensures c.clamped.ensures
+    field-low c.args.m c.args.e c.args.g c.requires _ _ c.rounded.ensures c.clamped-t.ensures
 
-between-requires : tie.Need-between-requires
+between-requires : tie.Need-between-far-requires
 between-requires c κs = search rules
 
-mul-t10 : tie.Need-overflow-mul-t10
+mul-t10 : tie.Need-overflow_mul-result
 mul-t10 c =
-    let t = c.before.before in
-    let s = t.before.before in
-    square-fits s.args.m s.args.e s.args.g s.requires _ _ t.before.rounded.ensures t.clamped.ensures c.between.result c.between.ensures
+    square-fits c.args.m c.args.e c.args.g c.requires _ _ c.rounded.ensures c.clamped-t.ensures c.between-far.result c.between-far.ensures
 
 returns : tie.Need-returns
 returns c =
-    let t = c.before.before in
-    let s = t.before.before in
-    stop_is s.args.m s.args.e s.args.g s.requires _ _ t.before.rounded.ensures t.clamped.ensures c.between.result c.between.ensures _ c.before.spread-out.ensures
+    stop_is c.args.m c.args.e c.args.g c.requires _ _ c.rounded.ensures c.clamped-t.ensures c.between-far.result c.between-far.ensures _ c.spread_out-s.ensures
 
-pub nearest-stop-spec : {M : Type 1} → statement M
-nearest-stop-spec =
+pub nearest_stop_spec : {M : Type 1} → statement M
+nearest_stop_spec =
     tie.close
     (tie.spec
     shl-side

@@ -30,14 +30,14 @@ module _ (r : ℤ) (h : nat_abs r ≤ 8192) where
   code-cast : T (non_neg (to_z w32 (of_z w32 code))) × Fits w32 (nat_abs (to_z w32 (of_z w32 code)))
   code-cast = subst (λ (z : ℤ). T (non_neg z) × Fits w32 (nat_abs z)) (sym code_reads) (tt, record { fits = omega (arith, (origin-in r h).1) })
 
-add-result : tie.Need-overflow-add-result
+add-result : tie.Need-overflow_add-result
 add-result c = code_fits c.args.r c.requires
 
-cast-result : tie.Need-overflow-cast-result
+cast-result : tie.Need-overflow_cast-result
 cast-result c = code-cast c.args.r c.requires
 
 returns : tie.Need-returns
 returns c = ap nat_abs (code_reads c.args.r c.requires)
 
-pub origin-spec : {M : Type 1} → statement M
-origin-spec = tie.close (tie.spec add-result cast-result returns)
+pub origin_spec : {M : Type 1} → statement M
+origin_spec = tie.close (tie.spec add-result cast-result returns)

@@ -5,16 +5,16 @@ use Rattle.square_search.specs.Axis.{rounded_of}
 use Rattle.square_search.proofs.rounded.Statement.{statement}
 use Rattle.square_search.proofs.rounded.Tie as tie
 
-add-result : tie.Need-overflow-add-result
+add-result : tie.Need-overflow_add-result
 add-result c = search rules
 
-returns : tie.Need-returns
+returns : tie.Need-returns-then-g-eq8448
 unfolding rounded_of
-returns c = simp (eq-eqb _ _ c.if1.true)
+returns c = simp (eq-eqb _ _ c.if-g-eq8448.true)
 
-returns-2 : tie.Need-returns-2
+returns-2 : tie.Need-returns-else-g-eq8448
 unfolding rounded_of
-returns-2 c = simp (ne_eqb _ _ c.if1.false)
+returns-2 c = simp (ne_eqb _ _ c.if-g-eq8448.false)
 
-pub rounded-spec : {M : Type 1} → statement M
-rounded-spec = tie.close (tie.spec add-result returns returns-2)
+pub rounded_spec : {M : Type 1} → statement M
+rounded_spec = tie.close (tie.spec add-result returns returns-2)

@@ -55,7 +55,7 @@ module _ (m : ℕ) (r : ℤ) (a : m < 5) (h : nat_abs r ≤ 8192) where
     small : SmallStop (bit_stop e s)
     small = subst SmallStop (sym stop_is) (stop-small m e (origin_of r - 256 * e) a b (omega (arith, (origin-in r h).1)))
 
-module _ (c : tie.After-both-stops2) where
+module _ (c : tie.After-both_stops-ys) where
   abbrev s : tie.Start
   s = c.before.before.before.before
 
@@ -63,7 +63,7 @@ module _ (c : tie.After-both-stops2) where
   u = s.args.u
 
   m-below : u / 2 < 5
-  m-below = half-below u s.pre.0
+  m-below = half-below u s.requires.0
 
   -- for each label what `joined` asks, and what it gives
   module _ (l : ℕ) where
@@ -74,52 +74,51 @@ module _ (c : tie.After-both-stops2) where
     y-bit = omega arith
 
     abbrev xs : Stops
-    xs = c.before.before.both-stops.result
+    xs = c.both_stops-xs.result
 
     abbrev ys : Stops
-    ys = c.both-stops2.result
+    ys = c.both_stops-ys.result
 
     asked : SmallStop (bit_stop (low_bits l / 2) xs) × SmallStop (bit_stop (low_bits l % 2) ys)
     asked =
-        let a = small (u / 2) s.args.h.x m-below s.pre.1.x-in xs c.before.before.both-stops.ensures (low_bits l / 2) x-bit in
-        let b = small (u / 2) s.args.h.y m-below s.pre.1.y-in ys c.both-stops2.ensures (low_bits l % 2) y-bit in
+        let a = small (u / 2) s.args.h.x m-below s.requires.1.x-in xs c.both_stops-xs.ensures (low_bits l / 2) x-bit in
+        let b = small (u / 2) s.args.h.y m-below s.requires.1.y-in ys c.both_stops-ys.ensures (low_bits l % 2) y-bit in
         (a, b)
 
     given : (r : Candidate) → r ≡ joined_of (bit_stop (low_bits l / 2) xs) (bit_stop (low_bits l % 2) ys) → r ≡ found_at u s.args.h l
     given r e =
-        let a = stop_is (u / 2) s.args.h.x m-below s.pre.1.x-in xs c.before.before.both-stops.ensures (low_bits l / 2) x-bit in
-        let b = stop_is (u / 2) s.args.h.y m-below s.pre.1.y-in ys c.both-stops2.ensures (low_bits l % 2) y-bit in
-        e ∙ ap₂ joined_of a b ∙ candidate-is u s.pre.0 s.args.h s.pre.1 l
+        let a = stop_is (u / 2) s.args.h.x m-below s.requires.1.x-in xs c.both_stops-xs.ensures (low_bits l / 2) x-bit in
+        let b = stop_is (u / 2) s.args.h.y m-below s.requires.1.y-in ys c.both_stops-ys.ensures (low_bits l % 2) y-bit in
+        e ∙ ap₂ joined_of a b ∙ candidate-is u s.requires.0 s.args.h s.requires.1 l
 
-both-stops-requires : tie.Need-both-stops-requires
-both-stops-requires c κs = let s = c.before in passed (s.args.u / 2) s.args.h.x (half-below s.args.u s.requires.0) s.requires.1.x-in
+both-stops-requires : tie.Need-both_stops-xs-requires
+both-stops-requires c κs = passed (c.args.u / 2) c.args.h.x (half-below c.args.u c.requires.0) c.requires.1.x-in
 
-both-stops-requires-2 : tie.Need-both-stops-requires-2
-both-stops-requires-2 c κs = let s = c.before.before.before in passed (s.args.u / 2) s.args.h.y (half-below s.args.u s.requires.0) s.requires.1.y-in
+both-stops-requires-2 : tie.Need-both_stops-ys-requires
+both-stops-requires-2 c κs = passed (c.args.u / 2) c.args.h.y (half-below c.args.u c.requires.0) c.requires.1.y-in
 
-joined-requires : tie.Need-joined-requires
+joined-requires : tie.Need-joined-a-requires
 joined-requires c κs = asked c.before.before.before.before 0
 
-joined-requires-2 : tie.Need-joined-requires-2
+joined-requires-2 : tie.Need-joined-c-requires
 joined-requires-2 c κs = asked c.before.before.before.before.before 1
 
-joined-requires-3 : tie.Need-joined-requires-3
+joined-requires-3 : tie.Need-joined-b-requires
 joined-requires-3 c κs = asked c.before.before.before.before.before.before 2
 
-joined-requires-4 : tie.Need-joined-requires-4
+joined-requires-4 : tie.Need-joined-d-requires
 joined-requires-4 c κs = asked c.before.before.before.before.before.before.before 3
 
 returns : tie.Need-returns
 returns c =
-    let q = c.before.before.before.before.before.before.before.before in
-    rows (u q) (s q).args.h _ _ _ _
-    (given q 0 _ c.before.before.before.joined.ensures)
-    (given q 1 _ c.before.before.joined2.ensures)
-    (given q 2 _ c.before.joined3.ensures)
-    (given q 3 _ c.joined4.ensures)
+    rows (u c.before.before.before.before.before.before.before.before) (s c.before.before.before.before.before.before.before.before).args.h _ _ _ _
+    (given c.before.before.before.before.before.before.before.before 0 _ c.joined-a.ensures)
+    (given c.before.before.before.before.before.before.before.before 1 _ c.joined-c.ensures)
+    (given c.before.before.before.before.before.before.before.before 2 _ c.joined-b.ensures)
+    (given c.before.before.before.before.before.before.before.before 3 _ c.joined-d.ensures)
 
-pub search-spec : {M : Type 1} → statement M
-search-spec =
+pub search_spec : {M : Type 1} → statement M
+search_spec =
     tie.close
     (tie.spec
     both-stops-requires

@@ -12,162 +12,158 @@ use borrow.Author.Rules.{rules}
 use Rattle.stream.proofs.hear_chunk.Statement.{statement}
 use Rattle.stream.proofs.hear_chunk.Tie as tie
 
-abbrev invariant-loop : tie.invariant-loop
-invariant-loop chunk line₀ page₀ now₀ from₀ line page now from =
+abbrev invariant-loop-from : tie.invariant-loop-from
+invariant-loop-from chunk line₀ page₀ now₀ from₀ line page now from =
     ((from ≤ length chunk) × (length line ≡ length line₀) × (length page ≡ 131072))
     × ((now.at ≤ 131072) × (now.part.held ≤ length line) × (from ≡ 0 → now.at ≤ 32768))
     × ((c : Course) (b : List ℕ) → Stands c b line₀ now₀ page₀ → Stands (streaming (length line₀) c (take from chunk)) b line now page)
 
-abbrev decreases-loop : tie.decreases-loop
-decreases-loop chunk line₀ page₀ now₀ from₀ line page now from = length chunk - from
+abbrev decreases-loop-from : tie.decreases-loop-from
+decreases-loop-from chunk line₀ page₀ now₀ from₀ line page now from = length chunk - from
 
-loop-holds : tie.Need-loop-init invariant-loop decreases-loop
+loop-holds : tie.Need-loop-from-init invariant-loop-from decreases-loop-from
 loop-holds c =
-    let start = c.before.before.before in
-    (search rules, (omega (arith, start.requires.1.0), start.requires.1.1, λ _. start.requires.1.0), λ k b z. z)
+    (search rules, (omega (arith, c.requires.1.0), c.requires.1.1, λ _. c.requires.1.0), λ k b z. z)
 
-sub-before : tie.Need-overflow-sub-before invariant-loop decreases-loop
+sub-before : tie.Need-slice_bounds-before-count invariant-loop-from decreases-loop-from
 sub-before c = search rules
 
-part-before-start : tie.Need-slice-bounds-before-start invariant-loop decreases-loop
+part-before-start : tie.Need-slice_bounds-before-start invariant-loop-from decreases-loop-from
 part-before-start c = search rules
 
-part-before-end : tie.Need-slice-bounds-before-end invariant-loop decreases-loop
+part-before-end : tie.Need-slice_bounds-before-end invariant-loop-from decreases-loop-from
 part-before-end c = search rules
 
-before-requires : tie.Need-before-requires invariant-loop decreases-loop
+before-requires : tie.Need-before-n-requires invariant-loop-from decreases-loop-from
 before-requires c κs = search rules
 
-add-end : tie.Need-overflow-add-end invariant-loop decreases-loop
+add-end : tie.Need-overflow_add-end invariant-loop-from decreases-loop-from
 add-end c = search rules
 
-sub-gather : tie.Need-overflow-sub-gather invariant-loop decreases-loop
+sub-gather : tie.Need-slice_bounds-gather-count invariant-loop-from decreases-loop-from
 sub-gather c = search rules
 
-part-gather-start : tie.Need-slice-bounds-gather-start invariant-loop decreases-loop
+part-gather-start : tie.Need-slice_bounds-gather-start invariant-loop-from decreases-loop-from
 part-gather-start c = search rules
 
-part-gather-end : tie.Need-slice-bounds-gather-end invariant-loop decreases-loop
+part-gather-end : tie.Need-slice_bounds-gather-end invariant-loop-from decreases-loop-from
 part-gather-end c = search rules
 
-gather-requires : tie.Need-gather-requires invariant-loop decreases-loop
+gather-requires : tie.Need-gather-grown-requires invariant-loop-from decreases-loop-from
 gather-requires c κs = search rules
 
 -- the way back, from a place in the code to one that comes before it
-abbrev to_start : tie.At-loop invariant-loop decreases-loop → tie.Start invariant-loop decreases-loop
+abbrev to_start : tie.At-loop-from invariant-loop-from decreases-loop-from → tie.Start invariant-loop-from decreases-loop-from
 to_start c = c.before.before.before.before
 
-abbrev to-loop : tie.After-before2 invariant-loop decreases-loop → tie.At-loop invariant-loop decreases-loop
+abbrev to-loop : tie.After-before-n invariant-loop-from decreases-loop-from → tie.At-loop-from invariant-loop-from decreases-loop-from
 to-loop c = c.before.before.before.before.before
 
-same_length : tie.Need-same-length invariant-loop decreases-loop
+same_length : tie.Need-shape_of-line-then-end-chunk invariant-loop-from decreases-loop-from
 same_length c = search rules
 
-same-length-2 : tie.Need-same-length-2 invariant-loop decreases-loop
+same-length-2 : tie.Need-shape_of-page-then-end-chunk invariant-loop-from decreases-loop-from
 same-length-2 c = search rules
 
-abbrev to-reply : tie.After-slice-known4 invariant-loop decreases-loop → tie.After-reply invariant-loop decreases-loop
+abbrev to-reply : tie.After-slice_known-in-loop-from-2-1 invariant-loop-from decreases-loop-from → tie.After-reply-now invariant-loop-from decreases-loop-from
 to-reply c = c.before.before
 
-abbrev to-gather : tie.After-slice-known4 invariant-loop decreases-loop → tie.After-gather invariant-loop decreases-loop
-to-gather c = (to-reply c).before.before.before.before.before.before
+abbrev to-gather : tie.After-slice_known-in-loop-from-2-1 invariant-loop-from decreases-loop-from → tie.After-gather-grown invariant-loop-from decreases-loop-from
+to-gather c = c.before.before.before.before.before.before
 
-abbrev to-before2 : tie.After-slice-known4 invariant-loop decreases-loop → tie.After-before2 invariant-loop decreases-loop
-to-before2 c = (to-gather c).before.before.before.before
+abbrev to-before2 : tie.After-slice_known-in-loop-from-2-1 invariant-loop-from decreases-loop-from → tie.After-before-n invariant-loop-from decreases-loop-from
+to-before2 c = c.before.before.before.before
 
-abbrev to-then1 : tie.After-slice-known4 invariant-loop decreases-loop → tie.Then1 invariant-loop decreases-loop
-to-then1 c = (to-before2 c).before.before
+abbrev to-then1 : tie.After-slice_known-in-loop-from-2-1 invariant-loop-from decreases-loop-from → tie.Then-now-le32768 invariant-loop-from decreases-loop-from
+to-then1 c = c.before.before
 
-returns : tie.Need-returns invariant-loop decreases-loop
+returns : tie.Need-returns-then-end-chunk invariant-loop-from decreases-loop-from
 returns c =
-    let at-gather = c.before.before.before in
-    let at-before2 = at-gather.before.before.before.before in
-    let at-loop = to-loop at-before2 in (
-      (at-loop.loop.inv.1.0, omega (arith, at-gather.gather.ensures.0, at-loop.loop.inv.0.1)),
+    let at-loop = to-loop c.before.before.before.before.before.before.before in (
+      (at-loop.loop-from.invariant.1.0, omega (arith, c.gather-grown.ensures.0, at-loop.loop-from.invariant.0.1)),
       (
-        (omega (arith, c.if2.true), λ h. omega (arith, c.if2.true)),
-        λ k b z. let l = at-loop.loop in
-            let stands = l.inv.2 k b z in
-            stands-as (to_the_end _ k (to_start at-loop).args.chunk.now l.from at-before2.before2.result at-before2.before2.ensures)
-            (after-gather stands _ refl refl (at-gather.gather.ensures.1 _ stands.holds.part)),
+        (omega (arith, c.if-end-chunk.true), λ h. omega (arith, c.if-end-chunk.true)),
+        λ k b z. let l = at-loop.loop-from in
+            let stands = l.invariant.2 k b z in
+            stands-as (to_the_end _ k (to_start at-loop).args.chunk.now l.from c.before-n.result c.before-n.ensures)
+            (after-gather stands _ refl refl (c.gather-grown.ensures.1 _ stands.holds.part)),
       ),
     )
 
-reply-requires : tie.Need-reply-requires invariant-loop decreases-loop
+reply-requires : tie.Need-reply-now-requires invariant-loop-from decreases-loop-from
 reply-requires c κs =
-    let at-gather = c.before.before.before.before.before in
-    let at-loop = to-loop at-gather.before.before.before.before in (
+    let at-loop = to-loop c.before.before.before.before.before.before.before.before in (
       omega (
         arith,
-        leb-true at-loop.loop.now.at 32768 at-gather.before.before.before.before.before.before.if1.true,
-        at-loop.loop.inv.0.2,
+        leb-true at-loop.loop-from.now.at 32768 c.if-now-le32768.true,
+        at-loop.loop-from.invariant.0.2,
       ),
-      omega (arith, at-gather.gather.ensures.0, at-gather.gather.auto.1.0),
+      omega (arith, c.gather-grown.ensures.0, c.gather-grown.auto.line),
     )
 
 -- there is a newline in what is left of the chunk
-found : (c : tie.After-slice-known4 invariant-loop decreases-loop) →
-    (to-loop (to-before2 c)).loop.from + (to-before2 c).before2.result < length (to_start (to-loop (to-before2 c))).args.chunk.now
+found : (c : tie.After-slice_known-in-loop-from-2-1 invariant-loop-from decreases-loop-from) →
+    (to-loop (to-before2 c)).loop-from.from + c.before-n.result < length (to_start (to-loop (to-before2 c))).args.chunk.now
 found c =
     let b = to-before2 c in
-    let l = (to-loop b).loop in
-    omega (arith, token_end (to_start (to-loop b)).args.chunk.now l.from l.inv.0.0 b.before2.ensures, (to-reply c).before.before.before.if2.false)
+    let l = (to-loop b).loop-from in
+    omega (arith, token_end (to_start (to-loop b)).args.chunk.now l.from l.invariant.0.0 b.before-n.ensures, c.if-end-chunk.false)
 
-add-from : tie.Need-overflow-add-from invariant-loop decreases-loop
+add-from : tie.Need-overflow_add-from invariant-loop-from decreases-loop-from
 add-from c = omega (arith, found c, (to_start (to-loop (to-before2 c))).good)
 
-loop-less : tie.Need-loop-smaller invariant-loop decreases-loop
+loop-less : tie.Need-loop-from-smaller invariant-loop-from decreases-loop-from
 loop-less c = omega (arith, found c)
 
-loop-again : tie.Need-loop-preserved invariant-loop decreases-loop
+loop-again : tie.Need-loop-from-preserved invariant-loop-from decreases-loop-from
 loop-again c = (
   (
     omega (arith, found c),
-    (to-gather c).gather.auto.1.0 ∙ (to-loop (to-before2 c)).loop.inv.0.1,
-    (to-reply c).reply.auto.1.1.0 ∙ (to-loop (to-before2 c)).loop.inv.0.2,
+    c.gather-grown.auto.line ∙ (to-loop (to-before2 c)).loop-from.invariant.0.1,
+    c.reply-now.auto.page ∙ (to-loop (to-before2 c)).loop-from.invariant.0.2,
   ),
-  let r = (to-reply c).reply.ensures.0 in
-      (omega (arith, r.0, leb-true (to-loop (to-before2 c)).loop.now.at 32768 (to-then1 c).if1.true), omega (arith, r.1), λ e. absurd (omega (arith, e))),
+  let r = c.reply-now.ensures.0 in
+      (omega (arith, r.0, leb-true (to-loop (to-before2 c)).loop-from.now.at 32768 c.if-now-le32768.true), omega (arith, r.1), λ e. absurd (omega (arith, e))),
   λ k b z. let at-before2 = to-before2 c in
-      let l = (to-loop at-before2).loop in
-      let stands = l.inv.2 k b z in
-      let grown = after-gather stands _ refl refl ((to-gather c).gather.ensures.1 _ stands.holds.part) in
-      let most = (to-gather c).gather.auto.1.0 ∙ l.inv.0.1 in
-      stands-as (to-the-newline _ k (to_start (to-loop at-before2)).args.chunk.now l.from at-before2.before2.result at-before2.before2.ensures most (found c))
-      (after-reply grown _ _ (omega (arith, l.inv.0.2, leb-true l.now.at 32768 (to-then1 c).if1.true)) ((to-reply c).reply.ensures.1 _ grown.holds.part)),
+      let l = (to-loop at-before2).loop-from in
+      let stands = l.invariant.2 k b z in
+      let grown = after-gather stands _ refl refl (c.gather-grown.ensures.1 _ stands.holds.part) in
+      let most = c.gather-grown.auto.line ∙ l.invariant.0.1 in
+      stands-as (to-the-newline _ k (to_start (to-loop at-before2)).args.chunk.now l.from at-before2.before-n.result at-before2.before-n.ensures most (found c))
+      (after-reply grown _ _ (omega (arith, l.invariant.0.2, leb-true l.now.at 32768 c.if-now-le32768.true)) (c.reply-now.ensures.1 _ grown.holds.part)),
 )
 
-same-length-3 : tie.Need-same-length-3 invariant-loop decreases-loop
+same-length-3 : tie.Need-shape_of-line-else-now-le32768 invariant-loop-from decreases-loop-from
 same-length-3 c = search rules
 
-same-length-4 : tie.Need-same-length-4 invariant-loop decreases-loop
+same-length-4 : tie.Need-shape_of-page-else-now-le32768 invariant-loop-from decreases-loop-from
 same-length-4 c = search rules
 
-returns-2 : tie.Need-returns-2 invariant-loop decreases-loop
+returns-2 : tie.Need-returns-else-now-le32768 invariant-loop-from decreases-loop-from
 returns-2 c =
-    let at-loop = c.before.before.before in (
-      (at-loop.loop.invariant.1.0, omega (arith, at-loop.loop.invariant.1.1, at-loop.loop.invariant.0.1)),
-      ((at-loop.loop.invariant.0.0, λ _. some-heard at-loop.loop.from at-loop.loop.invariant.1.2 (leb-false at-loop.loop.now.at 32768 c.if1.false)), at-loop.loop.invariant.2),
+    (
+      (c.loop-from.invariant.1.0, omega (arith, c.loop-from.invariant.1.1, c.loop-from.invariant.0.1)),
+      ((c.loop-from.invariant.0.0, λ _. some-heard c.loop-from.from c.loop-from.invariant.1.2 (leb-false c.loop-from.now.at 32768 c.if-now-le32768.false)), c.loop-from.invariant.2),
     )
 
-same-length-5 : tie.Need-same-length-5 invariant-loop decreases-loop
+same-length-5 : tie.Need-shape_of-line-after-loop-from invariant-loop-from decreases-loop-from
 same-length-5 c = search rules
 
-same-length-6 : tie.Need-same-length-6 invariant-loop decreases-loop
+same-length-6 : tie.Need-shape_of-page-after-loop-from invariant-loop-from decreases-loop-from
 same-length-6 c = search rules
 
-returns-3 : tie.Need-returns-3 invariant-loop decreases-loop
+returns-3 : tie.Need-returns-after-loop-from invariant-loop-from decreases-loop-from
 returns-3 c = (
-  (c.before.loop.invariant.1.0, omega (arith, c.before.loop.invariant.1.1, c.before.loop.invariant.0.1)),
-  ((c.before.loop.invariant.0.0, λ h. omega (arith, h, c.loop-test.false)), c.before.loop.invariant.2),
+  (c.loop-from.invariant.1.0, omega (arith, c.loop-from.invariant.1.1, c.loop-from.invariant.0.1)),
+  ((c.loop-from.invariant.0.0, λ h. omega (arith, h, c.loop-from-test.false)), c.loop-from.invariant.2),
 )
 
-pub hear-chunk-spec : {M : Type 1} → statement M
-hear-chunk-spec =
+pub hear_chunk_spec : {M : Type 1} → statement M
+hear_chunk_spec =
     tie.close
     (tie.spec
-    invariant-loop
-    decreases-loop
+    invariant-loop-from
+    decreases-loop-from
     loop-holds
     sub-before
     part-before-start

@@ -8,37 +8,37 @@ use borrow.Author.Rules.{rules}
 use Rattle.stream.proofs.hear_end.Statement.{statement}
 use Rattle.stream.proofs.hear_end.Tie as tie
 
-returns : tie.Need-returns
+returns : tie.Need-returns-then-not-part
 returns c =
-    let start = c.before.before.before.before.before.before.before in (
-      (omega (arith, start.requires.1.0), start.requires.1.1),
-      λ k b z. stands-as (no_last _ k z.holds.part c.before.before.if1.true (not-true _ c.if2.true)) z,
+    (
+      (omega (arith, c.requires.1.0), c.requires.1.1),
+      λ k b z. stands-as (no_last _ k z.holds.part c.if-part-eq0.true (c.if-not-part.true)) z,
     )
 
 reply-requires : tie.Need-reply-requires
 reply-requires c κs = search rules
 
-same_length : tie.Need-same-length
+same_length : tie.Need-shape_of-page
 same_length c = search rules
 
 -- the way back, from a place in the code to one that comes before it
-abbrev to-joined : tie.After-reply → tie.Joined1
+abbrev to-joined : tie.After-reply → tie.Joined-else-part-eq0
 to-joined c = c.before.before
 
 abbrev to_start : tie.After-reply → tie.Start
-to_start c = (to-joined c).before.before.before.before.before
+to_start c = c.before.before.before.before.before
 
-returns-2 : tie.Need-returns-2
+returns-2 : tie.Need-returns
 returns-2 c =
-    let at-reply = c.before.before in (
-      (omega (arith, at-reply.reply.ensures.0.0, (to_start at-reply).requires.1.0), omega (arith, at-reply.reply.ensures.0.1)),
-      λ k b z. let start = to_start at-reply in
+    (
+      (omega (arith, c.reply.ensures.0.0, c.requires.1.0), omega (arith, c.reply.ensures.0.1)),
+      λ k b z. let start = to_start c.before.before in
           let some =
-          some-last _ k z.holds.part start.pre.1.1
-          (λ e f. ⊎_elim (λ w. clash start.args.lab.part.long (not-false _ w.2.left) f) (λ w. w.left e) (to-joined at-reply).if1.branch) in
-          stands-as some (after-reply z _ _ (omega (arith, start.pre.0, start.pre.1.0)) (at-reply.reply.ensures.1 _ z.holds.part)),
+          some-last _ k z.holds.part start.requires.1.1
+          (λ e f. ⊎_elim (λ w. clash start.args.lab.part.long (not-false _ w.2.left) f) (λ w. w.left e) c.else-part-eq0.branch) in
+          stands-as some (after-reply z _ _ (omega (arith, start.requires.0, start.requires.1.0)) (c.reply.ensures.1 _ z.holds.part)),
     )
 
-pub hear-end-spec : {M : Type 1} → statement M
-hear-end-spec =
+pub hear_end_spec : {M : Type 1} → statement M
+hear_end_spec =
     tie.close (tie.spec returns reply-requires same_length returns-2)

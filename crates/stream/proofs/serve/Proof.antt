@@ -10,102 +10,101 @@ use borrow.Author.Rules.{rules}
 use Rattle.stream.proofs.serve.Statement.{statement}
 use Rattle.stream.proofs.serve.Tie as tie
 
-abbrev invariant-loop : tie.invariant-loop
-invariant-loop chunk₀ line₀ page₀ now₀ passes₀ chunk line page now passes =
+abbrev invariant-loop-passes : tie.invariant-loop-passes
+invariant-loop-passes chunk₀ line₀ page₀ now₀ passes₀ chunk line page now passes =
     ((length chunk ≡ length chunk₀) × (length line ≡ length line₀) × (length page ≡ length page₀))
     × ((now.from ≤ now.to) × (now.to ≤ length chunk) × (now.lab.part.held ≤ length line))
     × Served (length line) line now.lab
 
-abbrev decreases-loop : tie.decreases-loop
-decreases-loop chunk₀ line₀ page₀ now₀ passes₀ chunk line page now passes = passes
+abbrev decreases-loop-passes : tie.decreases-loop-passes
+decreases-loop-passes chunk₀ line₀ page₀ now₀ passes₀ chunk line page now passes = passes
 
-closed-requires : tie.Need-closed-requires invariant-loop decreases-loop
+closed-requires : tie.Need-closed-requires invariant-loop-passes decreases-loop-passes
 closed-requires c κs = search rules
 
-fresh-requires : tie.Need-fresh-requires invariant-loop decreases-loop
+fresh-requires : tie.Need-fresh-requires invariant-loop-passes decreases-loop-passes
 fresh-requires c κs = search rules
 
-loop-holds : tie.Need-loop-init invariant-loop decreases-loop
-loop-holds c = (search rules, search rules, none-served _ c.before.closed.ensures c.fresh.ensures.1)
+loop-holds : tie.Need-loop-passes-init invariant-loop-passes decreases-loop-passes
+loop-holds c = (search rules, search rules, none-served _ c.closed.ensures c.fresh.ensures.1)
 
-refill-requires : tie.Need-refill-requires invariant-loop decreases-loop
+refill-requires : tie.Need-refill-now-requires invariant-loop-passes decreases-loop-passes
 refill-requires c κs = search rules
 
 -- the way back, from a place in the code to one that comes before it
-abbrev to-loop : tie.After-refill invariant-loop decreases-loop → tie.At-loop invariant-loop decreases-loop
+abbrev to-loop : tie.After-refill-now invariant-loop-passes decreases-loop-passes → tie.At-loop-passes invariant-loop-passes decreases-loop-passes
 to-loop c = c.before.before.before
 
-abbrev to-answer : tie.After-slice-known6 invariant-loop decreases-loop → tie.After-answer invariant-loop decreases-loop
+abbrev to-answer : tie.After-slice_known-in-loop-passes-3-1 invariant-loop-passes decreases-loop-passes → tie.After-answer-now invariant-loop-passes decreases-loop-passes
 to-answer c = c.before.before.before.before
 
-abbrev to-refill : tie.After-answer invariant-loop decreases-loop → tie.After-refill invariant-loop decreases-loop
-to-refill c = c.before.before.before.before.before.before
+abbrev to-refill : tie.After-answer-now invariant-loop-passes decreases-loop-passes → tie.After-refill-now invariant-loop-passes decreases-loop-passes
+to-refill c = c.before.before.before.before.before
 
-abbrev to-in-loop : tie.Else2 invariant-loop decreases-loop → tie.In-loop invariant-loop decreases-loop
+abbrev to-in-loop : tie.Else-not-now invariant-loop-passes decreases-loop-passes → tie.In-loop-passes invariant-loop-passes decreases-loop-passes
 to-in-loop c = (to-refill (to-answer c.before.before.before)).before.before
 
-answer-requires : tie.Need-answer-requires invariant-loop decreases-loop
+answer-requires : tie.Need-answer-now-requires invariant-loop-passes decreases-loop-passes
 answer-requires c κs =
-    let at-refill = c.before.before.before.before.before in
-    let at-loop = to-loop at-refill in
-    let l = at-loop.loop.inv in
-    let r = at-refill.refill in (
-      l.0.2 ∙ at-loop.before.before.before.before.before.before.pre,
+    let at-loop = to-loop c.before.before.before.before in
+    let l = at-loop.loop-passes.invariant in
+    let r = c.refill-now in (
+      l.0.2 ∙ at-loop.requires,
       (r.ensures.0.0, omega (arith, r.ensures.0.1, r.auto.1.0), omega (arith, ap (λ (p : Part). p.held) r.ensures.0.3, l.1.2)),
     )
 
 -- where the pass began
-abbrev to-pass : tie.After-slice-known6 invariant-loop decreases-loop → tie.At-loop invariant-loop decreases-loop
+abbrev to-pass : tie.After-slice_known-in-loop-passes-3-1 invariant-loop-passes decreases-loop-passes → tie.At-loop-passes invariant-loop-passes decreases-loop-passes
 to-pass c = to-loop (to-refill (to-answer c))
 
-same_length : tie.Need-same-length invariant-loop decreases-loop
-same_length c = (to-refill (to-answer c.before)).refill.kept.1.0 ∙ (to-pass c.before).loop.inv.0.0
+same_length : tie.Need-shape_of-chunk-then-now invariant-loop-passes decreases-loop-passes
+same_length c = (to-refill (to-answer c.before)).refill-now.kept.1.0 ∙ c.loop-passes.invariant.0.0
 
-same-length-2 : tie.Need-same-length-2 invariant-loop decreases-loop
-same-length-2 c = (to-answer c.before).answer.kept.1.1.0 ∙ (to-pass c.before).loop.inv.0.1
+same-length-2 : tie.Need-shape_of-line-then-now invariant-loop-passes decreases-loop-passes
+same-length-2 c = c.answer-now.kept.1.1.0 ∙ c.loop-passes.invariant.0.1
 
-same-length-3 : tie.Need-same-length-3 invariant-loop decreases-loop
-same-length-3 c = (to-answer c.before).answer.kept.1.1.1.0 ∙ (to-pass c.before).loop.inv.0.2
+same-length-3 : tie.Need-shape_of-page-then-now invariant-loop-passes decreases-loop-passes
+same-length-3 c = c.answer-now.kept.1.1.1.0 ∙ c.loop-passes.invariant.0.2
 
-returns : tie.Need-returns invariant-loop decreases-loop
+returns : tie.Need-returns-then-now invariant-loop-passes decreases-loop-passes
 returns c = search rules
 
-sub-passes : tie.Need-overflow-sub-passes invariant-loop decreases-loop
-sub-passes c = omega (arith, (to-in-loop c).loop-test.true)
+sub-passes : tie.Need-overflow_sub-passes invariant-loop-passes decreases-loop-passes
+sub-passes c = omega (arith, c.loop-passes-test.true)
 
-loop-less : tie.Need-loop-smaller invariant-loop decreases-loop
-loop-less c = omega (arith, (to-in-loop c).loop-test.true)
+loop-less : tie.Need-loop-passes-smaller invariant-loop-passes decreases-loop-passes
+loop-less c = omega (arith, c.loop-passes-test.true)
 
-loop-again : tie.Need-loop-preserved invariant-loop decreases-loop
+loop-again : tie.Need-loop-passes-preserved invariant-loop-passes decreases-loop-passes
 loop-again c =
-    let l = (to-in-loop c).before.loop.invariant in
+    let l = c.loop-passes.invariant in
     let at-answer = to-answer c.before.before.before in
-    let r = (to-refill at-answer).refill in
-    let a = at-answer.answer in (
+    let r = (to-refill at-answer).refill-now in
+    let a = at-answer.answer-now in (
       (r.kept.1.0 ∙ l.0.0, a.kept.1.1.0 ∙ l.0.1, a.kept.1.1.1.0 ∙ l.0.2),
       (a.ensures.0.0, omega (arith, a.ensures.0.1, r.ensures.0.1, r.kept.1.0), omega (arith, a.ensures.0.3, a.kept.1.1.0)),
-      served-on r.result r.last.1.0 a.result.from (sym a.ensures.0.2 ∙ c.before.before.if1.false) a.kept.1.1.0
+      served-on r.result r.last.1.0 a.result.from (sym a.ensures.0.2 ∙ c.if-now.false) a.kept.1.1.0
           (served-as r.ensures.0.2 r.ensures.0.3 l.2) a.ensures.1.1,
     )
 
-same-length-4 : tie.Need-same-length-4 invariant-loop decreases-loop
+same-length-4 : tie.Need-shape_of-chunk invariant-loop-passes decreases-loop-passes
 same-length-4 c = search rules
 
-same-length-5 : tie.Need-same-length-5 invariant-loop decreases-loop
+same-length-5 : tie.Need-shape_of-line invariant-loop-passes decreases-loop-passes
 same-length-5 c = search rules
 
-same-length-6 : tie.Need-same-length-6 invariant-loop decreases-loop
+same-length-6 : tie.Need-shape_of-page invariant-loop-passes decreases-loop-passes
 same-length-6 c = search rules
 
-returns-2 : tie.Need-returns-2 invariant-loop decreases-loop
+returns-2 : tie.Need-returns invariant-loop-passes decreases-loop-passes
 returns-2 c = search rules
 
-pub serve-spec : {M : Type 1} → statement M
-serve-spec =
+pub serve_spec : {M : Type 1} → statement M
+serve_spec =
     tie.close
     (tie.spec
-    invariant-loop
-    decreases-loop
+    invariant-loop-passes
+    decreases-loop-passes
     closed-requires
     fresh-requires
     loop-holds

@@ -8,7 +8,7 @@ count-requires : tie.Need-count-requires
 count-requires c κs = search rules
 
 returns : tie.Need-returns
-returns c = took-is c.before.before.args.lab c.before.before.args.got _ c.before.before.ranges.got c.count.ensures.1
+returns c = took-is c.args.lab c.args.got _ c.ranges.got c.count.ensures.1
 
-pub took-spec : {M : Type 1} → statement M
-took-spec = tie.close (tie.spec count-requires returns)
+pub took_spec : {M : Type 1} → statement M
+took_spec = tie.close (tie.spec count-requires returns)

@@ -8,28 +8,28 @@ use Rattle.subset_types.specs.Types.{sum_of, nearer_of, choices_of}
 use Rattle.subset_types.proofs.nearer_types.Statement.{statement}
 use Rattle.subset_types.proofs.nearer_types.Tie as tie
 
-nearer-type-requires : tie.Need-nearer-type-requires
+nearer-type-requires : tie.Need-nearer_type-s0-requires
 nearer-type-requires c κs = search rules
 
-nearer-type-requires-2 : tie.Need-nearer-type-requires-2
+nearer-type-requires-2 : tie.Need-nearer_type-s1-requires
 nearer-type-requires-2 c κs = search rules
 
-nearer-type-requires-3 : tie.Need-nearer-type-requires-3
+nearer-type-requires-3 : tie.Need-nearer_type-s2-requires
 nearer-type-requires-3 c κs = search rules
 
-nearer-type-requires-4 : tie.Need-nearer-type-requires-4
+nearer-type-requires-4 : tie.Need-nearer_type-s3-requires
 nearer-type-requires-4 c κs = search rules
 
-nearer-type-requires-5 : tie.Need-nearer-type-requires-5
+nearer-type-requires-5 : tie.Need-nearer_type-s4-requires
 nearer-type-requires-5 c κs = search rules
 
-nearer-type-requires-6 : tie.Need-nearer-type-requires-6
+nearer-type-requires-6 : tie.Need-nearer_type-s5-requires
 nearer-type-requires-6 c κs = search rules
 
-nearer-type-requires-7 : tie.Need-nearer-type-requires-7
+nearer-type-requires-7 : tie.Need-nearer_type-s6-requires
 nearer-type-requires-7 c κs = search rules
 
-nearer-type-requires-8 : tie.Need-nearer-type-requires-8
+nearer-type-requires-8 : tie.Need-nearer_type-s7-requires
 nearer-type-requires-8 c κs = search rules
 
 -- the eight choices, as rows
@@ -43,20 +43,18 @@ rows n s0 s1 s2 s3 s4 s5 s6 s7 e0 e1 e2 e3 e4 e5 e6 e7 = rw (e0, e1, e2, e3, e4,
 
 returns : tie.Need-returns
 returns c =
-    let a = c.before.before.before.before in
-    let s = a.before.before.before.before in
-    rows (λ y0 i1 i2. nearer_of (sum_of s.args.d1 s.args.d2 y0 i1 i2)) _ _ _ _ _ _ _ _
-    a.before.before.before.nearer-type.ensures
-    a.before.before.nearer-type2.ensures
-    a.before.nearer-type3.ensures
-    a.nearer-type4.ensures
-    c.before.before.before.nearer-type5.ensures
-    c.before.before.nearer-type6.ensures
-    c.before.nearer-type7.ensures
-    c.nearer-type8.ensures
+    rows (λ y0 i1 i2. nearer_of (sum_of c.args.d1 c.args.d2 y0 i1 i2)) _ _ _ _ _ _ _ _
+    c.nearer_type-s0.ensures
+    c.nearer_type-s1.ensures
+    c.nearer_type-s2.ensures
+    c.nearer_type-s3.ensures
+    c.nearer_type-s4.ensures
+    c.nearer_type-s5.ensures
+    c.nearer_type-s6.ensures
+    c.nearer_type-s7.ensures
 
-pub nearer-types-spec : {M : Type 1} → statement M
-nearer-types-spec =
+pub nearer_types_spec : {M : Type 1} → statement M
+nearer_types_spec =
     tie.close
     (tie.spec
     nearer-type-requires

@@ -10,39 +10,37 @@ use Rattle.sums.proofs.Together.{high, together, together-ends}
 use Rattle.sums.proofs.all_reached.Statement.{statement}
 use Rattle.sums.proofs.all_reached.Tie as tie
 
-abbrev invariant-loop : tie.invariant-loop
-invariant-loop keys bits₀ s₀ bits s = (s ≤ 16) × (all_up_to (high - 1) keys ≡ (ltb bits high && all_up_to (high - 1) (drop s keys)))
+abbrev invariant-loop-s : tie.invariant-loop-s
+invariant-loop-s keys bits₀ s₀ bits s = (s ≤ 16) × (all_up_to (high - 1) keys ≡ (ltb bits high && all_up_to (high - 1) (drop s keys)))
 
-abbrev decreases-loop : tie.decreases-loop
-decreases-loop keys bits₀ s₀ bits s = 16 - s
+abbrev decreases-loop-s : tie.decreases-loop-s
+decreases-loop-s keys bits₀ s₀ bits s = 16 - s
 
-loop-holds : tie.Need-loop-init invariant-loop decreases-loop
+loop-holds : tie.Need-loop-s-init invariant-loop-s decreases-loop-s
 loop-holds c = (omega arith, refl)
 
-mul-bits : tie.Need-overflow-mul-bits invariant-loop decreases-loop
+mul-bits : tie.Need-offset_bounds-keys-s invariant-loop-s decreases-loop-s
 mul-bits c = omega arith
 
-element-copy-out-bits : tie.Need-element-copy-out-bits invariant-loop decreases-loop
+element-copy-out-bits : tie.Need-bounds-keys-s invariant-loop-s decreases-loop-s
 element-copy-out-bits c = omega arith
 
-add-s : tie.Need-overflow-add-s invariant-loop decreases-loop
+add-s : tie.Need-overflow_add-s invariant-loop-s decreases-loop-s
 add-s c = omega arith
 
-loop-less : tie.Need-loop-smaller invariant-loop decreases-loop
+loop-less : tie.Need-loop-s-smaller invariant-loop-s decreases-loop-s
 loop-less c = omega arith
 
-loop-again : tie.Need-loop-preserved invariant-loop decreases-loop
+loop-again : tie.Need-loop-s-preserved invariant-loop-s decreases-loop-s
 loop-again c =
-    let at = c.before.before in
-    (omega arith, at.loop.invariant.1 ∙ together at.before.before.args.keys.now at.loop.s at.loop.bits (omega arith))
+    (omega arith, c.loop-s.invariant.1 ∙ together c.args.keys.now c.loop-s.s c.loop-s.bits (omega arith))
 
-mul-result : tie.Need-overflow-mul-result invariant-loop decreases-loop
+mul-result : tie.Need-overflow_mul-result invariant-loop-s decreases-loop-s
 mul-result c = omega arith
 
-returns : tie.Need-returns invariant-loop decreases-loop
+returns : tie.Need-returns invariant-loop-s decreases-loop-s
 returns c =
-    let at = c.before in
-    sym (at.loop.invariant.1 ∙ together-ends at.before.before.args.keys.now at.loop.s at.loop.bits (omega arith))
+    sym (c.loop-s.invariant.1 ∙ together-ends c.args.keys.now c.loop-s.s c.loop-s.bits (omega arith))
 
-pub all-reached-spec : {M : Type 1} → statement M
-all-reached-spec = tie.close (tie.spec invariant-loop decreases-loop loop-holds mul-bits element-copy-out-bits add-s loop-less loop-again mul-result returns)
+pub all_reached_spec : {M : Type 1} → statement M
+all_reached_spec = tie.close (tie.spec invariant-loop-s decreases-loop-s loop-holds mul-bits element-copy-out-bits add-s loop-less loop-again mul-result returns)

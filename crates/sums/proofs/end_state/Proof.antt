@@ -10,56 +10,54 @@ use Rattle.sums.proofs.Least.{least-less, least_kept}
 use Rattle.sums.proofs.end_state.Statement.{statement}
 use Rattle.sums.proofs.end_state.Tie as tie
 
-abbrev invariant-loop : tie.invariant-loop
-invariant-loop sums best₀ s₀ best s = (1 ≤ s) × (s ≤ 16) × (best < s) × (best ≡ least (λ i. get_or sums i 0) (s - 1))
+abbrev invariant-loop-s : tie.invariant-loop-s
+invariant-loop-s sums best₀ s₀ best s = (1 ≤ s) × (s ≤ 16) × (best < s) × (best ≡ least (λ i. get_or sums i 0) (s - 1))
 
-abbrev decreases-loop : tie.decreases-loop
-decreases-loop sums best₀ s₀ best s = 16 - s
+abbrev decreases-loop-s : tie.decreases-loop-s
+decreases-loop-s sums best₀ s₀ best s = 16 - s
 
-loop-holds : tie.Need-loop-init invariant-loop decreases-loop
+loop-holds : tie.Need-loop-s-init invariant-loop-s decreases-loop-s
 unfolding least
 loop-holds c = (omega arith, omega arith, omega arith, refl)
 
-mul-if1 : tie.Need-overflow-mul-if1 invariant-loop decreases-loop
+mul-if1 : tie.Need-offset_bounds-sums-s invariant-loop-s decreases-loop-s
 mul-if1 c = omega arith
 
-element-copy-out-if1 : tie.Need-element-copy-out-if1 invariant-loop decreases-loop
+element-copy-out-if1 : tie.Need-bounds-sums-s invariant-loop-s decreases-loop-s
 element-copy-out-if1 c = omega arith
 
-mul-if1-2 : tie.Need-overflow-mul-if1-2 invariant-loop decreases-loop
+mul-if1-2 : tie.Need-offset_bounds-sums-best invariant-loop-s decreases-loop-s
 mul-if1-2 c = omega arith
 
-element-copy-out-if1-2 : tie.Need-element-copy-out-if1-2 invariant-loop decreases-loop
+element-copy-out-if1-2 : tie.Need-bounds-sums-best invariant-loop-s decreases-loop-s
 element-copy-out-if1-2 c = omega arith
 
-add-s : tie.Need-overflow-add-s invariant-loop decreases-loop
+add-s : tie.Need-overflow_add-s invariant-loop-s decreases-loop-s
 add-s c = omega arith
 
-loop-less : tie.Need-loop-smaller invariant-loop decreases-loop
+loop-less : tie.Need-loop-s-smaller invariant-loop-s decreases-loop-s
 loop-less c = omega arith
 
-loop-again : tie.Need-loop-preserved invariant-loop decreases-loop
+loop-again : tie.Need-loop-s-preserved invariant-loop-s decreases-loop-s
 loop-again c =
-    let at = c.before.before.before.before in
-    let f : ℕ → ℕ = λ i. get_or at.before.args.sums.now i 0 in
+    let f : ℕ → ℕ = λ i. get_or c.args.sums.now i 0 in
     ⊎_elim
-    (λ w. (omega arith, omega arith, omega (arith, w.1), w.1 ∙ least-less f at.loop.s at.loop.best at.loop.invariant.0 at.loop.invariant.3 w.0.taken))
-    (λ w. (omega arith, omega arith, omega (arith, w.1), w.1 ∙ least_kept f at.loop.s at.loop.best at.loop.invariant.0 at.loop.invariant.3 w.0.left))
-    c.if1.branch
+    (λ w. (omega arith, omega arith, omega (arith, w.best-is), w.best-is ∙ least-less f c.loop-s.s c.loop-s.best c.loop-s.invariant.0 c.loop-s.invariant.3 w.if-sums-s.true))
+    (λ w. (omega arith, omega arith, omega (arith, w.best-is), w.best-is ∙ least_kept f c.loop-s.s c.loop-s.best c.loop-s.invariant.0 c.loop-s.invariant.3 w.if-sums-s.false))
+    c.if-sums-s.branch-raw
 
-returns : tie.Need-returns invariant-loop decreases-loop
+returns : tie.Need-returns invariant-loop-s decreases-loop-s
 unfolding end_of
 returns c =
-    let at = c.before in
-    let end : at.loop.s - 1 ≡ 15 = omega arith in
-    (at.loop.invariant.3 ∙ ap (least (λ i. get_or at.before.args.sums.now i 0)) end, omega arith)
+    let end : c.loop-s.s - 1 ≡ 15 = omega arith in
+    (c.loop-s.invariant.3 ∙ ap (least (λ i. get_or c.args.sums.now i 0)) end, omega arith)
 
-pub end-state-spec : {M : Type 1} → statement M
-end-state-spec =
+pub end_state_spec : {M : Type 1} → statement M
+end_state_spec =
     tie.close
     (tie.spec
-    invariant-loop
-    decreases-loop
+    invariant-loop-s
+    decreases-loop-s
     loop-holds
     mul-if1
     element-copy-out-if1

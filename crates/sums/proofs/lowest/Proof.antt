@@ -10,61 +10,59 @@ use Rattle.sums.proofs.Least.{least-less, least_kept}
 use Rattle.sums.proofs.lowest.Statement.{statement}
 use Rattle.sums.proofs.lowest.Tie as tie
 
-abbrev invariant-loop : tie.invariant-loop
-invariant-loop numbers low₀ s₀ low s = (1 ≤ s) × (s ≤ 16) × (low ≡ get_or numbers (least (λ i. get_or numbers i 0) (s - 1)) 0)
+abbrev invariant-loop-s : tie.invariant-loop-s
+invariant-loop-s numbers low₀ s₀ low s = (1 ≤ s) × (s ≤ 16) × (low ≡ get_or numbers (least (λ i. get_or numbers i 0) (s - 1)) 0)
 
-abbrev decreases-loop : tie.decreases-loop
-decreases-loop numbers low₀ s₀ low s = 16 - s
+abbrev decreases-loop-s : tie.decreases-loop-s
+decreases-loop-s numbers low₀ s₀ low s = 16 - s
 
-element-copy-out-low : tie.Need-element-copy-out-low invariant-loop decreases-loop
+element-copy-out-low : tie.Need-bounds-numbers-0 invariant-loop-s decreases-loop-s
 element-copy-out-low c = omega arith
 
-loop-holds : tie.Need-loop-init invariant-loop decreases-loop
+loop-holds : tie.Need-loop-s-init invariant-loop-s decreases-loop-s
 unfolding least
 loop-holds c = (omega arith, omega arith, refl)
 
-mul-if1 : tie.Need-overflow-mul-if1 invariant-loop decreases-loop
+mul-if1 : tie.Need-offset_bounds-numbers-s invariant-loop-s decreases-loop-s
 mul-if1 c = omega arith
 
-element-copy-out-if1 : tie.Need-element-copy-out-if1 invariant-loop decreases-loop
+element-copy-out-if1 : tie.Need-bounds-numbers-s invariant-loop-s decreases-loop-s
 element-copy-out-if1 c = omega arith
 
-mul_low : tie.Need-overflow-mul-low invariant-loop decreases-loop
+mul_low : tie.Need-offset_bounds-numbers-s-then-numbers-s invariant-loop-s decreases-loop-s
 mul_low c = omega arith
 
-element-copy-out-low-2 : tie.Need-element-copy-out-low-2 invariant-loop decreases-loop
+element-copy-out-low-2 : tie.Need-bounds-numbers-s-then-numbers-s invariant-loop-s decreases-loop-s
 element-copy-out-low-2 c = omega arith
 
-add-s : tie.Need-overflow-add-s invariant-loop decreases-loop
+add-s : tie.Need-overflow_add-s invariant-loop-s decreases-loop-s
 add-s c = omega arith
 
-loop-less : tie.Need-loop-smaller invariant-loop decreases-loop
+loop-less : tie.Need-loop-s-smaller invariant-loop-s decreases-loop-s
 loop-less c = omega arith
 
-loop-again : tie.Need-loop-preserved invariant-loop decreases-loop
+loop-again : tie.Need-loop-s-preserved invariant-loop-s decreases-loop-s
 loop-again c =
-    let at = c.before.before.before in
-    let f : ℕ → ℕ = λ i. get_or at.before.before.args.numbers.now i 0 in
-    let b : ℕ = least f (at.loop.s - 1) in
+    let f : ℕ → ℕ = λ i. get_or c.args.numbers.now i 0 in
+    let b : ℕ = least f (c.loop-s.s - 1) in
     ⊎_elim
-    (λ w. (omega arith, omega arith, w.2 ∙ ap f (least-less f at.loop.s b at.loop.invariant.0 refl (omega (arith, w.0.taken, at.loop.invariant.2)))))
-    (λ w. (omega arith, omega arith, w.1 ∙ at.loop.invariant.2 ∙ ap f (least_kept f at.loop.s b at.loop.invariant.0 refl (omega (arith, w.0.left, at.loop.invariant.2)))))
-    c.if1.branch
+    (λ w. (omega arith, omega arith, w.low-is ∙ ap f (least-less f c.loop-s.s b c.loop-s.invariant.0 refl (omega (arith, w.if-numbers-s.true, c.loop-s.invariant.2)))))
+    (λ w. (omega arith, omega arith, w.low-is ∙ c.loop-s.invariant.2 ∙ ap f (least_kept f c.loop-s.s b c.loop-s.invariant.0 refl (omega (arith, w.if-numbers-s.false, c.loop-s.invariant.2)))))
+    c.if-numbers-s.branch-raw
 
-returns : tie.Need-returns invariant-loop decreases-loop
+returns : tie.Need-returns invariant-loop-s decreases-loop-s
 unfolding lowest end_of
 returns c =
-    let at = c.before in
-    let end : at.loop.s - 1 ≡ 15 = omega arith in
-    let l = at.before.before.args.numbers.now in
-    at.loop.invariant.2 ∙ ap (λ (n : ℕ). get_or l (least (λ i. get_or l i 0) n) 0) end
+    let end : c.loop-s.s - 1 ≡ 15 = omega arith in
+    let l = c.args.numbers.now in
+    c.loop-s.invariant.2 ∙ ap (λ (n : ℕ). get_or l (least (λ i. get_or l i 0) n) 0) end
 
-pub lowest-spec : {M : Type 1} → statement M
-lowest-spec =
+pub lowest_spec : {M : Type 1} → statement M
+lowest_spec =
     tie.close
     (tie.spec
-    invariant-loop
-    decreases-loop
+    invariant-loop-s
+    decreases-loop-s
     element-copy-out-low
     loop-holds
     mul-if1

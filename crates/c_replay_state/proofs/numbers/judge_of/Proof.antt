@@ -12,48 +12,48 @@ use Rattle.c_replay_state.proofs.numbers.judge_of.Tie as tie
 known : (s : tie.Start) (i : ℕ) → i < 18 → get_or s.args.t1 i 0 ≤ get_or limits i 0
 known s i h = within-at limits s.args.t1 s.requires i h
 
-array-read-g : tie.Need-array-read-g
+array-read-g : tie.Need-bounds-numbers-16
 array-read-g c = search rules
 
-cast-g : tie.Need-overflow-cast-g
-cast-g c = let h : get_or c.args.t1 16 0 ≤ 4294967295 = known c 16 (omega arith) in omega (arith, h)
+cast-g : tie.Need-overflow_cast-g
+cast-g c = let h : get_or c.args.t1 16 0 ≤ 4294967295 = known c.before 16 (omega arith) in omega (arith, h)
 
-array-read-h : tie.Need-array-read-h
+array-read-h : tie.Need-bounds-numbers-17
 array-read-h c = search rules
 
-cast-h : tie.Need-overflow-cast-h
-cast-h c = let h : get_or c.args.t1 17 0 ≤ 4294967295 = known c 17 (omega arith) in omega (arith, h)
+cast-h : tie.Need-overflow_cast-h
+cast-h c = let h : get_or c.args.t1 17 0 ≤ 4294967295 = known c.before 17 (omega arith) in omega (arith, h)
 
-array-read-t7 : tie.Need-array-read-t7
+array-read-t7 : tie.Need-bounds-numbers-12
 array-read-t7 c = search rules
 
-core-of-requires : tie.Need-core-of-requires
+core-of-requires : tie.Need-core_of-requires
 core-of-requires c κs = search rules
 
-array-read-t17 : tie.Need-array-read-t17
+array-read-t17 : tie.Need-bounds-numbers-24
 array-read-t17 c = search rules
 
-array-read-t21 : tie.Need-array-read-t21
+array-read-t21 : tie.Need-bounds-numbers-25
 array-read-t21 c = search rules
 
-array-read-t25 : tie.Need-array-read-t25
+array-read-t25 : tie.Need-bounds-numbers-26
 array-read-t25 c = search rules
 
-array-read-verdict-of : tie.Need-array-read-verdict-of
+array-read-verdict-of : tie.Need-bounds-numbers-15
 array-read-verdict-of c = search rules
 
-array-read-verdict-of-2 : tie.Need-array-read-verdict-of-2
+array-read-verdict-of-2 : tie.Need-bounds-numbers-27
 array-read-verdict-of-2 c = search rules
 
-verdict-of-requires : tie.Need-verdict-of-requires
+verdict-of-requires : tie.Need-verdict_of-requires
 verdict-of-requires c κs = search rules
 
 returns : tie.Need-returns
 unfolding judge_in
-returns c = rw (c.verdict-of.ensures, c.before.core-of.ensures)
+returns c = rw (c.verdict_of.ensures, c.core_of.ensures)
 
-pub judge-of-spec : {M : Type 1} → statement M
-judge-of-spec =
+pub judge_of_spec : {M : Type 1} → statement M
+judge_of_spec =
     tie.close
     (tie.spec
     array-read-g

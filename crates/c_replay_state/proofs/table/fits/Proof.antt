@@ -10,56 +10,54 @@ use Rattle.c_replay_state.proofs.Limits.{step_fits, step-over, all-tried}
 use Rattle.c_replay_state.proofs.table.fits.Statement.{statement}
 use Rattle.c_replay_state.proofs.table.fits.Tie as tie
 
-abbrev invariant-loop : tie.invariant-loop
-invariant-loop words limits ok₀ i₀ ok i = (i ≤ length limits) × (within limits words ≡ (ok && within (drop i limits) (drop i words)))
+abbrev invariant-loop-i : tie.invariant-loop-i
+invariant-loop-i words limits ok₀ i₀ ok i = (i ≤ length limits) × (within limits words ≡ (ok && within (drop i limits) (drop i words)))
 
-abbrev decreases-loop : tie.decreases-loop
-decreases-loop words limits ok₀ i₀ ok i = length limits - i
+abbrev decreases-loop-i : tie.decreases-loop-i
+decreases-loop-i words limits ok₀ i₀ ok i = length limits - i
 
-loop-holds : tie.Need-loop-init invariant-loop decreases-loop
+loop-holds : tie.Need-loop-i-init invariant-loop-i decreases-loop-i
 loop-holds c = (omega arith, refl)
 
-mul-if1 : tie.Need-overflow-mul-if1 invariant-loop decreases-loop
+mul-if1 : tie.Need-offset_bounds-words-i invariant-loop-i decreases-loop-i
 mul-if1 c = omega arith
 
-shared-slice-read-if1 : tie.Need-shared-slice-read-if1 invariant-loop decreases-loop
+shared-slice-read-if1 : tie.Need-bounds-words-i invariant-loop-i decreases-loop-i
 shared-slice-read-if1 c = omega arith
 
-mul-if1-2 : tie.Need-overflow-mul-if1-2 invariant-loop decreases-loop
+mul-if1-2 : tie.Need-offset_bounds-limits-i invariant-loop-i decreases-loop-i
 mul-if1-2 c = omega arith
 
-shared-slice-read-if1-2 : tie.Need-shared-slice-read-if1-2 invariant-loop decreases-loop
+shared-slice-read-if1-2 : tie.Need-bounds-limits-i invariant-loop-i decreases-loop-i
 shared-slice-read-if1-2 c = omega arith
 
-add-i : tie.Need-overflow-add-i invariant-loop decreases-loop
+add-i : tie.Need-overflow_add-i invariant-loop-i decreases-loop-i
 add-i c = omega arith
 
-loop-less : tie.Need-loop-smaller invariant-loop decreases-loop
+loop-less : tie.Need-loop-i-smaller invariant-loop-i decreases-loop-i
 loop-less c = omega arith
 
-loop-again : tie.Need-loop-preserved invariant-loop decreases-loop
+loop-again : tie.Need-loop-i-preserved invariant-loop-i decreases-loop-i
 loop-again c =
-    let p = c.before.before.before.before in
-    let ws = p.before.args.words.now in
-    let ls = p.before.args.limits.now in
-    let i = p.loop.i in
+    let ws = c.args.words.now in
+    let ls = c.args.limits.now in
+    let i = c.loop-i.i in
     let rest = within (drop (i + 1) ls) (drop (i + 1) ws) in (
       omega arith,
-      p.loop.invariant.1 ∙ ⊎_elim (λ w. step-over ls ws i p.loop.ok (omega arith) (omega arith) w.0.taken ∙ ap (λ (b : Bool). b && rest) (sym w.1))
-          (λ w. step_fits ls ws i p.loop.ok (omega arith) (omega arith) w.0.left ∙ ap (λ (b : Bool). b && rest) (sym w.1)) c.if1.branch,
+      c.loop-i.invariant.1 ∙ ⊎_elim (λ w. step-over ls ws i c.loop-i.ok (omega arith) (omega arith) w.0.taken ∙ ap (λ (b : Bool). b && rest) (sym w.1))
+          (λ w. step_fits ls ws i c.loop-i.ok (omega arith) (omega arith) w.0.left ∙ ap (λ (b : Bool). b && rest) (sym w.1)) c.if-words-i.branch,
     )
 
-returns : tie.Need-returns invariant-loop decreases-loop
+returns : tie.Need-returns invariant-loop-i decreases-loop-i
 returns c =
-    let p = c.before in
-    sym (p.loop.invariant.1 ∙ all-tried p.before.args.limits.now p.before.args.words.now p.loop.i p.loop.ok (omega arith))
+    sym (c.loop-i.invariant.1 ∙ all-tried c.args.limits.now c.args.words.now c.loop-i.i c.loop-i.ok (omega arith))
 
-pub fits-spec : {M : Type 1} → statement M
-fits-spec =
+pub fits_spec : {M : Type 1} → statement M
+fits_spec =
     tie.close
     (tie.spec
-    invariant-loop
-    decreases-loop
+    invariant-loop-i
+    decreases-loop-i
     loop-holds
     mul-if1
     shared-slice-read-if1

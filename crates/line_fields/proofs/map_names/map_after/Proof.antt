@@ -6,47 +6,41 @@ use borrow.Author.Rules.{rules}
 use Rattle.line_fields.proofs.map_names.map_after.Statement.{statement}
 use Rattle.line_fields.proofs.map_names.map_after.Tie as tie
 
-returns : tie.Need-returns
-returns c = rw (no_more c.before.before.requires c.if1.true)
+returns : tie.Need-returns-then-n-rest
+returns c = rw (no_more c.requires c.if-n-rest.true)
 
-add_same : tie.Need-overflow-add-same
+add_same : tie.Need-overflow_add-n
 add_same c = search rules
 
-sub_same : tie.Need-overflow-sub-same
+sub_same : tie.Need-slice_bounds-same-count
 sub_same c = search rules
-
-part-same-start : tie.Need-slice-bounds-same-start
-part-same-start c = search rules
-
-part-same-end : tie.Need-slice-bounds-same-end
-part-same-end c = search rules
-
-slice-aggregate-same : tie.Need-slice-aggregate-same
-slice-aggregate-same c = search rules
 
 same-requires : tie.Need-same-requires
 same-requires c κs = search rules
 
-returns-2 : tie.Need-returns-2
+returns-2 : tie.Need-returns-then-same
 returns-2 c =
-    let e = c.before.before.before.before in
-    after-named e.before.before.requires e.if1.false (sym c.if2.true ∙ c.before.same.ensures)
+    after-named c.requires c.if-n-rest.false (sym c.if-same.true ∙ c.same.ensures)
 
-returns-3 : tie.Need-returns-3
+returns-3 : tie.Need-returns
 returns-3 c =
-    let e = c.before.before.before.before in
-    after-named e.before.before.requires e.if1.false (sym c.if2.false ∙ c.before.same.ensures)
+    after-named c.requires c.if-n-rest.false (sym c.if-same.false ∙ c.same.ensures)
 
-pub map-after-spec : {M : Type 1} → statement M
-map-after-spec =
+slice_bounds-same-start : tie.Need-slice_bounds-same-start
+slice_bounds-same-start c = search rules
+
+slice_bounds-same-end : tie.Need-slice_bounds-same-end
+slice_bounds-same-end c = search rules
+
+pub map_after_spec : {M : Type 1} → statement M
+map_after_spec =
     tie.close
     (tie.spec
     returns
     add_same
     sub_same
-    part-same-start
-    part-same-end
-    slice-aggregate-same
+    slice_bounds-same-start
+    slice_bounds-same-end
     same-requires
     returns-2
     returns-3)

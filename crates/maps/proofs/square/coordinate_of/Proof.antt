@@ -24,28 +24,28 @@ sign m k = k / 2 ^ m * 2 ^ (m + 2) % 2 ^ 32
 abbrev code : ℕ → ℕ → ℤ
 code m k = to_z w32 (lower m k) -ℤ to_z w32 (sign m k)
 
-shr-sign : tie.Need-overflow-shr-sign
+shr-sign : tie.Need-overflow_shr-sign
 shr-sign c = search rules
 
-add-sign : tie.Need-overflow-add-sign
+add-sign : tie.Need-overflow_add-sign
 add-sign c = search rules
 
-shl-sign : tie.Need-overflow-shl-sign
+shl-sign : tie.Need-overflow_shl-sign
 shl-sign c = search rules
 
-cast-result : tie.Need-overflow-cast-result
+cast-result : tie.Need-overflow_cast-result
 cast-result c = record { sfits = less side lower (λ m k. 2 ^ 31) tt c.args.m c.args.k c.requires.0 c.requires.1 }
 
-cast-result-2 : tie.Need-overflow-cast-result-2
+cast-result-2 : tie.Need-overflow_cast-result-2
 cast-result-2 c = record { sfits = less side sign (λ m k. 2 ^ 31) tt c.args.m c.args.k c.requires.0 c.requires.1 }
 
-sub-result : tie.Need-overflow-sub-result
+sub-result : tie.Need-overflow_sub-result
 sub-result c = record { sfits = less side (λ m k. mag (code m k)) (λ m k. 2 ^ 31) tt c.args.m c.args.k c.requires.0 c.requires.1 }
 
 returns : tie.Need-returns
 unfolding same_z coordinate
 returns c = equal_z side (λ m k. to_z w32 (of_z w32 (code m k))) coordinate tt c.args.m c.args.k c.requires.0 c.requires.1
 
-pub coordinate-of-spec : {M : Type 1} → statement M
-coordinate-of-spec =
+pub coordinate_of_spec : {M : Type 1} → statement M
+coordinate_of_spec =
     tie.close (tie.spec shr-sign add-sign shl-sign cast-result cast-result-2 sub-result returns)

@@ -43,20 +43,20 @@ unfolding field_of
 code_is m (pos n) g h = equal side (λ m n. code m (pos n)) (λ m n. field_of m (pos n)) tt m n g h
 code_is m (negsuc n) g h = equal side (λ m n. code m (negsuc n)) (λ m n. field_of m (negsuc n)) tt m n g (omega arith)
 
-add-result : tie.Need-overflow-add-result
+add-result : tie.Need-overflow_add-result
 add-result c = moved-fits c.args.m c.args.z c.requires.0 c.requires.1
 
-cast-result : tie.Need-overflow-cast-result
+cast-result : tie.Need-overflow_cast-result
 cast-result c = moved_up c.args.m c.args.z c.requires.0 c.requires.1
 
-shl-result : tie.Need-overflow-shl-result
+shl-result : tie.Need-overflow_shl-result
 shl-result c = search rules
 
-sub-result : tie.Need-overflow-sub-result
+sub-result : tie.Need-overflow_sub-result
 sub-result c = less (λ m. 1) (λ m n. 0) (λ m n. 2 * 2 ^ m % 2 ^ 32) tt c.args.m 0 c.requires.0 (omega arith)
 
 returns : tie.Need-returns
 returns c = code_is c.args.m c.args.z c.requires.0 c.requires.1
 
-pub field-spec : {M : Type 1} → statement M
-field-spec = tie.close (tie.spec add-result cast-result shl-result sub-result returns)
+pub field_spec : {M : Type 1} → statement M
+field_spec = tie.close (tie.spec add-result cast-result shl-result sub-result returns)

@@ -20,5 +20,5 @@ returns : tie.Need-returns
 unfolding pairs fours code gathered
 returns c = equal1 1024 code gathered tt c.args.v c.requires
 
-pub gather-spec : {M : Type 1} → statement M
-gather-spec = tie.close (tie.spec returns)
+pub gather_spec : {M : Type 1} → statement M
+gather_spec = tie.close (tie.spec returns)

@@ -66,26 +66,24 @@ module _ (u : ℕ) (p : Point) (h : (is_width u ≡ true) × OnGrid u p) where
       ∙ ap₂ woven (x-is i a) (y-is j b)
 
 field-requires : tie.Need-field-requires
-field-requires c κs = let s = c.before in x-asked s.args.u s.args.p s.requires
+field-requires c κs = x-asked c.args.u c.args.p c.requires
 
-spread-out-requires : tie.Need-spread-out-requires
-spread-out-requires c κs = let s = c.before.before in x-low s.args.u s.args.p s.requires c.field.result c.field.ensures
+spread-out-requires : tie.Need-spread_out-x-requires
+spread-out-requires c κs = x-low c.args.u c.args.p c.requires c.field.result c.field.ensures
 
 field-requires-2 : tie.Need-field-requires-2
-field-requires-2 c κs = let s = c.before.before.before.before in y-asked s.args.u s.args.p s.requires
+field-requires-2 c κs = y-asked c.args.u c.args.p c.requires
 
-spread-out-requires-2 : tie.Need-spread-out-requires-2
-spread-out-requires-2 c κs = let s = c.before.before.before.before.before in y-low s.args.u s.args.p s.requires c.field2.result c.field2.ensures
+spread-out-requires-2 : tie.Need-spread_out-y-requires
+spread-out-requires-2 c κs = y-low c.args.u c.args.p c.requires c.field-2.result c.field-2.ensures
 
 returns : tie.Need-returns
 returns c =
-    let x = c.before.before.before in
-    let s = x.before.before.before in
-    answered s.args.u s.args.p s.requires _
-    (made s.args.u s.args.p s.requires x.before.field.result c.before.field2.result x.spread-out.result c.spread-out2.result
-    x.before.field.ensures c.before.field2.ensures x.spread-out.ensures c.spread-out2.ensures)
+    answered c.args.u c.args.p c.requires _
+    (made c.args.u c.args.p c.requires c.field.result c.field-2.result c.spread_out-x.result c.spread_out-y.result
+    c.field.ensures c.field-2.ensures c.spread_out-x.ensures c.spread_out-y.ensures)
 
-pub place-of-spec : {M : Type 1} → statement M
-place-of-spec =
+pub place_of_spec : {M : Type 1} → statement M
+place_of_spec =
     tie.close
     (tie.spec field-requires spread-out-requires field-requires-2 spread-out-requires-2 returns)

@@ -52,31 +52,26 @@ module _ (u l w : ℕ) (p : (is_width u ≡ true) × (l < 4) × (w < 2 ^ u)) whe
         (reads w32 x (omega (arith, ap nat_abs f, s.0)) ∙ f)
         (reads w32 y (omega (arith, ap nat_abs h, s.1)) ∙ h)
 
-gather-requires : tie.Need-gather-requires
+gather-requires : tie.Need-gather-x-requires
 gather-requires c κs = omega (arith, code_below c.args.u c.args.l c.args.w c.requires)
 
-gather-requires-2 : tie.Need-gather-requires-2
-gather-requires-2 c κs = let s = c.before in code_below s.args.u s.args.l s.args.w s.requires
+gather-requires-2 : tie.Need-gather-y-requires
+gather-requires-2 c κs = code_below c.args.u c.args.l c.args.w c.requires
 
-coordinate-of-requires : tie.Need-coordinate-of-requires
+coordinate-of-requires : tie.Need-coordinate_of-requires
 coordinate-of-requires c κs =
-    let s = c.before.before in
-    (half-below s.args.u s.requires.0, omega (arith, both_below s.args.u s.args.l s.args.w s.requires _ _ c.before.gather.ensures c.gather2.ensures))
+    (half-below c.args.u c.requires.0, omega (arith, both_below c.args.u c.args.l c.args.w c.requires _ _ c.gather-x.ensures c.gather-y.ensures))
 
-coordinate-of-requires-2 : tie.Need-coordinate-of-requires-2
+coordinate-of-requires-2 : tie.Need-coordinate_of-requires-2
 coordinate-of-requires-2 c κs =
-    let g = c.before in
-    let s = g.before.before in
-    (half-below s.args.u s.requires.0, omega (arith, both_below s.args.u s.args.l s.args.w s.requires _ _ g.before.gather.ensures g.gather2.ensures))
+    (half-below c.args.u c.requires.0, omega (arith, both_below c.args.u c.args.l c.args.w c.requires _ _ c.gather-x.ensures c.gather-y.ensures))
 
 returns : tie.Need-returns
 returns c =
-    let g = c.before.before in
-    let s = g.before.before in
-    made s.args.u s.args.l s.args.w s.requires _ _ g.before.gather.ensures g.gather2.ensures _ _ c.before.coordinate-of.ensures c.coordinate-of2.ensures
+    made c.args.u c.args.l c.args.w c.requires _ _ c.gather-x.ensures c.gather-y.ensures _ _ c.coordinate_of.ensures c.coordinate_of-2.ensures
 
-pub point-of-spec : {M : Type 1} → statement M
-point-of-spec =
+pub point_of_spec : {M : Type 1} → statement M
+point_of_spec =
     tie.close
     (tie.spec
     gather-requires

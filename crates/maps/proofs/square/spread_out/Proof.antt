@@ -20,5 +20,5 @@ returns : tie.Need-returns
 unfolding fours pairs code spread
 returns c = equal1 32 code spread tt c.args.k c.requires
 
-pub spread-out-spec : {M : Type 1} → statement M
-spread-out-spec = tie.close (tie.spec returns)
+pub spread_out_spec : {M : Type 1} → statement M
+spread_out_spec = tie.close (tie.spec returns)

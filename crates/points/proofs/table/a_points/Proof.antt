@@ -8,5 +8,5 @@ returns : tie.Need-returns
 unfolding coordinates
 returns c = refl
 
-pub a-points-spec : {M : Type 1} → statement M
-a-points-spec = tie.close (tie.spec returns)
+pub a_points_spec : {M : Type 1} → statement M
+a_points_spec = tie.close (tie.spec returns)

@@ -4,17 +4,17 @@ use borrow.Author.Rules.{rules}
 use Rattle.protocol.proofs.pending.tried.Statement.{statement}
 use Rattle.protocol.proofs.pending.tried.Tie as tie
 
-slice-aggregate-same : tie.Need-slice-aggregate-same
-slice-aggregate-same c = search rules
-
 same-requires : tie.Need-same-requires
 same-requires c κs = search rules
 
-returns : tie.Need-returns
-returns c = rw (sym c.before.same.ensures ∙ c.if1.true)
+returns : tie.Need-returns-then-same
+returns c = rw (sym c.same.ensures ∙ c.if-same.true)
 
-returns-2 : tie.Need-returns-2
-returns-2 c = rw (sym c.before.same.ensures ∙ c.if1.false)
+returns-2 : tie.Need-returns
+returns-2 c = rw (sym c.same.ensures ∙ c.if-same.false)
 
-pub tried-spec : {M : Type 1} → statement M
-tried-spec = tie.close (tie.spec slice-aggregate-same same-requires returns returns-2)
+pub tried_spec : {M : Type 1} → statement M
+tried_spec = tie.close (tie.spec
+    same-requires
+    returns
+    returns-2)

@@ -4,38 +4,34 @@ use borrow.Author.Rules.{rules}
 use Rattle.protocol.proofs.piece.tried.Statement.{statement}
 use Rattle.protocol.proofs.piece.tried.Tie as tie
 
-slice-aggregate-same : tie.Need-slice-aggregate-same
-slice-aggregate-same c = search rules
-
 same-requires : tie.Need-same-requires
 same-requires c κs = search rules
 
 read-requires : tie.Need-read-requires
 read-requires c κs = search rules
 
-same_length : tie.Need-same-length
+same_length : tie.Need-shape_of-coordinates-then-same
 same_length c = search rules
 
-returns : tie.Need-returns
+returns : tie.Need-returns-then-same
 returns c = (
-  rw (sym c.before.before.before.before.same.ensures ∙ c.before.before.before.if1.true) c.before.read.ensures.0,
-  rw (sym c.before.before.before.before.same.ensures ∙ c.before.before.before.if1.true) c.before.read.ensures.1,
+  rw (sym c.same.ensures ∙ c.if-same.true) c.read.ensures.0,
+  rw (sym c.same.ensures ∙ c.if-same.true) c.read.ensures.1,
 )
 
 tried-requires : tie.Need-tried-requires
 tried-requires c κs = search rules
 
-returns-2 : tie.Need-returns-2
+returns-2 : tie.Need-returns
 returns-2 c = (
-  rw (sym c.before.before.same.ensures ∙ c.before.if1.false) c.tried.ensures,
-  rw (sym c.before.before.same.ensures ∙ c.before.if1.false),
+  rw (sym c.same.ensures ∙ c.if-same.false) c.tried.ensures,
+  rw (sym c.same.ensures ∙ c.if-same.false),
 )
 
-pub tried-spec : {M : Type 1} → statement M
-tried-spec =
+pub tried_spec : {M : Type 1} → statement M
+tried_spec =
     tie.close
     (tie.spec
-    slice-aggregate-same
     same-requires
     read-requires
     same_length

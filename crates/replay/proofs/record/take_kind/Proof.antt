@@ -4,88 +4,82 @@ use borrow.Author.Rules.{rules}
 use Rattle.replay.proofs.record.take_kind.Statement.{statement}
 use Rattle.replay.proofs.record.take_kind.Tie as tie
 
-kind-of-requires : tie.Need-kind-of-requires
+kind-of-requires : tie.Need-kind_of-kind-requires
 kind-of-requires c κs = search rules
 
-enum_told : tie.Need-enum-told
+enum_told : tie.Need-enum_told-1
 enum_told c = search rules
 
-take-open-requires : tie.Need-take-open-requires
+take-open-requires : tie.Need-take_open-requires
 take-open-requires c κs = search rules
 
-enum-told-2 : tie.Need-enum-told-2
+enum-told-2 : tie.Need-enum_told-in-Symbol
 enum-told-2 c = search rules
 
-take-undue-requires : tie.Need-take-undue-requires
+take-undue-requires : tie.Need-take_undue-requires
 take-undue-requires c κs = search rules
 
-enum-told-3 : tie.Need-enum-told-3
+enum-told-3 : tie.Need-enum_told-in-Word
 enum-told-3 c = search rules
 
-array-read-number : tie.Need-array-read-number
+array-read-number : tie.Need-bounds-body-0
 array-read-number c = search rules
 
-array-read-number-2 : tie.Need-array-read-number-2
+array-read-number-2 : tie.Need-bounds-body-1
 array-read-number-2 c = search rules
 
-array-read-number-3 : tie.Need-array-read-number-3
+array-read-number-3 : tie.Need-bounds-body-2
 array-read-number-3 c = search rules
 
-array-read-number-4 : tie.Need-array-read-number-4
+array-read-number-4 : tie.Need-bounds-body-3
 array-read-number-4 c = search rules
 
-number-requires : tie.Need-number-requires
+number-requires : tie.Need-number-g-requires
 number-requires c κs = search rules
 
-take-word-requires : tie.Need-take-word-requires
+take-word-requires : tie.Need-take_word-requires
 take-word-requires c κs = search rules
 
-enum-told-4 : tie.Need-enum-told-4
+enum-told-4 : tie.Need-enum_told-in-Finish
 enum-told-4 c = search rules
 
-take-undue-requires-2 : tie.Need-take-undue-requires-2
+take-undue-requires-2 : tie.Need-take_undue-requires-in-Finish
 take-undue-requires-2 c κs = search rules
 
-enum-told-5 : tie.Need-enum-told-5
+enum-told-5 : tie.Need-enum_told-in-Unknown
 enum-told-5 c = search rules
 
-returns : tie.Need-returns
+returns : tie.Need-returns-in-Open
 returns c =
-    let p = c.before.before.before.before in
-    rw (role-is p.before.before.kind-of.ensures p.enum_told.given.1) (c.take_open.ensures _)
+    rw (role-is c.kind_of-kind.ensures c.in-Open.is) (c.take_open.ensures _)
 
-same_length : tie.Need-same-length
+same_length : tie.Need-shape_of-due-in-Symbol
 same_length c = search rules
 
-returns-2 : tie.Need-returns-2
+returns-2 : tie.Need-returns-in-Symbol
 returns-2 c =
-    let p = c.before.before in
-    let q = p.before.before.before.before.before in
-    symbol-role _ _ _ _ _ (role-is q.before.before.kind-of.ensures q.enum-told2.given.1) p.take-undue.ensures
+    symbol-role _ _ _ _ _ (role-is c.kind_of-kind.ensures c.in-Symbol.is) c.take_undue.ensures
 
-same-length-2 : tie.Need-same-length-2
+same-length-2 : tie.Need-shape_of-due-in-Word
 same-length-2 c = search rules
 
-returns-3 : tie.Need-returns-3
+returns-3 : tie.Need-returns-in-Word
 returns-3 c =
-    let p = c.before.before.before in
-    rw (role-is p.before.before.kind-of.ensures p.enum-told3.given.1)
-    (word-state _ _ _ _ _ _ _ _ _ _ c.before.before.number.ensures c.take-word.ensures)
+    rw (role-is c.kind_of-kind.ensures c.in-Word.is)
+    (word-state _ _ _ _ _ _ _ _ _ _ c.number-g.ensures c.take_word.ensures)
 
-same-length-3 : tie.Need-same-length-3
+same-length-3 : tie.Need-shape_of-due-in-Finish
 same-length-3 c = search rules
 
-returns-4 : tie.Need-returns-4
+returns-4 : tie.Need-returns-in-Finish
 returns-4 c =
-    let p = c.before.before in
-    let q = p.before.before.before.before.before in
-    finish-role _ _ _ _ _ (role-is q.before.before.kind-of.ensures q.enum-told4.given.1) p.take-undue2.ensures
+    finish-role _ _ _ _ _ (role-is c.kind_of-kind.ensures c.in-Finish.is) c.take_undue-in-Finish.ensures
 
-returns-5 : tie.Need-returns-5
-returns-5 c = rw (role-is c.before.before.kind-of.ensures c.enum-told5.given.1)
+returns-5 : tie.Need-returns-in-Unknown
+returns-5 c = rw (role-is c.kind_of-kind.ensures c.in-Unknown.is)
 
-pub take-kind-spec : {M : Type 1} → statement M
-take-kind-spec =
+pub take_kind_spec : {M : Type 1} → statement M
+take_kind_spec =
     tie.close
     (tie.spec
     kind-of-requires

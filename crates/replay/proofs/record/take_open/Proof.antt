@@ -4,31 +4,31 @@ use borrow.Author.Rules.{rules}
 use Rattle.replay.proofs.record.take_open.Statement.{statement}
 use Rattle.replay.proofs.record.take_open.Tie as tie
 
-map-in-requires : tie.Need-map-in-requires
+map-in-requires : tie.Need-map_in-requires
 map-in-requires c κs = search rules
 
-array-read-start-at : tie.Need-array-read-start-at
+array-read-start-at : tie.Need-bounds-body-0
 array-read-start-at c = search rules
 
-cast-start-at : tie.Need-overflow-cast-start-at
+cast-start-at : tie.Need-overflow_cast-accord
 cast-start-at c = search rules
 
-array-read-start-at-2 : tie.Need-array-read-start-at-2
+array-read-start-at-2 : tie.Need-bounds-body-2
 array-read-start-at-2 c = search rules
 
-cast-start-at-2 : tie.Need-overflow-cast-start-at-2
+cast-start-at-2 : tie.Need-overflow_cast-body
 cast-start-at-2 c = search rules
 
-start-at-requires : tie.Need-start-at-requires
+start-at-requires : tie.Need-start_at-start-requires
 start-at-requires c κs = search rules
 
-array-read-open-receiver : tie.Need-array-read-open-receiver
+array-read-open-receiver : tie.Need-bounds-body-1
 array-read-open-receiver c = search rules
 
-cast-open-receiver : tie.Need-overflow-cast-open-receiver
+cast-open-receiver : tie.Need-overflow_cast-body-2
 cast-open-receiver c = search rules
 
-open-receiver-requires : tie.Need-open-receiver-requires
+open-receiver-requires : tie.Need-open_receiver-o-requires
 open-receiver-requires c κs = search rules
 
 lay-requires : tie.Need-lay-requires
@@ -39,13 +39,10 @@ answer-requires c κs = search rules
 
 returns : tie.Need-returns
 returns c =
-    let p = c.before.before in
-    let q = p.before.before.before.before.before in
-    let m = q.before.before in
-    λ due. open_is _ _ _ _ due _ _ _ q.open-receiver.result (rw (m.map-in.ensures, q.before.start-at.ensures) at q.open-receiver.ensures) _ _ _ p.lay.ensures _ c.answer.ensures
+    λ due. open_is _ _ _ _ due _ _ _ c.open_receiver-o.result (rw (c.map_in.ensures, c.start_at-start.ensures) at c.open_receiver-o.ensures) _ _ _ c.lay.ensures _ c.answer.ensures
 
-pub take-open-spec : {M : Type 1} → statement M
-take-open-spec =
+pub take_open_spec : {M : Type 1} → statement M
+take_open_spec =
     tie.close
     (tie.spec
     map-in-requires

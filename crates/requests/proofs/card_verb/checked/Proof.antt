@@ -7,43 +7,43 @@ use Rattle.requests.proofs.Filling.{sized}
 use Rattle.requests.proofs.card_verb.checked.Statement.{statement}
 use Rattle.requests.proofs.card_verb.checked.Tie as tie
 
-mul-xs : tie.Need-overflow-mul-xs
+mul-xs : tie.Need-overflow_mul-xs
 mul-xs c = search rules
 
-add-ss : tie.Need-overflow-add-ss
+add-ss : tie.Need-overflow_add-ss
 add-ss c = search rules
 
-mul-cs : tie.Need-overflow-mul-cs
+mul-cs : tie.Need-overflow_mul-cs
 mul-cs c = search rules
 
-add-ns : tie.Need-overflow-add-ns
+add-ns : tie.Need-overflow_add-ns
 add-ns c = search rules
 
-mul-ns : tie.Need-overflow-mul-ns
+mul-ns : tie.Need-overflow_mul-ns
 mul-ns c = search rules
 
-array-borrow-prefix-coordinates : tie.Need-array-borrow-prefix-coordinates
+array-borrow-prefix-coordinates : tie.Need-slice_bounds-coordinates-end
 array-borrow-prefix-coordinates c = search rules
 
-slice-aggregate-verdict : tie.Need-slice-aggregate-verdict
+slice-aggregate-verdict : tie.Need-slice_bounds-verdict-end
 slice-aggregate-verdict c = sym (length-take-le _ _ (omega arith))
 
-array-borrow-prefix-states : tie.Need-array-borrow-prefix-states
+array-borrow-prefix-states : tie.Need-slice_bounds-states-end
 array-borrow-prefix-states c = search rules
 
-slice-aggregate-verdict-2 : tie.Need-slice-aggregate-verdict-2
+slice-aggregate-verdict-2 : tie.Need-slice_bounds-verdict-end-2
 slice-aggregate-verdict-2 c = sym (length-take-le _ _ (omega arith))
 
-array-borrow-prefix-symbols : tie.Need-array-borrow-prefix-symbols
+array-borrow-prefix-symbols : tie.Need-slice_bounds-symbols-end
 array-borrow-prefix-symbols c = search rules
 
-slice-aggregate-verdict-3 : tie.Need-slice-aggregate-verdict-3
+slice-aggregate-verdict-3 : tie.Need-slice_bounds-verdict-end-3
 slice-aggregate-verdict-3 c = sym (length-take-le _ _ (omega arith))
 
-array-borrow-prefix-numbers : tie.Need-array-borrow-prefix-numbers
+array-borrow-prefix-numbers : tie.Need-slice_bounds-numbers-end
 array-borrow-prefix-numbers c = search rules
 
-slice-aggregate-verdict-4 : tie.Need-slice-aggregate-verdict-4
+slice-aggregate-verdict-4 : tie.Need-slice_bounds-verdict-end-4
 slice-aggregate-verdict-4 c = sym (length-take-le _ _ (omega arith))
 
 verdict-requires : tie.Need-verdict-requires
@@ -51,12 +51,11 @@ verdict-requires c κs = search rules
 
 returns : tie.Need-returns
 returns c =
-    let s = c.before.before.before.before.before.before.before.before.before.before in
-    c.before.before.before.before.verdict.ensures
-    ∙ sized s.args.k s.args.n _ (length-take-le _ _ (omega arith)) (length-take-le _ _ (omega arith)) (length-take-le _ _ (omega arith)) (length-take-le _ _ (omega arith))
+    c.verdict.ensures
+    ∙ sized c.args.k c.args.n _ (length-take-le _ _ (omega arith)) (length-take-le _ _ (omega arith)) (length-take-le _ _ (omega arith)) (length-take-le _ _ (omega arith))
 
-pub checked-spec : {M : Type 1} → statement M
-checked-spec =
+pub checked_spec : {M : Type 1} → statement M
+checked_spec =
     tie.close
     (tie.spec
     mul-xs

@@ -8,117 +8,99 @@ use Rattle.requests.proofs.card_verb.fill.Tie as tie
 signed-requires : tie.Need-signed-requires
 signed-requires c κs = search rules
 
-enum-known-a : tie.Need-enum-known-a
+enum-known-a : tie.Need-enum_known-a
 enum-known-a c = search rules
 
-enum_told : tie.Need-enum-told
+enum_told : tie.Need-enum_told-1
 enum_told c = search rules
 
-same_length : tie.Need-same-length
+same_length : tie.Need-shape_of-coordinates-in_default
 same_length c = search rules
 
-returns : tie.Need-returns
-returns c = bad₁ c.before.before.before.signed.ensures refl refl refl c.enum_told.given.1
+returns : tie.Need-returns-in_default
+returns c = bad₁ c.signed.ensures refl refl refl c.in_default.is
 
 numbers-requires : tie.Need-numbers-requires
 numbers-requires c κs = search rules
 
-enum-known-b : tie.Need-enum-known-b
+enum-known-b : tie.Need-enum_known-b
 enum-known-b c = search rules
 
-enum-told-2 : tie.Need-enum-told-2
+enum-told-2 : tie.Need-enum_told-in_default-numbers
 enum-told-2 c = search rules
 
-same-length-2 : tie.Need-same-length-2
+same-length-2 : tie.Need-shape_of-coordinates-in_default-numbers
 same-length-2 c = search rules
 
-same-length-3 : tie.Need-same-length-3
+same-length-3 : tie.Need-shape_of-states-in_default-numbers
 same-length-3 c = search rules
 
-returns-2 : tie.Need-returns-2
+returns-2 : tie.Need-returns-in_default-numbers
 returns-2 c =
-    let n = c.before.before.before.before in
-    let a = n.before.before.before in
-    bad₂ a.before.before.before.signed.ensures a.a.given.1 n.numbers.ensures refl refl c.enum-told2.given.1
+    bad₂ c.signed.ensures c.in-At.is c.numbers.ensures refl refl c.in_default-numbers.is
 
 numbers-requires-2 : tie.Need-numbers-requires-2
 numbers-requires-2 c κs = search rules
 
-enum-known-c : tie.Need-enum-known-c
+enum-known-c : tie.Need-enum_known-c
 enum-known-c c = search rules
 
-enum-told-3 : tie.Need-enum-told-3
+enum-told-3 : tie.Need-enum_told-in_default-numbers-2
 enum-told-3 c = search rules
 
-same-length-4 : tie.Need-same-length-4
+same-length-4 : tie.Need-shape_of-coordinates-in_default-numbers-2
 same-length-4 c = search rules
 
-same-length-5 : tie.Need-same-length-5
+same-length-5 : tie.Need-shape_of-states-in_default-numbers-2
 same-length-5 c = search rules
 
-same-length-6 : tie.Need-same-length-6
+same-length-6 : tie.Need-shape_of-symbols-in_default-numbers-2
 same-length-6 c = search rules
 
-returns-3 : tie.Need-returns-3
+returns-3 : tie.Need-returns-in_default-numbers-2
 returns-3 c =
-    let m = c.before.before.before.before in
-    let b = m.before.before.before in
-    let n = b.before.before.before.before in
-    let a = n.before.before.before in
-    bad₃ a.before.before.before.signed.ensures a.a.given.1 n.numbers.ensures b.b.given.1 m.numbers2.ensures refl c.enum-told3.given.1
+    bad₃ c.signed.ensures c.in-At.is c.numbers.ensures c.in-At-numbers.is c.numbers-2.ensures refl c.in_default-numbers-2.is
 
 wides-requires : tie.Need-wides-requires
 wides-requires c κs = search rules
 
-enum-known-d : tie.Need-enum-known-d
+enum-known-d : tie.Need-enum_known-d
 enum-known-d c = search rules
 
-enum-told-4 : tie.Need-enum-told-4
+enum-told-4 : tie.Need-enum_told-in_default-wides
 enum-told-4 c = search rules
 
-same-length-7 : tie.Need-same-length-7
+same-length-7 : tie.Need-shape_of-coordinates-in_default-wides
 same-length-7 c = search rules
 
-same-length-8 : tie.Need-same-length-8
+same-length-8 : tie.Need-shape_of-states-in_default-wides
 same-length-8 c = search rules
 
-same-length-9 : tie.Need-same-length-9
+same-length-9 : tie.Need-shape_of-symbols-in_default-wides
 same-length-9 c = search rules
 
-same-length-10 : tie.Need-same-length-10
+same-length-10 : tie.Need-shape_of-numbers-in_default-wides
 same-length-10 c = search rules
 
-returns-4 : tie.Need-returns-4
+returns-4 : tie.Need-returns-in_default-wides
 returns-4 c =
-    let w = c.before.before.before.before in
-    let d = w.before.before.before in
-    let m = d.before.before.before.before in
-    let b = m.before.before.before in
-    let n = b.before.before.before.before in
-    let a = n.before.before.before in
-    bad₄ a.before.before.before.signed.ensures a.a.given.1 n.numbers.ensures b.b.given.1 m.numbers2.ensures d.c.given.1 w.wides.ensures c.enum-told4.given.1
+    bad₄ c.signed.ensures c.in-At.is c.numbers.ensures c.in-At-numbers.is c.numbers-2.ensures c.in-At-numbers-2.is c.wides.ensures c.in_default-wides.is
 
-same-length-11 : tie.Need-same-length-11
+same-length-11 : tie.Need-shape_of-coordinates
 same-length-11 c = search rules
 
-same-length-12 : tie.Need-same-length-12
+same-length-12 : tie.Need-shape_of-states
 same-length-12 c = search rules
 
-same-length-13 : tie.Need-same-length-13
+same-length-13 : tie.Need-shape_of-symbols
 same-length-13 c = search rules
 
-same-length-14 : tie.Need-same-length-14
+same-length-14 : tie.Need-shape_of-numbers
 same-length-14 c = search rules
 
-returns-5 : tie.Need-returns-5
+returns-5 : tie.Need-returns
 returns-5 c =
-    let w = c.before.before.before.before.before in
-    let d = w.before.before.before in
-    let m = d.before.before.before.before in
-    let b = m.before.before.before in
-    let n = b.before.before.before.before in
-    let a = n.before.before.before in
-    done a.before.before.before.signed.ensures a.a.given.1 n.numbers.ensures b.b.given.1 m.numbers2.ensures d.c.given.1 w.wides.ensures c.before.d.given.1
+    done c.signed.ensures c.in-At.is c.numbers.ensures c.in-At-numbers.is c.numbers-2.ensures c.in-At-numbers-2.is c.wides.ensures c.in-At-wides.is
 
 pub fill_spec : {M : Type 1} → statement M
 fill_spec =

@@ -4,35 +4,27 @@ use mathlib.Core.Path.{sym, ◌∙◌}
 use Rattle.requests.proofs.card_verb.map_of.Statement.{statement}
 use Rattle.requests.proofs.card_verb.map_of.Tie as tie
 
-slice-aggregate-same : tie.Need-slice-aggregate-same
-slice-aggregate-same c = search rules
-
 same-requires : tie.Need-same-requires
 same-requires c κs = search rules
 
-returns : tie.Need-returns
-returns c = rw (sym c.before.same.ensures ∙ c.if1.true)
-
-slice-aggregate-same-2 : tie.Need-slice-aggregate-same-2
-slice-aggregate-same-2 c = search rules
+returns : tie.Need-returns-then-same
+returns c = rw (sym c.same.ensures ∙ c.if-same.true)
 
 same-requires-2 : tie.Need-same-requires-2
 same-requires-2 c κs = search rules
 
-returns-2 : tie.Need-returns-2
-returns-2 c = rw (sym c.before.before.before.before.same.ensures ∙ c.before.before.before.if1.false, sym c.before.same2.ensures ∙ c.if2.true)
+returns-2 : tie.Need-returns-then-same-2
+returns-2 c = rw (sym c.same.ensures ∙ c.if-same.false, sym c.same-2.ensures ∙ c.if-same-2.true)
 
-returns-3 : tie.Need-returns-3
-returns-3 c = rw (sym c.before.before.before.before.same.ensures ∙ c.before.before.before.if1.false, sym c.before.same2.ensures ∙ c.if2.false)
+returns-3 : tie.Need-returns
+returns-3 c = rw (sym c.same.ensures ∙ c.if-same.false, sym c.same-2.ensures ∙ c.if-same-2.false)
 
-pub map-of-spec : {M : Type 1} → statement M
-map-of-spec =
+pub map_of_spec : {M : Type 1} → statement M
+map_of_spec =
     tie.close
     (tie.spec
-    slice-aggregate-same
     same-requires
     returns
-    slice-aggregate-same-2
     same-requires-2
     returns-2
     returns-3)

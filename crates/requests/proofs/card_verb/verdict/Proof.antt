@@ -8,43 +8,42 @@ use Rattle.requests.proofs.card_verb.verdict.Tie as tie
 fill-requires : tie.Need-fill-requires
 fill-requires c κs = search rules
 
-same_length : tie.Need-same-length
+same_length : tie.Need-shape_of-coordinates-then-not-fill
 same_length c = search rules
 
-same-length-2 : tie.Need-same-length-2
+same-length-2 : tie.Need-shape_of-states-then-not-fill
 same-length-2 c = search rules
 
-same-length-3 : tie.Need-same-length-3
+same-length-3 : tie.Need-shape_of-symbols-then-not-fill
 same-length-3 c = search rules
 
-same-length-4 : tie.Need-same-length-4
+same-length-4 : tie.Need-shape_of-numbers-then-not-fill
 same-length-4 c = search rules
 
-returns : tie.Need-returns
-returns c = no-verdict _ c.before.before.before.before.before.before.before.before.fill.ensures (not-true _ c.if1.true)
+returns : tie.Need-returns-then-not-fill
+returns c = no-verdict _ c.fill.ensures (c.if-not-fill.true)
 
 check-requires : tie.Need-check-requires
 check-requires c κs = search rules
 
-same-length-5 : tie.Need-same-length-5
+same-length-5 : tie.Need-shape_of-coordinates
 same-length-5 c = search rules
 
-same-length-6 : tie.Need-same-length-6
+same-length-6 : tie.Need-shape_of-states
 same-length-6 c = search rules
 
-same-length-7 : tie.Need-same-length-7
+same-length-7 : tie.Need-shape_of-symbols
 same-length-7 c = search rules
 
-same-length-8 : tie.Need-same-length-8
+same-length-8 : tie.Need-shape_of-numbers
 same-length-8 c = search rules
 
-returns-2 : tie.Need-returns-2
+returns-2 : tie.Need-returns
 returns-2 c =
-    let e = c.before.before.before.before.before in
-    verdict-is _ e.before.before.before.before.before.before.before.before.fill.ensures (not-false _ e.if1.false) c.check.ensures.always
+    verdict-is _ c.fill.ensures (c.if-not-fill.false) c.check.ensures.always
 
-pub verdict-spec : {M : Type 1} → statement M
-verdict-spec =
+pub verdict_spec : {M : Type 1} → statement M
+verdict_spec =
     tie.close
     (tie.spec
     fill-requires

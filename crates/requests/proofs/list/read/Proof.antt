@@ -24,83 +24,79 @@ too_many c n h = rw (lt-leb n 1024 h)
 so-many : (c n : ℕ) → n ≤ 1024 → request.List c n ≡ sent_of (number.Got c) (many.Got n)
 so-many c n h = rw (le-leb n 1024 h)
 
-before-requires : tie.Need-before-requires
+before-requires : tie.Need-before-n-requires
 before-requires c κs = search rules
 
-slice-aggregate-cap-of : tie.Need-slice-aggregate-cap-of
+slice-aggregate-cap-of : tie.Need-slice_bounds-cap_of-end
 slice-aggregate-cap-of c = search rules
 
-cap-of-requires : tie.Need-cap-of-requires
+cap-of-requires : tie.Need-cap_of-requires
 cap-of-requires c κs = search rules
 
-enum-known-cap : tie.Need-enum-known-cap
+enum-known-cap : tie.Need-enum_known-cap
 enum-known-cap c = search rules
 
-enum_told : tie.Need-enum-told
+enum_told : tie.Need-enum_told-1
 enum_told c = search rules
 
-returns : tie.Need-returns
-returns c = list-bad c.before.before.before.before.before2.ensures _ (sym c.enum_told.given.1 ∙ c.before.before.cap-of.ensures)
+returns : tie.Need-returns-in_default
+returns c = list-bad c.before-n.ensures _ (sym c.in_default.is ∙ c.cap_of.ensures)
 
-returns-2 : tie.Need-returns-2
+returns-2 : tie.Need-returns-then-n-rest
 returns-2 c =
-    let d = c.before.before.before.before in
-    list-alone d.before.before.before2.ensures _ c.if1.true (sym c.before.before.cap.given.1 ∙ d.cap-of.ensures)
+    list-alone c.before-n.ensures _ c.if-n-rest.true (sym c.in-Got.is ∙ c.cap_of.ensures)
 
 -- the way back from the words to the text behind the cap
-abbrev to-rest : tie.After-number-list → tie.Else1
+abbrev to-rest : tie.After-number_list → tie.Else-n-rest
 to-rest n = n.before.before.before
 
-add-number-list : tie.Need-overflow-add-number-list
+add-number-list : tie.Need-overflow_add-n
 add-number-list c = search rules
 
-sub-number-list : tie.Need-overflow-sub-number-list
+sub-number-list : tie.Need-slice_bounds-number_list-count
 sub-number-list c = search rules
 
-part-number-list-start : tie.Need-slice-bounds-number-list-start
+part-number-list-start : tie.Need-slice_bounds-number_list-start
 part-number-list-start c = search rules
 
-part-number-list-end : tie.Need-slice-bounds-number-list-end
+part-number-list-end : tie.Need-slice_bounds-number_list-end
 part-number-list-end c = search rules
 
-number-list-requires : tie.Need-number-list-requires
+number-list-requires : tie.Need-number_list-requires
 number-list-requires c κs = search rules
 
-enum-known-count : tie.Need-enum-known-count
+enum-known-count : tie.Need-enum_known-count
 enum-known-count c = search rules
 
-enum-told-2 : tie.Need-enum-told-2
+enum-told-2 : tie.Need-enum_told-in_default-number_list
 enum-told-2 c = search rules
 
-same_length : tie.Need-same-length
+same_length : tie.Need-shape_of-words-in_default-number_list
 same_length c = search rules
 
-returns-3 : tie.Need-returns-3
+returns-3 : tie.Need-returns-in_default-number_list
 returns-3 c =
-    let n = c.before.before.before.before in
-    let e = to-rest n in
-    list-more e.before.before.before.before.before.before.before2.ensures e.if1.left (sym e.before.before.cap.given.1 ∙ e.before.before.before.before.cap-of.ensures)
-    (lists-as c.enum-told2.given.1 n.number-list.ensures) refl
+    let e = to-rest c.before.before.before in
+    list-more e.before-n.ensures e.if-n-rest.left (sym e.cap.given.1 ∙ e.cap_of.ensures)
+    (lists-as c.in_default-number_list.is c.number_list.ensures) refl
 
-same-length-2 : tie.Need-same-length-2
+same-length-2 : tie.Need-shape_of-words-then-count-gt-MOST_WORDS
 same-length-2 c = search rules
 
-returns-4 : tie.Need-returns-4
+returns-4 : tie.Need-returns-then-count-gt-MOST_WORDS
 returns-4 c =
-    let n = c.before.before.before.before.before.before in
-    let e = to-rest n in
-    list-more e.before.before.before.before.before.before.before2.ensures e.if1.left (sym e.before.before.cap.given.1 ∙ e.before.before.before.before.cap-of.ensures)
-    (lists-as c.before.before.count.given.1 n.number-list.ensures) (too_many _ _ c.if2.true)
+    let e = to-rest c.before.before.before.before in
+    list-more e.before-n.ensures e.if-n-rest.left (sym e.cap.given.1 ∙ e.cap_of.ensures)
+    (lists-as c.in-Got-number_list.is c.number_list.ensures) (too_many _ _ c.if-count-gt-MOST_WORDS.true)
 
-same-length-3 : tie.Need-same-length-3
+same-length-3 : tie.Need-shape_of-words
 same-length-3 c = search rules
 
-returns-5 : tie.Need-returns-5
+returns-5 : tie.Need-returns
 returns-5 c =
-    let n = c.before.before.before.before.before.before in
-    let e = to-rest n in
-    list-more e.before.before.before.before.before.before.before2.ensures e.if1.left (sym e.before.before.cap.given.1 ∙ e.before.before.before.before.cap-of.ensures)
-    (lists-as c.before.before.count.given.1 n.number-list.ensures) (so-many _ _ c.if2.false)
+    let e = to-rest c.before.before.before.before in
+    list-more e.before-n.ensures e.if-n-rest.left (sym e.cap.given.1 ∙ e.cap_of.ensures)
+    (lists-as c.in-Got-number_list.is c.number_list.ensures) (so-many _ _ c.if-count-gt-MOST_WORDS.false)
 
 pub read_spec : {M : Type 1} → statement M
 read_spec =

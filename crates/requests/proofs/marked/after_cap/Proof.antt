@@ -4,37 +4,34 @@ use borrow.Author.Rules.{rules}
 use Rattle.requests.proofs.marked.after_cap.Statement.{statement}
 use Rattle.requests.proofs.marked.after_cap.Tie as tie
 
-before-requires : tie.Need-before-requires
+before-requires : tie.Need-before-n-requires
 before-requires c κs = search rules
 
-slice-aggregate-read : tie.Need-slice-aggregate-read
+slice-aggregate-read : tie.Need-slice_bounds-read-end
 slice-aggregate-read c = search rules
 
-read-requires : tie.Need-read-requires
+read-requires : tie.Need-read-row-requires
 read-requires c κs = search rules
 
-coordinates-after-requires : tie.Need-coordinates-after-requires
+coordinates-after-requires : tie.Need-coordinates_after-requires
 coordinates-after-requires c κs = search rules
 
 heard-requires : tie.Need-heard-requires
 heard-requires c κs = search rules
 
-same_length : tie.Need-same-length
+same_length : tie.Need-shape_of-coordinates
 same_length c = search rules
 
-same-length-2 : tie.Need-same-length-2
+same-length-2 : tie.Need-shape_of-marks
 same-length-2 c = search rules
 
 returns : tie.Need-returns
 returns c =
-    let list = c.before.before in
-    let row = list.before.before.before.before in
-    let start = row.before.before.before.before.before.before in
-    let after = marked-after row.before.before.before.before2.ensures _ start.args.cap row.read.ensures list.coordinates-after.ensures.0 c.heard.ensures in
-    (after.0, (list.coordinates-after.ensures.1, after.1))
+    let after = marked-after c.before-n.ensures _ c.args.cap c.read-row.ensures c.coordinates_after.ensures.0 c.heard.ensures in
+    (after.0, (c.coordinates_after.ensures.1, after.1))
 
-pub after-cap-spec : {M : Type 1} → statement M
-after-cap-spec =
+pub after_cap_spec : {M : Type 1} → statement M
+after_cap_spec =
     tie.close
     (tie.spec
     before-requires

@@ -6,82 +6,66 @@ use borrow.Author.Rules.{rules}
 use Rattle.requests.proofs.receiver.start.Statement.{statement}
 use Rattle.requests.proofs.receiver.start.Tie as tie
 
-before-requires : tie.Need-before-requires
+before-requires : tie.Need-before-n-requires
 before-requires c κs = search rules
 
-slice-aggregate-same : tie.Need-slice-aggregate-same
+slice-aggregate-same : tie.Need-slice_bounds-same-end
 slice-aggregate-same c = search rules
 
-slice-aggregate-same-2 : tie.Need-slice-aggregate-same-2
+slice-aggregate-same-2 : tie.Need-slice_bounds-same-end-3
 slice-aggregate-same-2 c = search rules
 
 same-requires : tie.Need-same-requires
 same-requires c κs = search rules
 
-map-after-requires : tie.Need-map-after-requires
+map-after-requires : tie.Need-map_after-requires
 map-after-requires c κs = search rules
 
-enum-known-map : tie.Need-enum-known-map
+enum-known-map : tie.Need-enum_known-map
 enum-known-map c = search rules
 
-enum_told : tie.Need-enum-told
+enum_told : tie.Need-enum_told-1
 enum_told c = search rules
 
-returns : tie.Need-returns
+returns : tie.Need-returns-in_default
 returns c =
-    let m = c.before.before in
-    let t = m.before in
-    start-free t.before.before.before.before.before2.ensures _ _ (sym t.if1.true ∙ t.before.same.ensures) (sym c.enum_told.given.1 ∙ m.map-after.ensures)
+    start-free c.before-n.ensures _ _ (sym c.if-same.true ∙ c.same.ensures) (sym c.in_default.is ∙ c.map_after.ensures)
 
-returns-2 : tie.Need-returns-2
+returns-2 : tie.Need-returns-then-same
 returns-2 c =
-    let m = c.before.before.before in
-    let t = m.before in
-    start-free t.before.before.before.before.before2.ensures _ _ (sym t.if1.true ∙ t.before.same.ensures) (sym c.before.map.given.1 ∙ m.map-after.ensures)
+    start-free c.before-n.ensures _ _ (sym c.if-same.true ∙ c.same.ensures) (sym c.in-On.is ∙ c.map_after.ensures)
 
-returns-3 : tie.Need-returns-3
+returns-3 : tie.Need-returns-then-n-rest
 returns-3 c =
-    let e = c.before in
-    start-alone e.before.before.before.before.before2.ensures _ _ (sym e.if1.false ∙ e.before.same.ensures) c.if2.true
-
-slice-aggregate-same-3 : tie.Need-slice-aggregate-same-3
-slice-aggregate-same-3 c = search rules
-
-slice-aggregate-same-4 : tie.Need-slice-aggregate-same-4
-slice-aggregate-same-4 c = search rules
+    start-alone c.before-n.ensures _ _ (sym c.if-same.false ∙ c.same.ensures) c.if-n-rest.true
 
 same-requires-2 : tie.Need-same-requires-2
 same-requires-2 c κs = search rules
 
-returns-4 : tie.Need-returns-4
+returns-4 : tie.Need-returns-then-not-same
 returns-4 c =
-    let l = c.before.before.before.before in
-    let e = l.before in
-    start-more e.before.before.before.before.before2.ensures _ _ _ (sym e.if1.false ∙ e.before.same.ensures) l.if2.false
-    (sym (not-true _ c.if3.true) ∙ c.before.same2.ensures)
+    start-more c.before-n.ensures _ _ _ (sym c.if-same.false ∙ c.same.ensures) c.if-n-rest.false
+    (sym (c.if-not-same.true) ∙ c.same-2.ensures)
 
-add-state : tie.Need-overflow-add-state
+add-state : tie.Need-overflow_add-n
 add-state c = search rules
 
-sub-state : tie.Need-overflow-sub-state
+sub-state : tie.Need-slice_bounds-state-count
 sub-state c = search rules
-
-part-state-start : tie.Need-slice-bounds-state-start
-part-state-start c = search rules
-
-part-state-end : tie.Need-slice-bounds-state-end
-part-state-end c = search rules
 
 state-requires : tie.Need-state-requires
 state-requires c κs = search rules
 
-returns-5 : tie.Need-returns-5
+returns-5 : tie.Need-returns
 returns-5 c =
-    let q = c.before.before in
-    let l = q.before.before.before.before in
-    let e = l.before in
-    c.state.ensures ∙ start-more e.before.before.before.before.before2.ensures _ _ _ (sym e.if1.false ∙ e.before.same.ensures) l.if2.false
-    (sym (not-false _ q.if3.false) ∙ q.before.same2.ensures)
+    c.state.ensures ∙ start-more c.before-n.ensures _ _ _ (sym c.if-same.false ∙ c.same.ensures) c.if-n-rest.false
+    (sym (c.if-not-same.false) ∙ c.same-2.ensures)
+
+slice_bounds-state-start : tie.Need-slice_bounds-state-start
+slice_bounds-state-start c = search rules
+
+slice_bounds-state-end : tie.Need-slice_bounds-state-end
+slice_bounds-state-end c = search rules
 
 pub start_spec : {M : Type 1} → statement M
 start_spec =
@@ -89,7 +73,6 @@ start_spec =
     (tie.spec
     before-requires
     slice-aggregate-same
-    slice-aggregate-same-2
     same-requires
     map-after-requires
     enum-known-map
@@ -97,13 +80,12 @@ start_spec =
     returns
     returns-2
     returns-3
-    slice-aggregate-same-3
-    slice-aggregate-same-4
+    slice-aggregate-same-2
     same-requires-2
     returns-4
     add-state
     sub-state
-    part-state-start
-    part-state-end
+    slice_bounds-state-start
+    slice_bounds-state-end
     state-requires
     returns-5)

@@ -11,66 +11,64 @@ use borrow.Author.Rules.{rules}
 use Rattle.requests.proofs.send.read.Statement.{statement}
 use Rattle.requests.proofs.send.read.Tie as tie
 
-before-requires : tie.Need-before-requires
+before-requires : tie.Need-before-n-requires
 before-requires c κs = search rules
 
-returns : tie.Need-returns
-returns c = two-alone c.before.before2.ensures _ c.if1.true
+returns : tie.Need-returns-then-n-rest
+returns c = two-alone c.before-n.ensures _ c.if-n-rest.true
 
-slice-aggregate-number-of : tie.Need-slice-aggregate-number-of
+slice-aggregate-number-of : tie.Need-slice_bounds-number_of-end
 slice-aggregate-number-of c = search rules
 
-number-of-requires : tie.Need-number-of-requires
+number-of-requires : tie.Need-number_of-requires
 number-of-requires c κs = search rules
 
-enum-known-word : tie.Need-enum-known-word
+enum-known-word : tie.Need-enum_known-word
 enum-known-word c = search rules
 
-enum_told : tie.Need-enum-told
+enum_told : tie.Need-enum_told-1
 enum_told c = search rules
 
 -- what the first token and the text behind it write
-both_read : (d : tie.After-number-of) {o o' : Number} → let s = d.before.before.before.before.before.args.rest.now in let n = d.before.before.before.before2.result in
+both_read : (d : tie.After-number_of) {o o' : Number} → let s = d.args.rest.now in let n = d.before-n.result in
     o ≡ any_number (take n s) → o' ≡ cap_number (after n s) → both request.Send o o' ≡ send_of (tokens s)
-both_read d = two-read cap-reader request.Send any_number d.before.before.before.before2.ensures d.before.before.if1.false
+both_read d = two-read cap-reader request.Send any_number d.before-n.ensures d.if-n-rest.false
 
-returns-2 : tie.Need-returns-2
-returns-2 c = both_read c.before.before (sym c.enum_told.given.1 ∙ c.before.before.number-of.ensures) refl
+returns-2 : tie.Need-returns-in_default
+returns-2 c = both_read c.before (sym c.in_default.is ∙ c.number_of.ensures) refl
 
-add-cap-of : tie.Need-overflow-add-cap-of
+add-cap-of : tie.Need-overflow_add-n
 add-cap-of c = search rules
 
-sub-cap-of : tie.Need-overflow-sub-cap-of
+sub-cap-of : tie.Need-slice_bounds-cap_of-count
 sub-cap-of c = search rules
 
-part-cap-of-start : tie.Need-slice-bounds-cap-of-start
+part-cap-of-start : tie.Need-slice_bounds-cap_of-start
 part-cap-of-start c = search rules
 
-part-cap-of-end : tie.Need-slice-bounds-cap-of-end
+part-cap-of-end : tie.Need-slice_bounds-cap_of-end
 part-cap-of-end c = search rules
 
-cap-of-requires : tie.Need-cap-of-requires
+cap-of-requires : tie.Need-cap_of-requires
 cap-of-requires c κs = search rules
 
-enum-known-cap : tie.Need-enum-known-cap
+enum-known-cap : tie.Need-enum_known-cap
 enum-known-cap c = search rules
 
-enum-told-2 : tie.Need-enum-told-2
+enum-told-2 : tie.Need-enum_told-in_default-cap_of
 enum-told-2 c = search rules
 
 -- the way back from the second number to the first
-abbrev to-first : tie.After-cap-of → tie.After-number-of
-to-first d = d.before.before.before.before.before
+abbrev to-first : tie.After-cap_of → tie.After-number_of
+to-first d = d.before.before.before
 
-returns-3 : tie.Need-returns-3
+returns-3 : tie.Need-returns-in_default-cap_of
 returns-3 c =
-    let d = c.before.before in
-    both_read (to-first d) (sym d.before.before.before.word.given.1 ∙ (to-first d).number-of.ensures) (sym c.enum-told2.given.1 ∙ d.cap-of.ensures)
+    both_read (to-first c.before) (sym c.in-Got.is ∙ c.number_of.ensures) (sym c.in_default-cap_of.is ∙ c.cap_of.ensures)
 
-returns-4 : tie.Need-returns-4
+returns-4 : tie.Need-returns
 returns-4 c =
-    let d = c.before.before.before in
-    both_read (to-first d) (sym d.before.before.before.word.given.1 ∙ (to-first d).number-of.ensures) (sym c.before.cap.given.1 ∙ d.cap-of.ensures)
+    both_read (to-first c.before) (sym c.in-Got.is ∙ c.number_of.ensures) (sym c.in-Got-cap_of.is ∙ c.cap_of.ensures)
 
 pub read_spec : {M : Type 1} → statement M
 read_spec =

@@ -12,20 +12,20 @@ use Rattle.requests.proofs.sender.read.Tie as tie
 abbrev sent : Map → ℕ → Request
 sent m u = request.Sender (line m u)
 
-number-and-map-requires : tie.Need-number-and-map-requires
+number-and-map-requires : tie.Need-number_and_map-requires
 number-and-map-requires c κs = search rules
 
-enum-known-map : tie.Need-enum-known-map
+enum-known-map : tie.Need-enum_known-map
 enum-known-map c = search rules
 
-enum_told : tie.Need-enum-told
+enum_told : tie.Need-enum_told-1
 enum_told c = search rules
 
-returns : tie.Need-returns
-returns c = ap (on_number sent) (sym c.enum_told.given.1 ∙ c.before.before.number-and-map.ensures)
+returns : tie.Need-returns-in_default
+returns c = ap (on_number sent) (sym c.in_default.is ∙ c.number_and_map.ensures)
 
-returns-2 : tie.Need-returns-2
-returns-2 c = ap (on_number sent) (sym c.before.map.given.1 ∙ c.before.before.before.number-and-map.ensures)
+returns-2 : tie.Need-returns
+returns-2 c = ap (on_number sent) (sym c.in-On.is ∙ c.number_and_map.ensures)
 
 pub read_spec : {M : Type 1} → statement M
 read_spec = tie.close (tie.spec number-and-map-requires enum-known-map enum_told returns returns-2)

@@ -20,7 +20,7 @@ returns : tie.Need-returns
 unfolding lesser_keys
 returns c = cc
 
-pub lesser-keys-spec : {M : Type 1} → statement M
-lesser-keys-spec =
+pub lesser_keys_spec : {M : Type 1} → statement M
+lesser_keys_spec =
     tie.close
     (tie.spec lesser-requires lesser-requires-2 lesser-requires-3 lesser-requires-4 returns)

@@ -14,30 +14,27 @@ squared-requires c κs = search rules
 squared-requires-2 : tie.Need-squared-requires-2
 squared-requires-2 c κs = search rules
 
-x-is : (c : tie.After-squared2) → let s = c.before.before.before.before.before.before in c.before.before.before.squared.result ≡ square (difference s.args.h.x s.args.p.x)
+x-is : (c : tie.After-squared-2) → c.squared.result ≡ square (difference c.args.h.x c.args.p.x)
 x-is c =
-    let s = c.before.before.before.before.before.before in
-    c.before.before.before.squared.ensures ∙ square-passed s.args.h.x s.args.p.x s.requires.0.x-in s.requires.1.x-small
+    c.squared.ensures ∙ square-passed c.args.h.x c.args.p.x c.requires.0.x-in c.requires.1.x-small
 
-y-is : (c : tie.After-squared2) → let s = c.before.before.before.before.before.before in c.squared2.result ≡ square (difference s.args.h.y s.args.p.y)
+y-is : (c : tie.After-squared-2) → c.squared-2.result ≡ square (difference c.args.h.y c.args.p.y)
 y-is c =
-    let s = c.before.before.before.before.before.before in
-    c.squared2.ensures ∙ square-passed s.args.h.y s.args.p.y s.requires.0.y-in s.requires.1.y-small
+    c.squared-2.ensures ∙ square-passed c.args.h.y c.args.p.y c.requires.0.y-in c.requires.1.y-small
 
-add-result : tie.Need-overflow-add-result
+add-result : tie.Need-overflow_add-result
 add-result c =
-    let s = c.before.before.before.before.before.before in
     omega (
       arith,
       x-is c,
       y-is c,
-      square_le s.args.h.x s.args.p.x s.requires.0.x-in s.requires.1.x-small,
-      square_le s.args.h.y s.args.p.y s.requires.0.y-in s.requires.1.y-small,
+      square_le c.args.h.x c.args.p.x c.requires.0.x-in c.requires.1.x-small,
+      square_le c.args.h.y c.args.p.y c.requires.0.y-in c.requires.1.y-small,
     )
 
 returns : tie.Need-returns
 unfolding distance
 returns c = ap₂ (λ (m n : ℕ). m + n) (x-is c) (y-is c)
 
-pub distance-from-spec : {M : Type 1} → statement M
-distance-from-spec = tie.close (tie.spec squared-requires squared-requires-2 add-result returns)
+pub distance_from_spec : {M : Type 1} → statement M
+distance_from_spec = tie.close (tie.spec squared-requires squared-requires-2 add-result returns)

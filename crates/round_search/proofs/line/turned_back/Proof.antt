@@ -11,15 +11,14 @@ use Rattle.round_search.proofs.Distances.{back-in-range}
 use Rattle.round_search.proofs.line.turned_back.Statement.{statement}
 use Rattle.round_search.proofs.line.turned_back.Tie as tie
 
-sub-t2 : tie.Need-overflow-sub-t2
-sub-t2 c = let h = c.before.before.args.h in neg-fits w32 h.y (omega arith)
+sub-t2 : tie.Need-overflow_sub-result
+sub-t2 c = let h = c.args.h in neg-fits w32 h.y (omega arith)
 
 returns : tie.Need-returns
 unfolding turned_back
 returns c =
-    let s = c.before.before.before in
-    let is = ap₂ {C = Spot} (λ (a b : ℤ). record { x = a; y = b }) (neg-reads w32 s.args.h.y (omega arith)) (reads w32 s.args.h.x (omega arith)) in
-    (is, subst SpotInRange (sym is) (back-in-range s.args.h s.requires))
+    let is = ap₂ {C = Spot} (λ (a b : ℤ). record { x = a; y = b }) (neg-reads w32 c.args.h.y (omega arith)) (reads w32 c.args.h.x (omega arith)) in
+    (is, subst SpotInRange (sym is) (back-in-range c.args.h c.requires))
 
-pub turned-back-spec : {M : Type 1} → statement M
-turned-back-spec = tie.close (tie.spec sub-t2 returns)
+pub turned_back_spec : {M : Type 1} → statement M
+turned_back_spec = tie.close (tie.spec sub-t2 returns)

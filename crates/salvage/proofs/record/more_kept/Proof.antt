@@ -6,20 +6,20 @@ use borrow.Author.Rules.{rules}
 use Rattle.salvage.proofs.record.more_kept.Statement.{statement}
 use Rattle.salvage.proofs.record.more_kept.Tie as tie
 
-returns : tie.Need-returns
-returns c = rw (not-true c.before.args.taken c.if1.true)
+returns : tie.Need-returns-then-not-taken
+returns c = rw (c.if-not-taken.true)
 
-kind-of-requires : tie.Need-kind-of-requires
+kind-of-requires : tie.Need-kind_of-kind-requires
 kind-of-requires c κs = search rules
 
-add-fed-on : tie.Need-overflow-add-fed-on
-add-fed-on c = rw c.before.kind-of.ensures (omega (arith, size_fits c.before.before.before.args.k))
+add-fed-on : tie.Need-overflow_add-kind
+add-fed-on c = rw c.kind_of-kind.ensures (omega (arith, size_fits c.args.k))
 
-fed-on-requires : tie.Need-fed-on-requires
+fed-on-requires : tie.Need-fed_on-requires
 fed-on-requires c κs = search rules
 
-returns-2 : tie.Need-returns-2
-returns-2 c = let p = c.before.before in rw (not-false p.before.before.args.taken p.before.if1.false, ← p.kind-of.ensures) c.fed-on.ensures
+returns-2 : tie.Need-returns
+returns-2 c = rw (c.if-not-taken.false, ← c.kind_of-kind.ensures) c.fed_on.ensures
 
-pub more-kept-spec : {M : Type 1} → statement M
-more-kept-spec = tie.close (tie.spec returns kind-of-requires add-fed-on fed-on-requires returns-2)
+pub more_kept_spec : {M : Type 1} → statement M
+more_kept_spec = tie.close (tie.spec returns kind-of-requires add-fed-on fed-on-requires returns-2)

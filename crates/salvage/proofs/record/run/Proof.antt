@@ -7,31 +7,27 @@ use Rattle.salvage.proofs.record.run.Tie as tie
 missed-requires : tie.Need-missed-requires
 missed-requires c κs = search rules
 
-fed-on-requires : tie.Need-fed-on-requires
+fed-on-requires : tie.Need-fed_on-added-requires
 fed-on-requires c κs = search rules
 
 waiting-requires : tie.Need-waiting-requires
 waiting-requires c κs = search rules
 
-take-requires : tie.Need-take-requires
+take-requires : tie.Need-take-next-requires
 take-requires c κs = search rules
 
-is-agreed-requires : tie.Need-is-agreed-requires
+is-agreed-requires : tie.Need-is_agreed-is_taken-requires
 is-agreed-requires c κs = search rules
 
-more-kept-requires : tie.Need-more-kept-requires
+more-kept-requires : tie.Need-more_kept-requires
 more-kept-requires c κs = search rules
 
-same_length : tie.Need-same-length
+same_length : tie.Need-shape_of-due
 same_length c = search rules
 
 returns : tie.Need-returns
 returns c =
-    let v = c.before in
-    let n = v.before.before.before in
-    let w = n.before.before.before.before.before in
-    let a = w.before in
-    ran-is _ _ _ _ _ _ _ _ _ _ _ _ _ _ w.waiting.ensures n.take.ensures _ _ _ _ a.before.missed.ensures a.fed-on.ensures v.is-agreed.ensures c.more-kept.ensures
+    ran-is _ _ _ _ _ _ _ _ _ _ _ _ _ _ c.waiting.ensures c.take-next.ensures _ _ _ _ c.missed.ensures c.fed_on-added.ensures c.is_agreed-is_taken.ensures c.more_kept.ensures
 
 pub run_spec : {M : Type 1} → statement M
 run_spec =

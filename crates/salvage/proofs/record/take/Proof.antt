@@ -8,62 +8,54 @@ use borrow.Author.Rules.{rules}
 use Rattle.salvage.proofs.record.take.Statement.{statement}
 use Rattle.salvage.proofs.record.take.Tie as tie
 
-is-agreed-requires : tie.Need-is-agreed-requires
+is-agreed-requires : tie.Need-is_agreed-requires
 is-agreed-requires c κs = search rules
 
-returns : tie.Need-returns
-returns c = off-is _ _ _ _ _ _ _ _ (sym c.before.is-agreed.ensures ∙ not-true _ c.if1.true)
+returns : tie.Need-returns-then-not-is_agreed
+returns c = off-is _ _ _ _ _ _ _ _ (sym c.is_agreed.ensures ∙ c.if-not-is_agreed.true)
 
-kind-of-requires : tie.Need-kind-of-requires
+kind-of-requires : tie.Need-kind_of-kind-requires
 kind-of-requires c κs = search rules
 
-is-word-requires : tie.Need-is-word-requires
+is-word-requires : tie.Need-is_word-requires
 is-word-requires c κs = search rules
 
-array-read-number : tie.Need-array-read-number
+array-read-number : tie.Need-bounds-body-0
 array-read-number c = search rules
 
-array-read-number-2 : tie.Need-array-read-number-2
+array-read-number-2 : tie.Need-bounds-body-1
 array-read-number-2 c = search rules
 
-array-read-number-3 : tie.Need-array-read-number-3
+array-read-number-3 : tie.Need-bounds-body-2
 array-read-number-3 c = search rules
 
-array-read-number-4 : tie.Need-array-read-number-4
+array-read-number-4 : tie.Need-bounds-body-3
 array-read-number-4 c = search rules
 
-number-requires : tie.Need-number-requires
+number-requires : tie.Need-number-g-requires
 number-requires c κs = search rules
 
-take-word-requires : tie.Need-take-word-requires
+take-word-requires : tie.Need-take_word-requires
 take-word-requires c κs = search rules
 
-same_length : tie.Need-same-length
+same_length : tie.Need-shape_of-due-then-is_word
 same_length c = search rules
 
-returns-2 : tie.Need-returns-2
+returns-2 : tie.Need-returns-then-is_word
 returns-2 c =
-    let n = c.before.before in
-    let q = n.before in
-    let k = q.before.before in
-    let e = k.before in
-    word-is _ _ _ _ _ _ _ _ (sym e.before.is-agreed.ensures ∙ not-false _ e.if1.false)
-    (ap (λ (x : Kind). is_word_role x.role) (sym k.kind-of.ensures) ∙ sym q.before.is_IsWord.ensures ∙ q.if2.true) _ n.number.ensures _ c.take-word.ensures
+    word-is _ _ _ _ _ _ _ _ (sym c.is_agreed.ensures ∙ c.if-not-is_agreed.false)
+    (ap (λ (x : Kind). is_word_role x.role) (sym c.kind_of-kind.ensures) ∙ sym c.is_word.ensures ∙ c.if-is_word.true) _ c.number-g.ensures _ c.take_word.ensures
 
 run-requires : tie.Need-run-requires
 run-requires c κs = search rules
 
-same-length-2 : tie.Need-same-length-2
+same-length-2 : tie.Need-shape_of-due
 same-length-2 c = search rules
 
-returns-3 : tie.Need-returns-3
+returns-3 : tie.Need-returns
 returns-3 c =
-    let r = c.before.before in
-    let q = r.before.before.before.before.before in
-    let k = q.before.before in
-    let e = k.before in
-    run_is _ _ _ _ _ _ _ _ (sym e.before.is-agreed.ensures ∙ not-false _ e.if1.false)
-    (ap (λ (x : Kind). is_word_role x.role) (sym k.kind-of.ensures) ∙ sym q.before.is_IsWord.ensures ∙ q.if2.false) _ r.run.ensures
+    run_is _ _ _ _ _ _ _ _ (sym c.is_agreed.ensures ∙ c.if-not-is_agreed.false)
+    (ap (λ (x : Kind). is_word_role x.role) (sym c.kind_of-kind.ensures) ∙ sym c.is_word.ensures ∙ c.if-is_word.false) _ c.run.ensures
 
 pub take_spec : {M : Type 1} → statement M
 take_spec =

@@ -4,14 +4,14 @@ use borrow.Author.Rules.{rules}
 use Rattle.salvage.proofs.record.unless_same.Statement.{statement}
 use Rattle.salvage.proofs.record.unless_same.Tie as tie
 
-returns : tie.Need-returns
-returns c = rw (eq-eqb _ _ c.if1.true)
+returns : tie.Need-returns-then-g-h
+returns c = rw (eq-eqb _ _ c.if-g-h.true)
 
 counted-requires : tie.Need-counted-requires
 counted-requires c κs = search rules
 
-returns-2 : tie.Need-returns-2
-returns-2 c = rw (ne_eqb _ _ c.before.if1.false) c.counted.ensures
+returns-2 : tie.Need-returns
+returns-2 c = rw (ne_eqb _ _ c.if-g-h.false) c.counted.ensures
 
-pub unless-same-spec : {M : Type 1} → statement M
-unless-same-spec = tie.close (tie.spec returns counted-requires returns-2)
+pub unless_same_spec : {M : Type 1} → statement M
+unless_same_spec = tie.close (tie.spec returns counted-requires returns-2)

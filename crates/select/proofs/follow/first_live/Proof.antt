@@ -11,57 +11,54 @@ use Rattle.select.proofs.Followed.{head-here, head-later}
 use Rattle.select.proofs.follow.first_live.Statement.{statement}
 use Rattle.select.proofs.follow.first_live.Tie as tie
 
-abbrev invariant-loop : tie.invariant-loop
-invariant-loop keys s₀ s = (s ≤ 16) × (head_of (live_of (sums_in keys)) ≡ head_of (reached_of (sums_in keys) (range s (16 - s))))
+abbrev invariant-loop-s : tie.invariant-loop-s
+invariant-loop-s keys s₀ s = (s ≤ 16) × (head_of (live_of (sums_in keys)) ≡ head_of (reached_of (sums_in keys) (range s (16 - s))))
 
-abbrev decreases-loop : tie.decreases-loop
-decreases-loop keys s₀ s = 16 - s
+abbrev decreases-loop-s : tie.decreases-loop-s
+decreases-loop-s keys s₀ s = 16 - s
 
-loop-holds : tie.Need-loop-init invariant-loop decreases-loop
+loop-holds : tie.Need-loop-s-init invariant-loop-s decreases-loop-s
 unfolding live_of
 loop-holds c = (omega arith, refl)
 
-mul-if1 : tie.Need-overflow-mul-if1 invariant-loop decreases-loop
+mul-if1 : tie.Need-offset_bounds-keys-s invariant-loop-s decreases-loop-s
 mul-if1 c = omega arith
 
-element-copy-out-if1 : tie.Need-element-copy-out-if1 invariant-loop decreases-loop
+element-copy-out-if1 : tie.Need-bounds-keys-s invariant-loop-s decreases-loop-s
 element-copy-out-if1 c = omega arith
 
-returns : tie.Need-returns invariant-loop decreases-loop
+returns : tie.Need-returns-then-keys-s-lt-LIMIT invariant-loop-s decreases-loop-s
 returns c =
-    let at = c.before.before.before in
-    let more = c.before.before.loop-test.true in
-    let keys = at.before.args.keys.now in
-    let here : get_or (sums_in keys) at.loop.s 0 < limit = omega (arith, sum-at keys at.loop.s more, c.if1.true) in
-    (sym (at.loop.invariant.1 ∙ head-here (sums_in keys) at.loop.s more here), more)
+    let more = c.loop-s-test.true in
+    let keys = c.args.keys.now in
+    let here : get_or (sums_in keys) c.loop-s.s 0 < limit = omega (arith, sum-at keys c.loop-s.s more, c.if-keys-s-lt-LIMIT.true) in
+    (sym (c.loop-s.invariant.1 ∙ head-here (sums_in keys) c.loop-s.s more here), more)
 
-add-s : tie.Need-overflow-add-s invariant-loop decreases-loop
+add-s : tie.Need-overflow_add-s invariant-loop-s decreases-loop-s
 add-s c = omega arith
 
-loop-less : tie.Need-loop-smaller invariant-loop decreases-loop
+loop-less : tie.Need-loop-s-smaller invariant-loop-s decreases-loop-s
 loop-less c = omega arith
 
-loop-again : tie.Need-loop-preserved invariant-loop decreases-loop
+loop-again : tie.Need-loop-s-preserved invariant-loop-s decreases-loop-s
 loop-again c =
-    let at = c.before.before.before in
-    let more = c.before.before.loop-test.true in
-    let keys = at.before.args.keys.now in
-    let later : limit ≤ get_or (sums_in keys) at.loop.s 0 = omega (arith, sum-at keys at.loop.s more, c.if1.false) in
-    (omega arith, at.loop.invariant.1 ∙ head-later (sums_in keys) at.loop.s more later)
+    let more = c.loop-s-test.true in
+    let keys = c.args.keys.now in
+    let later : limit ≤ get_or (sums_in keys) c.loop-s.s 0 = omega (arith, sum-at keys c.loop-s.s more, c.if-keys-s-lt-LIMIT.false) in
+    (omega arith, c.loop-s.invariant.1 ∙ head-later (sums_in keys) c.loop-s.s more later)
 
-returns-2 : tie.Need-returns-2 invariant-loop decreases-loop
+returns-2 : tie.Need-returns invariant-loop-s decreases-loop-s
 unfolding reached_of range
 returns-2 c =
-    let at = c.before in
-    let none : 16 - at.loop.s ≡ 0 = omega arith in
-    (sym (at.loop.invariant.1 ∙ ap (λ (n : ℕ). head_of (reached_of (sums_in at.before.args.keys.now) (range at.loop.s n))) none), omega arith)
+    let none : 16 - c.loop-s.s ≡ 0 = omega arith in
+    (sym (c.loop-s.invariant.1 ∙ ap (λ (n : ℕ). head_of (reached_of (sums_in c.args.keys.now) (range c.loop-s.s n))) none), omega arith)
 
-pub first-live-spec : {M : Type 1} → statement M
-first-live-spec =
+pub first_live_spec : {M : Type 1} → statement M
+first_live_spec =
     tie.close
     (tie.spec
-    invariant-loop
-    decreases-loop
+    invariant-loop-s
+    decreases-loop-s
     loop-holds
     mul-if1
     element-copy-out-if1

@@ -13,59 +13,56 @@ use Rattle.select.proofs.CodeSelect.{low_fits, kept-is}
 use Rattle.select.proofs.follow.kept.Statement.{statement}
 use Rattle.select.proofs.follow.kept.Tie as tie
 
-abbrev invariant-loop : tie.invariant-loop
-invariant-loop keys low all₀ s₀ all s = (s ≤ 16) × (length all₀ ≡ 16) × (all ≡ tabled (lowered (sums_in keys)) s ++ drop s all₀)
+abbrev invariant-loop-s : tie.invariant-loop-s
+invariant-loop-s keys low all₀ s₀ all s = (s ≤ 16) × (length all₀ ≡ 16) × (all ≡ tabled (lowered (sums_in keys)) s ++ drop s all₀)
 
-abbrev decreases-loop : tie.decreases-loop
-decreases-loop keys low all₀ s₀ all s = 16 - s
+abbrev decreases-loop-s : tie.decreases-loop-s
+decreases-loop-s keys low all₀ s₀ all s = 16 - s
 
-loop-holds : tie.Need-loop-init invariant-loop decreases-loop
+loop-holds : tie.Need-loop-s-init invariant-loop-s decreases-loop-s
 unfolding tabled
 loop-holds c = (omega arith, refl, refl)
 
-mul-sum-if-reached : tie.Need-overflow-mul-sum-if-reached invariant-loop decreases-loop
+mul-sum-if-reached : tie.Need-offset_bounds-keys-s invariant-loop-s decreases-loop-s
 mul-sum-if-reached c = omega arith
 
-element-copy-out-sum-if-reached : tie.Need-element-copy-out-sum-if-reached invariant-loop decreases-loop
+element-copy-out-sum-if-reached : tie.Need-bounds-keys-s invariant-loop-s decreases-loop-s
 element-copy-out-sum-if-reached c = omega arith
 
-sum-if-reached-requires : tie.Need-sum-if-reached-requires invariant-loop decreases-loop
+sum-if-reached-requires : tie.Need-sum_if_reached-requires invariant-loop-s decreases-loop-s
 sum-if-reached-requires c κs =
-    let at = c.before.before in
-    low_fits at.before.args.keys.now at.loop.s c.before.loop-test.true at.before.args.low at.before.requires
+    low_fits c.args.keys.now c.loop-s.s c.loop-s-test.true c.args.low c.requires
 
-mul-all : tie.Need-overflow-mul-all invariant-loop decreases-loop
+mul-all : tie.Need-offset_bounds-all-s invariant-loop-s decreases-loop-s
 mul-all c = omega arith
 
-array-write-all : tie.Need-array-write-all invariant-loop decreases-loop
+array-write-all : tie.Need-bounds-all-s invariant-loop-s decreases-loop-s
 array-write-all c = omega arith
 
-add-s : tie.Need-overflow-add-s invariant-loop decreases-loop
+add-s : tie.Need-overflow_add-s invariant-loop-s decreases-loop-s
 add-s c = omega arith
 
-loop-less : tie.Need-loop-smaller invariant-loop decreases-loop
+loop-less : tie.Need-loop-s-smaller invariant-loop-s decreases-loop-s
 loop-less c = omega arith
 
-loop-again : tie.Need-loop-preserved invariant-loop decreases-loop
+loop-again : tie.Need-loop-s-preserved invariant-loop-s decreases-loop-s
 loop-again c =
-    let at = c.before.before.before in
-    let a = at.before.args in
-    let x = kept-is a.keys.now at.loop.s c.before.before.loop-test.true a.low c.sum-if-reached.result at.before.requires c.sum-if-reached.ensures in
-    (omega arith, at.loop.invariant.1, rw (at.loop.invariant.2, x, add-one at.loop.s) (tabled-more (lowered (sums_in a.keys.now)) at.loop.s _ (omega arith)))
+    let a = c.args in
+    let x = kept-is a.keys.now c.loop-s.s c.loop-s-test.true a.low c.sum_if_reached.result c.requires c.sum_if_reached.ensures in
+    (omega arith, c.loop-s.invariant.1, rw (c.loop-s.invariant.2, x, add-one c.loop-s.s) (tabled-more (lowered (sums_in a.keys.now)) c.loop-s.s _ (omega arith)))
 
-returns : tie.Need-returns invariant-loop decreases-loop
+returns : tie.Need-returns invariant-loop-s decreases-loop-s
 unfolding tabled
 returns c =
-    let at = c.before in
-    let end : at.loop.s ≡ 16 = omega arith in
-    at.loop.invariant.2 ∙ rw end
+    let end : c.loop-s.s ≡ 16 = omega arith in
+    c.loop-s.invariant.2 ∙ rw end
 
-pub kept-spec : {M : Type 1} → statement M
-kept-spec =
+pub kept_spec : {M : Type 1} → statement M
+kept_spec =
     tie.close
     (tie.spec
-    invariant-loop
-    decreases-loop
+    invariant-loop-s
+    decreases-loop-s
     loop-holds
     mul-sum-if-reached
     element-copy-out-sum-if-reached

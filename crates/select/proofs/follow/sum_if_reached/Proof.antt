@@ -4,14 +4,14 @@ use borrow.Author.Tests.{lt-ltb, le-ltb}
 use Rattle.select.proofs.follow.sum_if_reached.Statement.{statement}
 use Rattle.select.proofs.follow.sum_if_reached.Tie as tie
 
-sub-result : tie.Need-overflow-sub-result
+sub-result : tie.Need-overflow_sub-result
 sub-result c = search rules
 
-returns : tie.Need-returns
-returns c = rw (lt-ltb _ _ c.if1.true)
+returns : tie.Need-returns-then-key-lt-LIMIT
+returns c = rw (lt-ltb _ _ c.if-key-lt-LIMIT.true)
 
-returns-2 : tie.Need-returns-2
-returns-2 c = rw (le-ltb _ _ c.if1.false)
+returns-2 : tie.Need-returns-else-key-lt-LIMIT
+returns-2 c = rw (le-ltb _ _ c.if-key-lt-LIMIT.false)
 
-pub sum-if-reached-spec : {M : Type 1} → statement M
-sum-if-reached-spec = tie.close (tie.spec sub-result returns returns-2)
+pub sum_if_reached_spec : {M : Type 1} → statement M
+sum_if_reached_spec = tie.close (tie.spec sub-result returns returns-2)

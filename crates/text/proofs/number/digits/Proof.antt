@@ -8,77 +8,77 @@ use Rattle.text.proofs.Digits.{Reads, started, further, other_byte, too_large, a
 use Rattle.text.proofs.number.digits.Statement.{statement}
 use Rattle.text.proofs.number.digits.Tie as tie
 
-abbrev invariant-loop : tie.invariant-loop
-invariant-loop s base most n₀ i₀ n i = (i ≤ length s) × (n ≤ most) × Reads base s n i
+abbrev invariant-loop-i : tie.invariant-loop-i
+invariant-loop-i s base most n₀ i₀ n i = (i ≤ length s) × (n ≤ most) × Reads base s n i
 
-abbrev decreases-loop : tie.decreases-loop
-decreases-loop s base most n₀ i₀ n i = length s - i
+abbrev decreases-loop-i : tie.decreases-loop-i
+decreases-loop-i s base most n₀ i₀ n i = length s - i
 
-returns : tie.Need-returns invariant-loop decreases-loop
-returns c = no_bytes _ _ _ c.if1.true
+returns : tie.Need-returns-then-s-eq0 invariant-loop-i decreases-loop-i
+returns c = no_bytes _ _ _ c.if-s-eq0.true
 
-loop-holds : tie.Need-loop-init invariant-loop decreases-loop
+loop-holds : tie.Need-loop-i-init invariant-loop-i decreases-loop-i
 loop-holds c = (omega arith, omega arith, started _ _)
 
-shared-slice-read-digit : tie.Need-shared-slice-read-digit invariant-loop decreases-loop
+shared-slice-read-digit : tie.Need-bounds-s-i invariant-loop-i decreases-loop-i
 shared-slice-read-digit c = search rules
 
-digit-requires : tie.Need-digit-requires invariant-loop decreases-loop
+digit-requires : tie.Need-digit-d-requires invariant-loop-i decreases-loop-i
 digit-requires c κs = search rules
 
-returns-2 : tie.Need-returns-2 invariant-loop decreases-loop
+returns-2 : tie.Need-returns-then-base-d invariant-loop-i decreases-loop-i
 returns-2 c =
-    other_byte c.before.before.before.before.loop.invariant.2 _ _ c.before.before.before.loop-test.true c.before.digit.ensures c.if2.true
+    other_byte c.loop-i.invariant.2 _ _ c.loop-i-test.true c.digit-d.ensures c.if-base-d.true
 
 -- the way back, from a place in the code to one that comes before it
-abbrev to-loop : tie.Else2 invariant-loop decreases-loop → tie.At-loop invariant-loop decreases-loop
+abbrev to-loop : tie.Else-base-d invariant-loop-i decreases-loop-i → tie.At-loop-i invariant-loop-i decreases-loop-i
 to-loop c = c.before.before.before.before
 
-mul-n : tie.Need-overflow-mul-n invariant-loop decreases-loop
+mul-n : tie.Need-overflow_mul-n invariant-loop-i decreases-loop-i
 mul-n c =
     record {
       fits =
-          omega (arith, mul-le-mul (to-loop c).loop.invariant.1 (to-loop c).before.before.before.requires.1);
+          omega (arith, mul-le-mul c.loop-i.invariant.1 c.requires.1);
     }
 
-add-n : tie.Need-overflow-add-n invariant-loop decreases-loop
+add-n : tie.Need-overflow_add-n invariant-loop-i decreases-loop-i
 add-n c =
     record {
       fits =
-          omega (arith, mul-le-mul (to-loop c).loop.invariant.1 (to-loop c).before.before.before.requires.1);
+          omega (arith, mul-le-mul c.loop-i.invariant.1 c.requires.1);
     }
 
-returns-3 : tie.Need-returns-3 invariant-loop decreases-loop
+returns-3 : tie.Need-returns-then-most-n invariant-loop-i decreases-loop-i
 returns-3 c =
     too_large
-    (further (to-loop c.before).loop.inv.2 c.before.before.before.before.loop-test.true c.before.before.digit.ensures c.before.if2.false)
-    _ (search rules) c.if3.true
+    (further c.loop-i.invariant.2 c.loop-i-test.true c.digit-d.ensures c.if-base-d.false)
+    _ (search rules) c.if-most-n.true
 
-add-i : tie.Need-overflow-add-i invariant-loop decreases-loop
+add-i : tie.Need-overflow_add-i invariant-loop-i decreases-loop-i
 add-i c = search rules
 
-loop-less : tie.Need-loop-smaller invariant-loop decreases-loop
+loop-less : tie.Need-loop-i-smaller invariant-loop-i decreases-loop-i
 loop-less c = omega arith
 
-loop-again : tie.Need-loop-preserved invariant-loop decreases-loop
+loop-again : tie.Need-loop-i-preserved invariant-loop-i decreases-loop-i
 loop-again c = (
   omega arith,
   omega arith,
-  further (to-loop c.before).loop.inv.2 c.before.before.before.before.loop-test.true c.before.before.digit.ensures c.before.if2.false,
+  further c.loop-i.invariant.2 c.loop-i-test.true c.digit-d.ensures c.if-base-d.false,
 )
 
-cast-t14 : tie.Need-overflow-cast-t14 invariant-loop decreases-loop
+cast-t14 : tie.Need-overflow_cast-result invariant-loop-i decreases-loop-i
 cast-t14 c = search rules
 
-returns-4 : tie.Need-returns-4 invariant-loop decreases-loop
-returns-4 c = all_read c.before.loop.invariant.2 _ c.loop-test.false (omega arith) c.before.loop.invariant.1
+returns-4 : tie.Need-returns invariant-loop-i decreases-loop-i
+returns-4 c = all_read c.loop-i.invariant.2 _ c.loop-i-test.false (omega arith) c.loop-i.invariant.1
 
-pub digits-spec : {M : Type 1} → statement M
-digits-spec =
+pub digits_spec : {M : Type 1} → statement M
+digits_spec =
     tie.close
     (tie.spec
-    invariant-loop
-    decreases-loop
+    invariant-loop-i
+    decreases-loop-i
     returns
     loop-holds
     shared-slice-read-digit

@@ -4,17 +4,17 @@ use borrow.Author.Rules.{rules}
 use Rattle.text.proofs.number.minus.Statement.{statement}
 use Rattle.text.proofs.number.minus.Tie as tie
 
-cast-result : tie.Need-overflow-cast-result
+cast-result : tie.Need-overflow_cast-result
 cast-result c = search rules
 
-sub-result : tie.Need-overflow-sub-result
+sub-result : tie.Need-overflow_sub-result
 sub-result c = minus-64 c.args.n c.requires
 
-cast-result-2 : tie.Need-overflow-cast-result-2
+cast-result-2 : tie.Need-overflow_cast-result-2
 cast-result-2 c = minus-32 c.args.n c.requires
 
 returns : tie.Need-returns
 returns c = minus-result c.args.n c.requires
 
-pub minus-spec : {M : Type 1} → statement M
-minus-spec = tie.close (tie.spec cast-result sub-result cast-result-2 returns)
+pub minus_spec : {M : Type 1} → statement M
+minus_spec = tie.close (tie.spec cast-result sub-result cast-result-2 returns)

@@ -21,75 +21,75 @@ below-zero n = neg_ℤ (pos n)
 told : (f : ℕ → ℤ) {r k o : Number} {w : Whole} → r ≡ k → r ≡ o → signed f o ≡ w → signed f k ≡ w
 told f e h w = ap (signed f) (sym e ∙ h) ∙ w
 
-returns : tie.Need-returns
-returns c = no_whole _ c.if1.true
+returns : tie.Need-returns-then-s-eq0
+returns c = no_whole _ c.if-s-eq0.true
 
-shared-slice-read-if2 : tie.Need-shared-slice-read-if2
+shared-slice-read-if2 : tie.Need-bounds-s-0
 shared-slice-read-if2 c = search rules
 
-sub-decimal : tie.Need-overflow-sub-decimal
+sub-decimal : tie.Need-slice_bounds-decimal-count
 sub-decimal c = search rules
 
-part-decimal-start : tie.Need-slice-bounds-decimal-start
+part-decimal-start : tie.Need-slice_bounds-decimal-start
 part-decimal-start c = search rules
 
-part-decimal-end : tie.Need-slice-bounds-decimal-end
+part-decimal-end : tie.Need-slice_bounds-decimal-end
 part-decimal-end c = search rules
 
 decimal-requires : tie.Need-decimal-requires
 decimal-requires c κs = search rules
 
-enum-known-n : tie.Need-enum-known-n
+enum-known-n : tie.Need-enum_known-n
 enum-known-n c = search rules
 
-enum_told : tie.Need-enum-told
+enum_told : tie.Need-enum_told-1
 enum_told c = search rules
 
-returns-2 : tie.Need-returns-2
+returns-2 : tie.Need-returns-in_default
 returns-2 c =
-    told below-zero c.enum_told.given.1 c.before.before.decimal.ensures
-    (minus-whole _ c.before.before.before.before.before.before.if1.false c.before.before.before.before.if2.true)
+    told below-zero c.in_default.is c.decimal.ensures
+    (minus-whole _ c.if-s-eq0.false c.if-s-eq45.true)
 
 minus-requires : tie.Need-minus-requires
-minus-requires c κs = got-most 10 2147483648 _ (sym c.before.n.given.1 ∙ c.before.before.before.decimal.ensures)
+minus-requires c κs = got-most 10 2147483648 _ (sym c.in-Got.is ∙ c.decimal.ensures)
 
-returns-3 : tie.Need-returns-3
+returns-3 : tie.Need-returns-then-s-eq45
 returns-3 c =
     ap whole.Got (to_z-of_z w32 _ (search rules) ∙ c.minus.ensures)
-    ∙ told below-zero c.before.before.n.given.1 c.before.before.before.before.decimal.ensures
-    (minus-whole _ c.before.before.before.before.before.before.before.before.if1.false c.before.before.before.before.before.before.if2.true)
+    ∙ told below-zero c.in-Got.is c.decimal.ensures
+    (minus-whole _ c.if-s-eq0.false c.if-s-eq45.true)
 
 decimal-requires-2 : tie.Need-decimal-requires-2
 decimal-requires-2 c κs = search rules
 
-enum-known-n-2 : tie.Need-enum-known-n-2
+enum-known-n-2 : tie.Need-enum_known-n-in-Got-decimal-2
 enum-known-n-2 c = search rules
 
-enum-told-2 : tie.Need-enum-told-2
+enum-told-2 : tie.Need-enum_told-in_default-decimal
 enum-told-2 c = search rules
 
-returns-4 : tie.Need-returns-4
+returns-4 : tie.Need-returns-in_default-decimal
 returns-4 c =
-    told pos c.enum-told2.given.1 c.before.before.decimal2.ensures
-    (plain-whole _ c.before.before.before.before.before.if1.false c.before.before.before.if2.false)
+    told pos c.in_default-decimal.is c.decimal-2.ensures
+    (plain-whole _ c.if-s-eq0.false c.if-s-eq45.false)
 
-cast-t15 : tie.Need-overflow-cast-t15
+cast-t15 : tie.Need-overflow_cast-result
 cast-t15 c =
     record {
       sfits = omega (
         arith,
-        got-most 10 2147483647 c.before.before.before.before.before.before.before.before.args.s.now (sym c.before.n2.given.1 ∙ c.before.before.before.decimal2.ensures),
+        got-most 10 2147483647 c.args.s.now (sym c.in-Got-decimal.is ∙ c.decimal-2.ensures),
       );
     }
 
-returns-5 : tie.Need-returns-5
+returns-5 : tie.Need-returns
 returns-5 c =
     ap whole.Got (to_z-of_z w32 _ (cast-t15 c))
-    ∙ told pos c.before.n2.given.1 c.before.before.before.decimal2.ensures
-    (plain-whole _ c.before.before.before.before.before.before.if1.false c.before.before.before.before.if2.false)
+    ∙ told pos c.in-Got-decimal.is c.decimal-2.ensures
+    (plain-whole _ c.if-s-eq0.false c.if-s-eq45.false)
 
-pub signed-spec : {M : Type 1} → statement M
-signed-spec =
+pub signed_spec : {M : Type 1} → statement M
+signed_spec =
     tie.close
     (tie.spec
     returns

@@ -6,39 +6,39 @@ use borrow.Author.Rules.{rules}
 use Rattle.text.proofs.token.before.Statement.{statement}
 use Rattle.text.proofs.token.before.Tie as tie
 
-abbrev invariant-loop : tie.invariant-loop
-invariant-loop s b i₀ i = Passed s b i
+abbrev invariant-loop-i : tie.invariant-loop-i
+invariant-loop-i s b i₀ i = Passed s b i
 
-abbrev decreases-loop : tie.decreases-loop
-decreases-loop s b i₀ i = length s - i
+abbrev decreases-loop-i : tie.decreases-loop-i
+decreases-loop-i s b i₀ i = length s - i
 
-loop-holds : tie.Need-loop-init invariant-loop decreases-loop
+loop-holds : tie.Need-loop-i-init invariant-loop-i decreases-loop-i
 loop-holds c = none_yet _ _
 
-shared-slice-read-if1 : tie.Need-shared-slice-read-if1 invariant-loop decreases-loop
+shared-slice-read-if1 : tie.Need-bounds-s-i invariant-loop-i decreases-loop-i
 shared-slice-read-if1 c = search rules
 
-returns : tie.Need-returns invariant-loop decreases-loop
-returns c = found c.before.before.before.loop.invariant c.before.before.loop-test.true c.if1.true
+returns : tie.Need-returns-then-s-i invariant-loop-i decreases-loop-i
+returns c = found c.loop-i.invariant c.loop-i-test.true c.if-s-i.true
 
-add-i : tie.Need-overflow-add-i invariant-loop decreases-loop
+add-i : tie.Need-overflow_add-i invariant-loop-i decreases-loop-i
 add-i c = search rules
 
-loop-less : tie.Need-loop-smaller invariant-loop decreases-loop
+loop-less : tie.Need-loop-i-smaller invariant-loop-i decreases-loop-i
 loop-less c = search rules
 
-loop-again : tie.Need-loop-preserved invariant-loop decreases-loop
-loop-again c = passed c.before.before.before.loop.invariant c.before.before.loop-test.true c.if1.false
+loop-again : tie.Need-loop-i-preserved invariant-loop-i decreases-loop-i
+loop-again c = passed c.loop-i.invariant c.loop-i-test.true c.if-s-i.false
 
-returns-2 : tie.Need-returns-2 invariant-loop decreases-loop
-returns-2 c = not_there c.before.loop.invariant c.loop-test.false
+returns-2 : tie.Need-returns invariant-loop-i decreases-loop-i
+returns-2 c = not_there c.loop-i.invariant c.loop-i-test.false
 
-pub before-spec : {M : Type 1} → statement M
-before-spec =
+pub before_spec : {M : Type 1} → statement M
+before_spec =
     tie.close
     (tie.spec
-    invariant-loop
-    decreases-loop
+    invariant-loop-i
+    decreases-loop-i
     loop-holds
     shared-slice-read-if1
     returns

@@ -9,46 +9,46 @@ use borrow.Author.Rules.{rules}
 use Rattle.text.proofs.token.same.Statement.{statement}
 use Rattle.text.proofs.token.same.Tie as tie
 
-abbrev invariant-loop : tie.invariant-loop
-invariant-loop a b i₀ i = (i ≤ length a) × (same_bytes (drop i a) (drop i b) ≡ same_bytes a b)
+abbrev invariant-loop-i : tie.invariant-loop-i
+invariant-loop-i a b i₀ i = (i ≤ length a) × (same_bytes (drop i a) (drop i b) ≡ same_bytes a b)
 
-abbrev decreases-loop : tie.decreases-loop
-decreases-loop a b i₀ i = length a - i
+abbrev decreases-loop-i : tie.decreases-loop-i
+decreases-loop-i a b i₀ i = length a - i
 
-returns : tie.Need-returns invariant-loop decreases-loop
-returns c = other_length c.before.args.a.now c.before.args.b.now c.if1.true
+returns : tie.Need-returns-then-a-b invariant-loop-i decreases-loop-i
+returns c = other_length c.args.a.now c.args.b.now c.if-a-b.true
 
-loop-holds : tie.Need-loop-init invariant-loop decreases-loop
+loop-holds : tie.Need-loop-i-init invariant-loop-i decreases-loop-i
 loop-holds c = (omega arith, refl)
 
-shared-slice-read-if2 : tie.Need-shared-slice-read-if2 invariant-loop decreases-loop
+shared-slice-read-if2 : tie.Need-bounds-a-i invariant-loop-i decreases-loop-i
 shared-slice-read-if2 c = search rules
 
-shared-slice-read-if2-2 : tie.Need-shared-slice-read-if2-2 invariant-loop decreases-loop
+shared-slice-read-if2-2 : tie.Need-bounds-b-i invariant-loop-i decreases-loop-i
 shared-slice-read-if2-2 c = search rules
 
-returns-2 : tie.Need-returns-2 invariant-loop decreases-loop
-returns-2 c = sym (differ _ _ _ c.before.before.before.before.before.if1.false c.before.before.before.loop-test.true c.if2.true) ∙ c.before.before.before.before.loop.invariant.1
+returns-2 : tie.Need-returns-then-a-i invariant-loop-i decreases-loop-i
+returns-2 c = sym (differ _ _ _ c.if-a-b.false c.loop-i-test.true c.if-a-i.true) ∙ c.loop-i.invariant.1
 
-add-i : tie.Need-overflow-add-i invariant-loop decreases-loop
+add-i : tie.Need-overflow_add-i invariant-loop-i decreases-loop-i
 add-i c = search rules
 
-loop-less : tie.Need-loop-smaller invariant-loop decreases-loop
+loop-less : tie.Need-loop-i-smaller invariant-loop-i decreases-loop-i
 loop-less c = search rules
 
-loop-again : tie.Need-loop-preserved invariant-loop decreases-loop
+loop-again : tie.Need-loop-i-preserved invariant-loop-i decreases-loop-i
 loop-again c =
-    (omega arith, agree _ _ _ c.before.before.before.before.before.if1.false c.before.before.before.loop-test.true c.if2.false ∙ c.before.before.before.before.loop.invariant.1)
+    (omega arith, agree _ _ _ c.if-a-b.false c.loop-i-test.true c.if-a-i.false ∙ c.loop-i.invariant.1)
 
-returns-3 : tie.Need-returns-3 invariant-loop decreases-loop
-returns-3 c = sym (all-agree _ _ _ c.before.before.if1.false c.loop-test.false) ∙ c.before.loop.invariant.1
+returns-3 : tie.Need-returns invariant-loop-i decreases-loop-i
+returns-3 c = sym (all-agree _ _ _ c.if-a-b.false c.loop-i-test.false) ∙ c.loop-i.invariant.1
 
 pub same_spec : {M : Type 1} → statement M
 same_spec =
     tie.close
     (tie.spec
-    invariant-loop
-    decreases-loop
+    invariant-loop-i
+    decreases-loop-i
     returns
     loop-holds
     shared-slice-read-if2

@@ -10,5 +10,5 @@ returns : tie.Need-returns
 unfolding before
 returns c = equal2 16 4 (λ t k. bit_or (k * 4 % 2 ^ 32) (t / 4)) before tt c.args.t c.args.k c.requires.0 c.requires.1
 
-pub before-state-spec : {M : Type 1} → statement M
-before-state-spec = tie.close (tie.spec returns)
+pub before_state_spec : {M : Type 1} → statement M
+before_state_spec = tie.close (tie.spec returns)

@@ -16,5 +16,5 @@ returns : tie.Need-returns
 unfolding code next_state
 returns c = equal3 16 2 2 code next_state tt c.args.s c.args.i1 c.args.i2 c.requires.0 c.requires.1 c.requires.2
 
-pub next-spec : {M : Type 1} → statement M
-next-spec = tie.close (tie.spec returns)
+pub next_spec : {M : Type 1} → statement M
+next_spec = tie.close (tie.spec returns)

@@ -16,5 +16,5 @@ returns : tie.Need-returns
 unfolding code between carry_i1 carry_i2
 returns c = equal2 16 16 code between tt c.args.s c.args.t c.requires.0 c.requires.1
 
-pub subset-between-spec : {M : Type 1} → statement M
-subset-between-spec = tie.close (tie.spec returns)
+pub subset_between_spec : {M : Type 1} → statement M
+subset_between_spec = tie.close (tie.spec returns)

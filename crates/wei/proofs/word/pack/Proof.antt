@@ -4,14 +4,14 @@ use borrow.Author.Rules.{rules}
 use Rattle.wei.proofs.word.pack.Statement.{statement}
 use Rattle.wei.proofs.word.pack.Tie as tie
 
-add-result : tie.Need-overflow-add-result
+add-result : tie.Need-overflow_add-result
 add-result c = search rules
 
-shl-result : tie.Need-overflow-shl-result
+shl-result : tie.Need-overflow_shl-result-4
 shl-result c = search rules
 
 returns : tie.Need-returns
-returns c = let s = c.before.before.before.before.before in joined s.args.u s.args.p s.requires.0 s.requires.1
+returns c = joined c.args.u c.args.p c.requires.0 c.requires.1
 
-pub pack-spec : {M : Type 1} → statement M
-pack-spec = tie.close (tie.spec add-result shl-result returns)
+pub pack_spec : {M : Type 1} → statement M
+pack_spec = tie.close (tie.spec add-result shl-result returns)

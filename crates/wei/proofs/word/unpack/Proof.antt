@@ -9,16 +9,16 @@ use borrow.Author.Rules.{rules}
 use Rattle.wei.proofs.word.unpack.Statement.{statement}
 use Rattle.wei.proofs.word.unpack.Tie as tie
 
-shl-mask : tie.Need-overflow-shl-mask
+shl-mask : tie.Need-overflow_shl-mask
 shl-mask c = search rules
 
-sub-mask : tie.Need-overflow-sub-mask
+sub-mask : tie.Need-overflow_sub-mask
 sub-mask c = omega (arith, bit_at c.args.u c.requires, pow_pos c.args.u)
 
-add-t11 : tie.Need-overflow-add-t11
+add-t11 : tie.Need-overflow_add-result
 add-t11 c = search rules
 
-shr-t12 : tie.Need-overflow-shr-t12
+shr-t12 : tie.Need-overflow_shr-result-4
 shr-t12 c = search rules
 
 returns : tie.Need-returns
@@ -34,5 +34,5 @@ returns c =
       w2 = masked-w2 n u c.requires i;
     }
 
-pub unpack-spec : {M : Type 1} → statement M
-unpack-spec = tie.close (tie.spec shl-mask sub-mask add-t11 shr-t12 returns)
+pub unpack_spec : {M : Type 1} → statement M
+unpack_spec = tie.close (tie.spec shl-mask sub-mask add-t11 shr-t12 returns)

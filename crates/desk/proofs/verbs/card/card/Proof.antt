@@ -11,12 +11,12 @@ use Rattle.desk.proofs.verbs.card.card.Tie as tie
 card-requires : tie.Need-card-requires
 card-requires c κs = search rules
 
-same_length : tie.Need-same-length
+same_length : tie.Need-shape_of-page
 same_length c = search rules
 
 returns : tie.Need-returns
 unfolding acting
-returns c = let put = c.before.before.card.ensures in does refl refl refl (omega (arith, card-near c.before.before.before.before.before.args.accepted put)) put
+returns c = let put = c.card.ensures in does refl refl refl (omega (arith, card-near c.args.accepted put)) put
 
-pub card-spec : {M : Type 1} → statement M
-card-spec = tie.close (tie.spec card-requires same_length returns)
+pub card_spec : {M : Type 1} → statement M
+card_spec = tie.close (tie.spec card-requires same_length returns)

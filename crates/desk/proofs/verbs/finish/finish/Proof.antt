@@ -9,27 +9,26 @@ use borrow.Author.Rules.{rules}
 use Rattle.desk.proofs.verbs.finish.finish.Statement.{statement}
 use Rattle.desk.proofs.verbs.finish.finish.Tie as tie
 
-slice-relend-prefix-finished : tie.Need-slice-relend-prefix-finished
+slice-relend-prefix-finished : tie.Need-slice_bounds-finished-end
 slice-relend-prefix-finished c = search rules
 
-slice-aggregate-finished : tie.Need-slice-aggregate-finished
-slice-aggregate-finished c = sym (length-take-le _ _ c.before.before.before.requires.0)
+slice-aggregate-finished : tie.Need-slice_bounds-finished-end-2
+slice-aggregate-finished c = sym (length-take-le _ _ c.requires.0)
 
 finished-requires : tie.Need-finished-requires
-finished-requires c κs = omega (arith, short _ c.before.before.before.before.args.words.now c.before.before.before.before.requires.1, c.before.before.before.before.requires.2)
+finished-requires c κs = omega (arith, short _ c.args.words.now c.requires.1, c.requires.2)
 
-same_length : tie.Need-same-length
+same_length : tie.Need-shape_of-words
 same_length c = search rules
 
-same-length-2 : tie.Need-same-length-2
+same-length-2 : tie.Need-shape_of-page
 same-length-2 c = search rules
 
 returns : tie.Need-returns
 unfolding acting
 returns c =
-    let start = c.before.before.before.before.before.before.before.before.before in
-    at_cap (λ n. ran_gives start.args.desk (finishing start.args.desk.receiver n)) (length-take-le _ _ start.requires.0)
-    (within (omega (arith, short start.args.cap start.args.words.now start.requires.1)) c.before.before.before.before.finished.ensures)
+    at_cap (λ n. ran_gives c.args.desk (finishing c.args.desk.receiver n)) (length-take-le _ _ c.requires.0)
+    (within (omega (arith, short c.args.cap c.args.words.now c.requires.1)) c.finished.ensures)
 
 pub finish_spec : {M : Type 1} → statement M
 finish_spec =

@@ -10,58 +10,46 @@ use borrow.Author.Rules.{rules}
 use Rattle.desk.proofs.verbs.list.sent.Statement.{statement}
 use Rattle.desk.proofs.verbs.list.sent.Tie as tie
 
-send-list-requires : tie.Need-send-list-requires
+send-list-requires : tie.Need-send_list-sent-requires
 send-list-requires c κs = search rules
 
-mul-n : tie.Need-overflow-mul-n
+mul-n : tie.Need-overflow_mul-n
 mul-n c =
-    let d = c.before.before in
-    let s = d.before.before.before.before.before in
-    omega (arith, s.well-formed, list-room s.args.desk _ _ s.args.out.now d.send-list.ensures)
+    omega (arith, c.well_formed, list-room c.args.desk _ _ c.args.out.now c.send_list-sent.ensures)
 
 number-requires : tie.Need-number-requires
 number-requires c κs = search rules
 
-slice-reshare-prefix-list : tie.Need-slice-reshare-prefix-list
+slice-reshare-prefix-list : tie.Need-slice_bounds-list-end
 slice-reshare-prefix-list c =
-    let d = c.before.before.before.before in
-    let s = d.before.before.before.before.before in
-    omega (arith, d.send-list.auto.1.1.0, list-room s.args.desk _ _ s.args.out.now d.send-list.ensures)
+    omega (arith, c.send_list-sent.auto.out, list-room c.args.desk _ _ c.args.out.now c.send_list-sent.ensures)
 
-slice-aggregate-list : tie.Need-slice-aggregate-list
+slice-aggregate-list : tie.Need-slice_bounds-list-end-2
 slice-aggregate-list c =
-    let d = c.before.before.before.before.before in
-    let s = d.before.before.before.before.before in
-    sym (length-take-le _ _ (omega (arith, d.send-list.auto.1.1.0, list-room s.args.desk _ _ s.args.out.now d.send-list.ensures)))
+    sym (length-take-le _ _ (omega (arith, c.send_list-sent.auto.out, list-room c.args.desk _ _ c.args.out.now c.send_list-sent.ensures)))
 
-list-requires : tie.Need-list-requires
+list-requires : tie.Need-list-p-requires
 list-requires c κs =
-    let d = c.before.before.before.before.before in
-    let s = d.before.before.before.before.before in
-    omega (arith, s.requires, length-take (4 * d.send-list.result.sent) d.send-list.new.1.1.0, list-room s.args.desk _ _ s.args.out.now d.send-list.ensures)
+    omega (arith, c.requires, length-take (4 * c.send_list-sent.result.sent) c.send_list-sent.new.out, list-room c.args.desk _ _ c.args.out.now c.send_list-sent.ensures)
 
-with-sender-requires : tie.Need-with-sender-requires
+with-sender-requires : tie.Need-with_sender-requires
 with-sender-requires c κs = search rules
 
-same_length : tie.Need-same-length
+same_length : tie.Need-shape_of-out
 same_length c = search rules
 
-same-length-2 : tie.Need-same-length-2
+same-length-2 : tie.Need-shape_of-page
 same-length-2 c = search rules
 
 returns : tie.Need-returns
 returns c =
-    let put = c.before.before.before.before in
-    let n = put.before.before in
-    let d = n.before.before.before.before in
-    let s = d.before.before.before.before.before in
-    let few = list-room s.args.desk _ _ s.args.out.now d.send-list.ensures in
-    does c.with-sender.ensures (list-desk s.args.desk _ _ s.args.out.now d.send-list.ensures)
-    (list-text s.args.desk _ _ s.args.out.now d.send-list.ensures n.number.ensures)
-    (omega (arith, few, length-take (4 * d.send-list.result.sent) d.send-list.new.1.1.0, list-near _ _ _ put.list.ensures)) put.list.ensures
+    let few = list-room c.args.desk _ _ c.args.out.now c.send_list-sent.ensures in
+    does c.with_sender.ensures (list-desk c.args.desk _ _ c.args.out.now c.send_list-sent.ensures)
+    (list-text c.args.desk _ _ c.args.out.now c.send_list-sent.ensures c.number.ensures)
+    (omega (arith, few, length-take (4 * c.send_list-sent.result.sent) c.send_list-sent.new.out, list-near _ _ _ c.list-p.ensures)) c.list-p.ensures
 
-pub sent-spec : {M : Type 1} → statement M
-sent-spec =
+pub sent_spec : {M : Type 1} → statement M
+sent_spec =
     tie.close
     (tie.spec
     send-list-requires

@@ -6,25 +6,23 @@ use borrow.Author.Rules.{rules}
 use Rattle.desk.proofs.verbs.marked.heard.Statement.{statement}
 use Rattle.desk.proofs.verbs.marked.heard.Tie as tie
 
-hear-marked-requires : tie.Need-hear-marked-requires
+hear-marked-requires : tie.Need-hear_marked-heard-requires
 hear-marked-requires c κs = search rules
 
 answered-requires : tie.Need-answered-requires
 answered-requires c κs =
-    let call = c.before.before.before.before in
-    (omega (arith, hears-fit _ _ _ _ _ call.hear-marked.ensures, call.hear-marked.auto.1.1.1.0), omega (arith, call.hear-marked.auto.1.1.1.0))
+    (omega (arith, hears-fit _ _ _ _ _ c.hear_marked-heard.ensures, c.hear_marked-heard.auto.out), omega (arith, c.hear_marked-heard.auto.out))
 
-same_length : tie.Need-same-length
+same_length : tie.Need-shape_of-out
 same_length c = search rules
 
-same-length-2 : tie.Need-same-length-2
+same-length-2 : tie.Need-shape_of-page
 same-length-2 c = search rules
 
 returns : tie.Need-returns
 returns c =
-    let call = c.before.before.before.before.before.before.before in
-    within (omega (arith, call.hear-marked.auto.1.1.1.0)) (c.before.before.answered.ensures _ _ call.hear-marked.ensures.always)
+    within (omega (arith, c.hear_marked-heard.auto.out)) (c.answered.ensures _ _ c.hear_marked-heard.ensures.always)
 
-pub heard-spec : {M : Type 1} → statement M
-heard-spec =
+pub heard_spec : {M : Type 1} → statement M
+heard_spec =
     tie.close (tie.spec hear-marked-requires answered-requires same_length same-length-2 returns)

@@ -13,27 +13,26 @@ use Rattle.desk.proofs.verbs.open_receiver.opened.Tie as tie
 number-requires : tie.Need-number-requires
 number-requires c κs = search rules
 
-cast-number : tie.Need-overflow-cast-number
+cast-number : tie.Need-overflow_cast-number
 cast-number c = search rules
 
-number-requires-2 : tie.Need-number-requires-2
+number-requires-2 : tie.Need-number-p-requires
 number-requires-2 c κs = search rules
 
-with-receiver-requires : tie.Need-with-receiver-requires
+with-receiver-requires : tie.Need-with_receiver-requires
 with-receiver-requires c κs = search rules
 
-same_length : tie.Need-same-length
+same_length : tie.Need-shape_of-page
 same_length c = search rules
 
 returns : tie.Need-returns
 returns c =
     λ g given same.
-    let n = c.before.before.before.before in
-    does c.with-receiver.ensures (ap (with_receiver n.before.before.before.before.args.desk) same) (ap number_line (n.before.number.ensures ∙ ap (λ (r : Reason). r.number) given))
-    (omega (arith, number-near _ n.number2.ensures)) n.number2.ensures
+    does c.with_receiver.ensures (ap (with_receiver c.args.desk) same) (ap number_line (c.number.ensures ∙ ap (λ (r : Reason). r.number) given))
+    (omega (arith, number-near _ c.number-p.ensures)) c.number-p.ensures
 
-pub opened-spec : {M : Type 1} → statement M
-opened-spec =
+pub opened_spec : {M : Type 1} → statement M
+opened_spec =
     tie.close
     (tie.spec
     number-requires

@@ -9,19 +9,19 @@ use borrow.Author.Rules.{rules}
 use Rattle.desk.proofs.verbs.pending.pending.Statement.{statement}
 use Rattle.desk.proofs.verbs.pending.pending.Tie as tie
 
-pending-requires : tie.Need-pending-requires
+pending-requires : tie.Need-pending-n-requires
 pending-requires c κs = search rules
 
-number-requires : tie.Need-number-requires
+number-requires : tie.Need-number-p-requires
 number-requires c κs = search rules
 
-same_length : tie.Need-same-length
+same_length : tie.Need-shape_of-page
 same_length c = search rules
 
 returns : tie.Need-returns
 unfolding acting
 returns c =
-    does refl refl (ap number_line c.before.before.before.before.pending.ensures) (omega (arith, number-near _ c.before.before.number.ensures)) c.before.before.number.ensures
+    does refl refl (ap number_line c.pending-n.ensures) (omega (arith, number-near _ c.number-p.ensures)) c.number-p.ensures
 
-pub pending-spec : {M : Type 1} → statement M
-pending-spec = tie.close (tie.spec pending-requires number-requires same_length returns)
+pub pending_spec : {M : Type 1} → statement M
+pending_spec = tie.close (tie.spec pending-requires number-requires same_length returns)

@@ -11,35 +11,33 @@ use borrow.Author.Rules.{rules}
 use Rattle.desk.proofs.verbs.piece.hear.Statement.{statement}
 use Rattle.desk.proofs.verbs.piece.hear.Tie as tie
 
-slice-aggregate-heard : tie.Need-slice-aggregate-heard
-slice-aggregate-heard c = sym (length-take-le _ _ c.before.before.before.requires.2)
+slice-aggregate-heard : tie.Need-slice_bounds-heard-end
+slice-aggregate-heard c = sym (length-take-le _ _ c.requires.2)
 
-slice-relend-prefix-heard : tie.Need-slice-relend-prefix-heard
+slice-relend-prefix-heard : tie.Need-slice_bounds-heard-end-2
 slice-relend-prefix-heard c = search rules
 
-slice-aggregate-heard-2 : tie.Need-slice-aggregate-heard-2
-slice-aggregate-heard-2 c = sym (length-take-le _ _ c.before.before.before.before.requires.0)
+slice-aggregate-heard-2 : tie.Need-slice_bounds-heard-end-3
+slice-aggregate-heard-2 c = sym (length-take-le _ _ c.requires.0)
 
 heard-requires : tie.Need-heard-requires
 heard-requires c κs =
-    let start = c.before.before.before.before.before in
-    omega (arith, short _ start.args.words.now start.requires.1, start.requires.3)
+    omega (arith, short _ c.args.words.now c.requires.1, c.requires.3)
 
-same_length : tie.Need-same-length
+same_length : tie.Need-shape_of-words
 same_length c = search rules
 
-same-length-2 : tie.Need-same-length-2
+same-length-2 : tie.Need-shape_of-page
 same-length-2 c = search rules
 
 returns : tie.Need-returns
 unfolding acting
 returns c =
-    let start = c.before.before.before.before.before.before.before.before.before.before in
-    at_cap (λ n. ran_gives start.args.desk (hearing start.args.desk.receiver (piece_of (take start.args.count start.args.coordinates.now)) n)) (length-take-le _ _ start.requires.0)
-    (within (omega (arith, short start.args.cap start.args.words.now start.requires.1)) c.before.before.before.before.heard.ensures)
+    at_cap (λ n. ran_gives c.args.desk (hearing c.args.desk.receiver (piece_of (take c.args.count c.args.coordinates.now)) n)) (length-take-le _ _ c.requires.0)
+    (within (omega (arith, short c.args.cap c.args.words.now c.requires.1)) c.heard.ensures)
 
-pub hear-spec : {M : Type 1} → statement M
-hear-spec =
+pub hear_spec : {M : Type 1} → statement M
+hear_spec =
     tie.close
     (tie.spec
     slice-aggregate-heard

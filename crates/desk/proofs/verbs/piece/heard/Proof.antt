@@ -6,24 +6,22 @@ use borrow.Author.Rules.{rules}
 use Rattle.desk.proofs.verbs.piece.heard.Statement.{statement}
 use Rattle.desk.proofs.verbs.piece.heard.Tie as tie
 
-hear-requires : tie.Need-hear-requires
+hear-requires : tie.Need-hear-heard-requires
 hear-requires c κs = search rules
 
 answered-requires : tie.Need-answered-requires
 answered-requires c κs =
-    let call = c.before.before.before.before in
-    (omega (arith, hears-fit _ _ _ _ _ call.hear.ensures, call.hear.auto.1.1.0), omega (arith, call.hear.auto.1.1.0))
+    (omega (arith, hears-fit _ _ _ _ _ c.hear-heard.ensures, c.hear-heard.auto.out), omega (arith, c.hear-heard.auto.out))
 
-same_length : tie.Need-same-length
+same_length : tie.Need-shape_of-out
 same_length c = search rules
 
-same-length-2 : tie.Need-same-length-2
+same-length-2 : tie.Need-shape_of-page
 same-length-2 c = search rules
 
 returns : tie.Need-returns
 returns c =
-    let call = c.before.before.before.before.before.before.before in
-    within (omega (arith, call.hear.auto.1.1.0)) (c.before.before.answered.ensures _ _ call.hear.ensures.always)
+    within (omega (arith, c.hear-heard.auto.out)) (c.answered.ensures _ _ c.hear-heard.ensures.always)
 
-pub heard-spec : {M : Type 1} → statement M
-heard-spec = tie.close (tie.spec hear-requires answered-requires same_length same-length-2 returns)
+pub heard_spec : {M : Type 1} → statement M
+heard_spec = tie.close (tie.spec hear-requires answered-requires same_length same-length-2 returns)

@@ -9,30 +9,27 @@ use borrow.Author.Rules.{rules}
 use Rattle.desk.proofs.verbs.ran.answered.Statement.{statement}
 use Rattle.desk.proofs.verbs.ran.answered.Tie as tie
 
-slice-aggregate-heard : tie.Need-slice-aggregate-heard
-slice-aggregate-heard c = sym (length-take-le _ _ c.before.before.before.before.requires.0)
+slice-aggregate-heard : tie.Need-slice_bounds-heard-end
+slice-aggregate-heard c = sym (length-take-le _ _ c.requires.0)
 
-heard-requires : tie.Need-heard-requires
+heard-requires : tie.Need-heard-p-requires
 heard-requires c κs =
-    let start = c.before.before.before.before in
-    omega (arith, short start.args.a.written start.args.out.now start.requires.0, start.requires.1)
+    omega (arith, short c.args.a.written c.args.out.now c.requires.0, c.requires.1)
 
-with-receiver-requires : tie.Need-with-receiver-requires
+with-receiver-requires : tie.Need-with_receiver-requires
 with-receiver-requires c κs = search rules
 
-same_length : tie.Need-same-length
+same_length : tie.Need-shape_of-page
 same_length c = search rules
 
 returns : tie.Need-returns
 returns c =
     λ ran before is.
-    let heard = c.before.before.before.before in
-    let start = heard.before.before.before.before.before in
-    let few = short start.args.a.written start.args.out.now start.requires.0 in
-    does c.with-receiver.ensures (ap (with_receiver start.args.desk) is.receiver) (heard-text is)
-    (omega (arith, heard-near _ _ _ heard.heard.ensures)) heard.heard.ensures
+    let few = short c.args.a.written c.args.out.now c.requires.0 in
+    does c.with_receiver.ensures (ap (with_receiver c.args.desk) is.receiver) (heard-text is)
+    (omega (arith, heard-near _ _ _ c.heard-p.ensures)) c.heard-p.ensures
 
-pub answered-spec : {M : Type 1} → statement M
-answered-spec =
+pub answered_spec : {M : Type 1} → statement M
+answered_spec =
     tie.close
     (tie.spec slice-aggregate-heard heard-requires with-receiver-requires same_length returns)

@@ -5,18 +5,18 @@ use Rattle.desk.proofs.Floats.{no_nan, nan-heard}
 use Rattle.desk.proofs.verbs.sample.float_of.Statement.{statement}
 use Rattle.desk.proofs.verbs.sample.float_of.Tie as tie
 
-float-from-bits-result : tie.Need-float-from-bits-result
+float-from-bits-result : tie.Need-float_from_bits-result
 float-from-bits-result c = no_nan 2139095040 (omega arith)
 
-float-from-bits-result-2 : tie.Need-float-from-bits-result-2
-float-from-bits-result-2 c = no_nan c.before.args.bits (omega arith)
+float-from-bits-result-2 : tie.Need-float_from_bits-result-else-bits-gt2139095040
+float-from-bits-result-2 c = no_nan c.args.bits (omega arith)
 
-returns : tie.Need-returns
-returns c = nan-heard c.before.args.bits (omega arith)
+returns : tie.Need-returns-then-bits-gt2139095040
+returns c = nan-heard c.args.bits (omega arith)
 
-returns-2 : tie.Need-returns-2
-returns-2 c = heard-pattern c.before.args.bits
+returns-2 : tie.Need-returns-else-bits-gt2139095040
+returns-2 c = heard-pattern c.args.bits
 
-pub float-of-spec : {M : Type 1} → statement M
-float-of-spec =
+pub float_of_spec : {M : Type 1} → statement M
+float_of_spec =
     tie.close (tie.spec float-from-bits-result float-from-bits-result-2 returns returns-2)

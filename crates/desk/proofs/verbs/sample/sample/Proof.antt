@@ -8,26 +8,25 @@ use borrow.Author.Rules.{rules}
 use Rattle.desk.proofs.verbs.sample.sample.Statement.{statement}
 use Rattle.desk.proofs.verbs.sample.sample.Tie as tie
 
-float-of-requires : tie.Need-float-of-requires
+float-of-requires : tie.Need-float_of-requires
 float-of-requires c κs = search rules
 
-float-of-requires-2 : tie.Need-float-of-requires-2
+float-of-requires-2 : tie.Need-float_of-requires-2
 float-of-requires-2 c κs = search rules
 
 answer-requires : tie.Need-answer-requires
 answer-requires c κs = search rules
 
-same_length : tie.Need-same-length
+same_length : tie.Need-shape_of-page
 same_length c = search rules
 
 returns : tie.Need-returns
 unfolding acting
 returns c =
-    let put = c.before.before.answer.ensures in
-    let floats = c.before.before.before.before in
-    let text = sample-text _ _ _ _ floats.before.float_of.ensures floats.float-of2.ensures in
+    let put = c.answer.ensures in
+    let text = sample-text _ _ _ _ c.float_of.ensures c.float_of-2.ensures in
     does refl refl text (omega (arith, sample-near _ put)) put
 
-pub sample-spec : {M : Type 1} → statement M
-sample-spec =
+pub sample_spec : {M : Type 1} → statement M
+sample_spec =
     tie.close (tie.spec float-of-requires float-of-requires-2 answer-requires same_length returns)

@@ -9,28 +9,27 @@ use borrow.Author.Rules.{rules}
 use Rattle.desk.proofs.verbs.send.send.Statement.{statement}
 use Rattle.desk.proofs.verbs.send.send.Tie as tie
 
-slice-relend-prefix-sent : tie.Need-slice-relend-prefix-sent
+slice-relend-prefix-sent : tie.Need-slice_bounds-sent-end
 slice-relend-prefix-sent c = search rules
 
-slice-aggregate-sent : tie.Need-slice-aggregate-sent
-slice-aggregate-sent c = sym (length-take-le _ _ c.before.before.requires.0)
+slice-aggregate-sent : tie.Need-slice_bounds-sent-end-2
+slice-aggregate-sent c = sym (length-take-le _ _ c.requires.0)
 
 sent-requires : tie.Need-sent-requires
 sent-requires c κs = search rules
 
-same_length : tie.Need-same-length
+same_length : tie.Need-shape_of-coordinates
 same_length c = search rules
 
-same-length-2 : tie.Need-same-length-2
+same-length-2 : tie.Need-shape_of-page
 same-length-2 c = search rules
 
 returns : tie.Need-returns
 returns c =
-    let start = c.before.before.before.before.before.before.before in
-    at_cap (λ n. acting start.args.desk (request.Send start.args.word n) none_named) (length-take-le _ _ start.requires.0) c.before.before.before.sent.ensures
+    at_cap (λ n. acting c.args.desk (request.Send c.args.word n) none_named) (length-take-le _ _ c.requires.0) c.sent.ensures
 
-pub send-spec : {M : Type 1} → statement M
-send-spec =
+pub send_spec : {M : Type 1} → statement M
+send_spec =
     tie.close
     (tie.spec
     slice-relend-prefix-sent

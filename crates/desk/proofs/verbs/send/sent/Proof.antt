@@ -8,36 +8,35 @@ use borrow.Author.Rules.{rules}
 use Rattle.desk.proofs.verbs.send.sent.Statement.{statement}
 use Rattle.desk.proofs.verbs.send.sent.Tie as tie
 
-send-requires : tie.Need-send-requires
+send-requires : tie.Need-send-sent-requires
 send-requires c κs = search rules
 
 number-requires : tie.Need-number-requires
 number-requires c κs = search rules
 
-sent-requires : tie.Need-sent-requires
+sent-requires : tie.Need-sent-p-requires
 sent-requires c κs = search rules
 
-with-sender-requires : tie.Need-with-sender-requires
+with-sender-requires : tie.Need-with_sender-requires
 with-sender-requires c κs = search rules
 
-same_length : tie.Need-same-length
+same_length : tie.Need-shape_of-out
 same_length c = search rules
 
-same-length-2 : tie.Need-same-length-2
+same-length-2 : tie.Need-shape_of-page
 same-length-2 c = search rules
 
 returns : tie.Need-returns
 unfolding acting
 returns c =
-    let at-sent = c.before.before.before.before in
-    let start = at-sent.before.before.before.before.before.before.before.before.before.args in
-    let sent = at-sent.before.before.before.before.before.send.ensures in
-    does c.with-sender.ensures (sent-desk start.desk start.desk.sender start.word start.out.now sent.sender)
-    (sent-text start.desk start.desk.sender start.word start.out.now (at-sent.before.before.number.ensures ∙ sent.number) sent.output)
-    (omega (arith, sent-near _ _ at-sent.sent.ensures)) at-sent.sent.ensures
+    let start = c.args in
+    let sent = c.send-sent.ensures in
+    does c.with_sender.ensures (sent-desk start.desk start.desk.sender start.word start.out.now sent.sender)
+    (sent-text start.desk start.desk.sender start.word start.out.now (c.number.ensures ∙ sent.number) sent.output)
+    (omega (arith, sent-near _ _ c.sent-p.ensures)) c.sent-p.ensures
 
-pub sent-spec : {M : Type 1} → statement M
-sent-spec =
+pub sent_spec : {M : Type 1} → statement M
+sent_spec =
     tie.close
     (tie.spec
     send-requires

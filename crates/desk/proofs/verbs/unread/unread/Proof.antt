@@ -10,12 +10,12 @@ use Rattle.desk.proofs.verbs.unread.unread.Tie as tie
 unread-requires : tie.Need-unread-requires
 unread-requires c κs = search rules
 
-same_length : tie.Need-same-length
+same_length : tie.Need-shape_of-page
 same_length c = search rules
 
 returns : tie.Need-returns
 unfolding acting
-returns c = does refl refl refl (omega (arith, c.before.before.unread.ensures.next)) c.before.before.unread.ensures
+returns c = does refl refl refl (omega (arith, c.unread.ensures.next)) c.unread.ensures
 
-pub unread-spec : {M : Type 1} → statement M
-unread-spec = tie.close (tie.spec unread-requires same_length returns)
+pub unread_spec : {M : Type 1} → statement M
+unread_spec = tie.close (tie.spec unread-requires same_length returns)

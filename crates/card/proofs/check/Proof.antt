@@ -30,7 +30,7 @@ module _ (e : tie.Else-not-lengths_fit) where
   s₁ = e.before.before.before.before.before
 
   long : fits (card s₁) ≡ true
-  long = sym e.lengths_fit.ensures ∙ not-false _ e.if-not-lengths_fit.left
+  long = sym e.lengths_fit.ensures ∙ e.if-not-lengths_fit.false
 
 is-accord-requires : tie.Need-is_accord-requires
 is-accord-requires c κs = search rules

@@ -52,7 +52,7 @@ returns c =
 -- what the step came to
 module _ (c : tie.In-Counts invariant-loop-i decreases-loop-i) where
   abbrev at : tie.At-loop-i invariant-loop-i decreases-loop-i
-  at = c.before.before.before.before.before.before.before
+  at = c.before.before.before.before.before
 
   abbrev s : tie.Start invariant-loop-i decreases-loop-i
   s = start at

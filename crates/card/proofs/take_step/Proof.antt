@@ -37,7 +37,7 @@ module _ (e : tie.Else-not-in_range) where
   s₁ = p₁.before.before.before.before
 
   first-passed : Ranged s₁.args.k (card s₁) s₁.args.i true
-  first-passed = ranged s₁.args.k (card s₁) s₁.args.i p₁.pair_at-heard.result p₁.pair_at-heard.ensures e.in_range.ensures (not-false _ e.if-not-in_range.left)
+  first-passed = ranged s₁.args.k (card s₁) s₁.args.i p₁.pair_at-heard.result p₁.pair_at-heard.ensures e.in_range.ensures e.if-not-in_range.false
 
 mul-chosen-at : tie.Need-overflow_mul-i-2
 mul-chosen-at c = search rules
@@ -72,7 +72,7 @@ module _ (b : tie.After-carries) where
   e₂ = d₂.before.before.before
 
   second-says : {t : Bool} → b.carries.result ≡ t → CarriesOn (s₁ e₂).args.k (card (s₁ e₂)) (s₁ e₂).args.i t
-  second-says = carried (s₁ e₂).args.k (card (s₁ e₂)) (s₁ e₂).args.i d₂.Chosen-at.result d₂.Chosen-at.ensures b.carries.ensures
+  second-says = carried (s₁ e₂).args.k (card (s₁ e₂)) (s₁ e₂).args.i d₂.chosen_at-chosen.result d₂.chosen_at-chosen.ensures b.carries.ensures
 
 returns-2 : tie.Need-returns-then-not-carries
 returns-2 c =
@@ -87,7 +87,7 @@ weigh-requires c κs =
     (s.requires.0.0, s.requires.0.2, r.0, r.1)
 
 mul_holds : tie.Need-overflow_mul-i-3
-mul_holds c = let s = s₁ (e₂ c.before.before.before) in omega (arith, s.requires.1.numbers-has, s.good)
+mul_holds c = let s = s₁ (e₂ c.before.before.before) in omega (arith, s.requires.1.numbers-has)
 
 holds-requires : tie.Need-holds-requires
 holds-requires c κs = (s₁ (e₂ c.before.before.before.before)).requires.1.numbers-has
@@ -111,7 +111,7 @@ module _ (b : tie.After-holds) where
 returns-3 : tie.Need-returns-then-not-holds
 returns-3 c =
     let s = s₃ c.before in
-    not-held s.args.k (card s) s.args.i (first-passed (e₂ (b₃ c.before))) (second-says (b₃ c.before) (not-false _ (w₃ c.before).if-not-carries.false)) (third-says c.before (c.if-not-holds.true))
+    not-held s.args.k (card s) s.args.i (first-passed (e₂ (b₃ c.before))) (second-says (b₃ c.before) (w₃ c.before).if-not-carries.false) (third-says c.before (c.if-not-holds.true))
 
 far-requires : tie.Need-far-requires
 far-requires c κs =
@@ -119,7 +119,7 @@ far-requires c κs =
     let s = s₁ (e₂ b) in
     let p = p₁ (e₂ b) in
     let r = spots-in s.args.k (card s) s.args.i p.pair_at-heard.result p.pair_at-heard.ensures (first-passed (e₂ b)) in
-    let v = valid s.args.k (card s) s.args.i (d₂ b).Chosen-at.result (d₂ b).Chosen-at.ensures (second-says b (not-false _ (w₃ c.before).if-not-carries.left)) in
+    let v = valid s.args.k (card s) s.args.i (d₂ b).chosen_at-chosen.result (d₂ b).chosen_at-chosen.ensures (second-says b (w₃ c.before).if-not-carries.false) in
     (s.requires.0.1, s.requires.0.2, r.0, r.1, v)
 
 returns-4 : tie.Need-returns
@@ -127,8 +127,8 @@ returns-4 c =
     let b = b₃ c.before.before in
     let s = s₁ (e₂ b) in
     let p = p₁ (e₂ b) in
-    counts s.args.k (card s) s.args.i p.pair_at-heard.result p.pair_at-heard.ensures (d₂ b).Chosen-at.result (d₂ b).Chosen-at.ensures
-    (first-passed (e₂ b)) (second-says b (not-false _ (w₃ c.before.before).if-not-carries.false)) (third-says c.before.before (c.if-not-holds.false)) c.far.ensures
+    counts s.args.k (card s) s.args.i p.pair_at-heard.result p.pair_at-heard.ensures (d₂ b).chosen_at-chosen.result (d₂ b).chosen_at-chosen.ensures
+    (first-passed (e₂ b)) (second-says b (w₃ c.before.before).if-not-carries.false) (third-says c.before.before (c.if-not-holds.false)) c.far.ensures
 
 pub take_step_spec : {M : Type 1} → statement M
 take_step_spec =

@@ -40,7 +40,7 @@ module _ (e : tie.Else-not-is_accord) where
   b = e.args.start
 
   fits : is_accord k ≡ true
-  fits = sym e.is_accord.ensures ∙ not-false _ e.if-not-is_accord.left
+  fits = sym e.is_accord.ensures ∙ e.if-not-is_accord.false
 
 not-opened-requires-2 : tie.Need-not_opened-requires-then-not-window
 not-opened-requires-2 c κs = search rules

@@ -57,7 +57,7 @@ abbrev marked-at : tie.After-symbol-t invariant-loop-i decreases-loop-i → tie.
 marked-at d = d.before.before.before.before.before.before
 
 abbrev within : tie.After-symbol-t invariant-loop-i decreases-loop-i → tie.In-loop-i invariant-loop-i decreases-loop-i
-within d = d.before
+within d = d.before.before.before.before.before.before.before
 
 abbrev first : tie.In-loop-i invariant-loop-i decreases-loop-i → tie.Start invariant-loop-i decreases-loop-i
 first n = n.before.before.before.before.before.before.before
@@ -69,7 +69,7 @@ picks-kept d = d.symbol-t.auto.picks ∙ d.loop-i.invariant.picks
 fits : (d : tie.After-symbol-t invariant-loop-i decreases-loop-i) → d.loop-i.written + d.symbol-t.result.written ≤ length (first (within d)).args.out.now
 fits d =
     let n = within d in
-    more-fits _ _ _ _ _ _ _ _ _ _ n.loop-i.invariant n.loop-i-test.taken _ d.mark_at-mark.ensures d.symbol-t.result _ _ _ _
+    more-fits _ _ _ _ _ _ _ _ _ _ n.loop-i.invariant n.loop-i-test.true _ d.mark_at-mark.ensures d.symbol-t.result _ _ _ _
     d.symbol-t.ensures d.symbol-t.auto.out
 
 add-written : tie.Need-overflow_add-written invariant-loop-i decreases-loop-i
@@ -77,7 +77,7 @@ add-written c =
     let d = called c in
     let n = within d in
     let h = fits d in
-    omega (arith, (first n).good, n.loop-i-test.taken, n.loop-i.invariant.count)
+    omega (arith, n.loop-i-test.true, n.loop-i.invariant.count)
 
 is-done-requires : tie.Need-is_done-requires invariant-loop-i decreases-loop-i
 is-done-requires c κs = search rules
@@ -85,10 +85,10 @@ is-done-requires c κs = search rules
 add-taken : tie.Need-overflow_add-taken invariant-loop-i decreases-loop-i
 add-taken c =
     let n = within (called c.before.before) in
-    omega (arith, (first n).good, n.loop-i-test.taken, n.loop-i.invariant.count)
+    omega (arith, n.loop-i-test.true, n.loop-i.invariant.count)
 
 add-i : tie.Need-overflow_add-i invariant-loop-i decreases-loop-i
-add-i c = let n = within (called c.before.before) in omega (arith, (first n).good)
+add-i c = let n = within (called c.before.before) in omega arith
 
 loop-less : tie.Need-loop-i-smaller invariant-loop-i decreases-loop-i
 loop-less c = omega arith
@@ -97,8 +97,8 @@ loop-again : tie.Need-loop-i-preserved invariant-loop-i decreases-loop-i
 loop-again c =
     let d = called c.before.before in
     let n = within d in
-    go_on _ _ _ _ _ _ _ _ _ _ n.loop-i.invariant n.loop-i-test.taken _ (marked-at d).mark_at-mark.ensures d.symbol-t.result _ _ _ _
-    d.symbol-t.ensures d.symbol-t.kept.1.1.1.1.1.1.1.1.0
+    go_on _ _ _ _ _ _ _ _ _ _ n.loop-i.invariant n.loop-i-test.true _ (marked-at d).mark_at-mark.ensures d.symbol-t.result _ _ _ _
+    d.symbol-t.ensures d.symbol-t.auto.out
     (sym c.is_done.ensures ∙ c.if-not-is_done.false) (picks-kept d)
 
 same_length : tie.Need-shape_of-picks-after-loop-i invariant-loop-i decreases-loop-i
@@ -120,15 +120,15 @@ same-length-4 : tie.Need-shape_of-out-then-not-is_done invariant-loop-i decrease
 same-length-4 c =
     let d = called c.before.before in
     let n = within d in
-    more-length _ _ _ _ _ _ _ _ _ _ n.loop-i.invariant n.loop-i-test.taken _ (marked-at d).mark_at-mark.ensures
-    d.symbol-t.result _ _ _ _ d.symbol-t.ensures d.symbol-t.kept.1.1.1.1.1.1.1.1.0
+    more-length _ _ _ _ _ _ _ _ _ _ n.loop-i.invariant n.loop-i-test.true _ (marked-at d).mark_at-mark.ensures
+    d.symbol-t.result _ _ _ _ d.symbol-t.ensures d.symbol-t.auto.out
 
 returns-2 : tie.Need-returns-then-not-is_done invariant-loop-i decreases-loop-i
 returns-2 c =
     let d = called c.before.before in
     let n = within d in
-    stop _ _ _ _ _ _ _ _ _ _ n.loop-i.invariant n.loop-i-test.taken _ (marked-at d).mark_at-mark.ensures d.symbol-t.result _ _ _ _
-    d.symbol-t.ensures d.symbol-t.kept.1.1.1.1.1.1.1.1.0
+    stop _ _ _ _ _ _ _ _ _ _ n.loop-i.invariant n.loop-i-test.true _ (marked-at d).mark_at-mark.ensures d.symbol-t.result _ _ _ _
+    d.symbol-t.ensures d.symbol-t.auto.out
     (sym c.is_done.ensures ∙ c.if-not-is_done.true)
 
 pub hear_symbols_spec : {M : Type 1} → statement M

@@ -58,7 +58,7 @@ write-words-requires : tie.Need-write_words-requires
 write-words-requires c κs =
     let e = roomy c.before.before.before in
     let i = open_at e in
-    (sound-core (first i).args.rx (opened i), omega (arith, c.end_state-s.ensures.1), search rules, e.if-out-core.left, sized (first i))
+    (sound-core (first i).args.rx (opened i), omega (arith, c.end_state-s.ensures.1), search rules, e.if-out-core.false, sized (first i))
 
 same_length : tie.Need-shape_of-out
 same_length c = search rules
@@ -69,7 +69,7 @@ returns-3 c =
     let i = open_at e in
     let a = (first i).args in
     finishes _ _ _ _
-    (rw e.closed_receiver-closed.ensures (finish-done a.rx a.out.now (opened i) e.if-out-core.left _ c.end_state-s.ensures.0 _ c.write_words.ensures.1))
+    (rw e.closed_receiver-closed.ensures (finish-done a.rx a.out.now (opened i) e.if-out-core.false _ c.end_state-s.ensures.0 _ c.write_words.ensures.1))
 
 pub finish_spec : {M : Type 1} → statement M
 finish_spec =

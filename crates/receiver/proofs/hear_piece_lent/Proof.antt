@@ -34,7 +34,7 @@ opened e = open_by e.before ∙ e.if-not-lent_fit.false
 
 -- and the second test whether the piece is of whole symbols
 whole-symbols : (e : tie.Else-not-fits) → (piece (first e.before.before.before)).fits ≡ true
-whole-symbols e = sym e.fits2.ensures ∙ e.if-not-fits.false
+whole-symbols e = sym e.fits.ensures ∙ e.if-not-fits.false
 
 lent-fit-requires : tie.Need-lent_fit-requires
 lent-fit-requires c κs = search rules
@@ -63,7 +63,7 @@ returns-2 : tie.Need-returns-then-not-fits
 returns-2 c =
     let s = first c.before.before.before.before in
     rw c.nothing_heard-then-not-fits.ensures
-    (hear-uneven (rx s) s.args.out.now (piece s) (opened c.before.before.before) (sym c.fits2.ensures ∙ c.if-not-fits.true))
+    (hear-uneven (rx s) s.args.out.now (piece s) (opened c.before.before.before) (sym c.fits.ensures ∙ c.if-not-fits.true))
 
 hear-symbols-requires : tie.Need-hear_symbols-requires
 hear-symbols-requires c κs =

@@ -63,7 +63,7 @@ fits-requires c κs = search rules
 returns-4 : tie.Need-returns-then-not-fits
 returns-4 c =
     front-unfit _ _ _ _ {n = c.kind_of-kind.result.size + 1 - 1} c.kind_of-kind.ensures (omega arith) (may c.before.before.before.before.before) c.if-n-kind.false (omega arith)
-    (sym c.fits2.ensures ∙ c.if-not-fits.true)
+    (sym c.fits.ensures ∙ c.if-not-fits.true)
 
 add-t15 : tie.Need-overflow_add-result
 add-t15 c = search rules
@@ -74,7 +74,7 @@ after-requires c κs = search rules
 returns-5 : tie.Need-returns
 returns-5 c =
     front-whole _ _ _ _ _ {n = c.kind_of-kind.result.size + 1 - 1} c.kind_of-kind.ensures (omega arith) (may c.before.before.before.before.before.before.before) c.if-n-kind.false (omega arith)
-    (sym c.fits2.ensures ∙ c.if-not-fits.false) c.after.ensures
+    (sym c.fits.ensures ∙ c.if-not-fits.false) c.after.ensures
 
 pub look_spec : {M : Type 1} → statement M
 look_spec =

@@ -11,7 +11,7 @@ hear-requires c κs = search rules
 tell-requires : tie.Need-tell-requires
 tell-requires c κs =
     let call = c.hear-t in
-    (omega (arith, is-few _ _ _ _ _ _ call.ensures.always call.auto.1.1.0, call.auto.1.1.0), omega (arith, call.auto.1.1.0, c.requires.0), omega (arith, c.requires.1))
+    (omega (arith, is-few _ _ _ _ _ _ call.ensures.always call.auto.out, call.auto.out), omega (arith, call.auto.out, c.requires.0), omega (arith, c.requires.1))
 
 same_length : tie.Need-shape_of-out
 same_length c = search rules
@@ -25,7 +25,7 @@ same-length-3 c = search rules
 returns : tie.Need-returns
 returns c =
     let call = c.hear-t in
-    c.tell.ensures _ _ _ _ call.ensures.always call.auto.1.1.1.0
+    c.tell.ensures _ _ _ _ call.ensures.always call.auto.bytes
 
 pub hear_spec : {M : Type 1} → statement M
 hear_spec =

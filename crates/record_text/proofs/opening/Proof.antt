@@ -46,7 +46,7 @@ returns-2 c =
     let recorded = c.record_open-n in
     let first = c.if-begun.false in
     let a = c.args in
-    opens_not a.rx a.begun a.accord a.window a.start a.bytes.now a.page.now first recorded.result _ recorded.ensures recorded.auto.1.1.1.0 opened.result
+    opens_not a.rx a.begun a.accord a.window a.start a.bytes.now a.page.now first recorded.result _ recorded.ensures recorded.auto.bytes opened.result
     (subst (λ (b : Start). Opens a.accord a.window b opened.result) start-at.ensures opened.ensures)
     _ number.result (omega (arith, number-near _ number.ensures, c.requires)) number.ensures c.if-n-ne0.true
 
@@ -64,7 +64,7 @@ returns-3 c =
     let recorded = c.record_open-n in
     let first = c.if-begun.false in
     let a = c.args in
-    opens-first a.rx a.begun a.accord a.window a.start a.bytes.now a.page.now first recorded.result _ recorded.ensures recorded.auto.1.1.1.0 opened.result
+    opens-first a.rx a.begun a.accord a.window a.start a.bytes.now a.page.now first recorded.result _ recorded.ensures recorded.auto.bytes opened.result
     (subst (λ (b : Start). Opens a.accord a.window b opened.result) start-at.ensures opened.ensures)
     _ number.result (omega (arith, number-near _ number.ensures, c.requires)) number.ensures c.if-n-ne0.false
 

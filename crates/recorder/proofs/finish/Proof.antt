@@ -91,7 +91,7 @@ slice-aggregate-put-finish c = sym (length-take-le _ _ (fits c.before.before.bef
 put-finish-requires : tie.Need-put_finish-requires
 put-finish-requires c κs =
     let f = finished c.before.before in
-    omega (arith, length-take-le f.finish-a.result.written f.finish-a.last.1.0 (fits f), written c.before.before, f.if-bytes-core.left)
+    omega (arith, length-take-le f.finish-a.result.written f.finish-a.new.out (fits f), written c.before.before, f.if-bytes-core.false)
 
 mul-t12 : tie.Need-overflow_mul-result
 mul-t12 c =
@@ -113,7 +113,7 @@ returns-4 : tie.Need-returns
 returns-4 c =
     let f = finished c.before.before.before.before.before in
     let a = (first f).args in
-    finish-done a.rx a.out.now a.bytes.now f.finish-a.result _ f.finish-a.ensures (done c.before.before.before.before.before) f.if-bytes-core.left _ c.put_finish.ensures
+    finish-done a.rx a.out.now a.bytes.now f.finish-a.result _ f.finish-a.ensures (done c.before.before.before.before.before) f.if-bytes-core.false _ c.put_finish.ensures
 
 pub finish_spec : {M : Type 1} → statement M
 finish_spec =

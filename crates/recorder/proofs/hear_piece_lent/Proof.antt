@@ -38,7 +38,7 @@ open_by f = let a = f.args in rw (lent-live a.live a.picks.now f.if-picks-ne72.f
 
 -- and the last test whether the piece is of whole symbols
 whole-symbols : (e : tie.Else-not-fits) → (piece (first e.before.before.before)).fits ≡ true
-whole-symbols e = sym e.fits2.ensures ∙ e.if-not-fits.false
+whole-symbols e = sym e.fits.ensures ∙ e.if-not-fits.false
 
 nothing-kept-requires : tie.Need-nothing_kept-requires
 nothing-kept-requires c κs = tt
@@ -70,7 +70,7 @@ returns-3 c =
     let s = first c.before.before.before.before in
     rw c.nothing_kept-then-not-fits.ensures
     (tape-uneven (rx s) s.args.out.now s.args.bytes.now (piece s) (open_by c.before.before.before.before ∙ c.if-not-parts_fit.false)
-    (sym c.fits2.ensures ∙ c.if-not-fits.true))
+    (sym c.fits.ensures ∙ c.if-not-fits.true))
 
 record-symbols-requires : tie.Need-record_symbols-requires
 record-symbols-requires c κs =

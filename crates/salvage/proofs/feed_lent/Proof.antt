@@ -30,7 +30,7 @@ module _ (p : tie.In-loop-i invariant-loop-i decreases-loop-i) where
   l = p.before
 
   tests : (l.loop-i.i < length (to_start l).args.bytes.now) × (335 ≤ length l.loop-i.page - l.loop-i.at)
-  tests = test-taken _ _ _ p.loop-i-test.taken
+  tests = test-taken _ _ _ p.loop-i-test.true
 
   free : l.loop-i.at + 335 ≤ length (to_start l).args.page.now
   free = omega (arith, tests.1, long l)
@@ -60,7 +60,7 @@ put-requires c κs =
     (c.due-1.given ∙ c.loop-i.invariant.0, omega (arith, free c.before.before.before.before.before.before.before.before.before.before.before.before, long c.before.before.before.before.before.before.before.before.before.before.before.before.before))
 
 add-i : tie.Need-overflow_add-i invariant-loop-i decreases-loop-i
-add-i c = let p = to-advance c.before.before.before in omega (arith, (moves p).1, (to_start p.before.before).good)
+add-i c = let p = to-advance c.before.before.before in omega (arith, (moves p).1, (to_start p.before.before).well_formed)
 
 loop-less : tie.Need-loop-i-smaller invariant-loop-i decreases-loop-i
 loop-less c = let p = to-advance c.before.before.before in omega (arith, (moves p).0, (moves p).1)

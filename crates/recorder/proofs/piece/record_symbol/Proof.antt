@@ -94,11 +94,11 @@ put-taken-requires c κs =
 
 mul-t24 : tie.Need-overflow_mul-result
 mul-t24 c =
-    omega (arith, space _ _ _ _ _ (lends (heard c.before.before.before.before)) c.if-h-eq0.false, (first (heard c.before.before.before.before)).well-formed)
+    omega (arith, space _ _ _ _ _ (lends (heard c.before.before.before.before)) c.if-h-eq0.false, (first (heard c.before.before.before.before)).well_formed)
 
 add-t17 : tie.Need-overflow_add-result
 add-t17 c =
-    omega (arith, space _ _ _ _ _ (lends (heard c.before.before.before.before)) c.if-h-eq0.false, (first (heard c.before.before.before.before)).well-formed)
+    omega (arith, space _ _ _ _ _ (lends (heard c.before.before.before.before)) c.if-h-eq0.false, (first (heard c.before.before.before.before)).well_formed)
 
 same-length-4 : tie.Need-shape_of-picks
 same-length-4 c = c.hear_symbols-h.auto.picks

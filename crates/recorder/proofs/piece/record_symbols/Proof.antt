@@ -62,14 +62,14 @@ abbrev marked-at : tie.After-record_symbol-t invariant-loop-i decreases-loop-i �
 marked-at d = d.before.before.before.before.before.before.before
 
 abbrev within : tie.After-record_symbol-t invariant-loop-i decreases-loop-i → tie.In-loop-i invariant-loop-i decreases-loop-i
-within d = d.before
+within d = (marked-at d).before
 
 abbrev turn : (d : tie.After-record_symbol-t invariant-loop-i decreases-loop-i) → Turn (given (first (within d))) (standing d.before.before.before.before.before.before.before.before.before)
 turn d =
     let n = within d in
     record {
       going = n.loop-i.invariant;
-      more = n.loop-i-test.taken;
+      more = n.loop-i-test.true;
       mark = d.mark_at-mark.result;
       mark-is = d.mark_at-mark.ensures;
       step = d.record_symbol-t.result;
@@ -85,7 +85,7 @@ turn d =
 
 -- the picks keep their length
 picks-kept : (d : tie.After-record_symbol-t invariant-loop-i decreases-loop-i) → length (turn d).picks ≡ length (first (within d)).args.picks.now
-picks-kept d = d.record_symbol-t.auto.picks ∙ d.loop-i.invariant.picks ∙ sym (first (within d)).pre.2
+picks-kept d = d.record_symbol-t.auto.picks ∙ d.loop-i.invariant.picks ∙ sym (first (within d)).requires.2
 
 loop-holds : tie.Need-loop-i-init invariant-loop-i decreases-loop-i
 loop-holds c = start (given c.before.before.before.before) c.requires.1 c.requires.0 c.requires.2
@@ -135,10 +135,10 @@ record-symbol-requires c κs =
     (g.fit, g.picks, four-long (given (first c.before.before.before.before.before.before.before)) (standing c.before.before.before.before.before.before.before.before) g c.loop-i-test.true)
 
 add-written : tie.Need-overflow_add-written invariant-loop-i decreases-loop-i
-add-written c = omega (arith, more-fits _ _ (turn c.before.before.before.before.before.before.before.before), (first (within c.before.before.before.before.before.before.before.before)).good)
+add-written c = omega (arith, more-fits _ _ (turn c.before.before.before.before.before.before.before.before), (first (within c.before.before.before.before.before.before.before.before)).well_formed)
 
 add-recorded : tie.Need-overflow_add-recorded invariant-loop-i decreases-loop-i
-add-recorded c = let d = called c in omega (arith, more-space _ _ (turn d), (first (within d)).good)
+add-recorded c = let d = called c in omega (arith, more-space _ _ (turn d), (first (within d)).well_formed)
 
 is-done-requires : tie.Need-is_done-requires invariant-loop-i decreases-loop-i
 is-done-requires c κs = tt
@@ -146,15 +146,15 @@ is-done-requires c κs = tt
 add-taken : tie.Need-overflow_add-taken invariant-loop-i decreases-loop-i
 add-taken c =
     let n = within (called c.before.before) in
-    omega (arith, n.loop-i.invariant.count, n.loop-i-test.taken, (first n).good)
+    omega (arith, n.loop-i.invariant.count, n.loop-i-test.true, (first n).well_formed)
 
 loop-less : tie.Need-loop-i-smaller invariant-loop-i decreases-loop-i
-loop-less c = omega (arith, (within (called c.before.before)).loop-i-test.taken)
+loop-less c = omega (arith, (within (called c.before.before)).loop-i-test.true)
 
 loop-again : tie.Need-loop-i-preserved invariant-loop-i decreases-loop-i
 loop-again c =
     let d = called c.before.before in
-    go_on _ _ (turn d) (sym c.is_done.ensures ∙ c.if-not-is_done.false) (picks-kept d ∙ (first (within d)).pre.2)
+    go_on _ _ (turn d) (sym c.is_done.ensures ∙ c.if-not-is_done.false) (picks-kept d ∙ (first (within d)).requires.2)
 
 same_length : tie.Need-shape_of-picks-after-loop-i invariant-loop-i decreases-loop-i
 same_length c = c.loop-i.invariant.picks ∙ sym c.requires.2

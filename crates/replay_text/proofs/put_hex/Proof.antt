@@ -15,14 +15,14 @@ slice-aggregate-put-text : tie.Need-slice_bounds-put_text-end
 slice-aggregate-put-text c = search rules
 
 put-text-requires : tie.Need-put_text-requires
-put-text-requires c κs = omega (arith, hex-few (omega arith) c.hex-k.ensures.len, c.hex-k.ensures.in_bounds.1)
+put-text-requires c κs = omega (arith, hex-few (omega arith) c.hex-k.ensures.1.0, c.hex-k.ensures.0.1)
 
 same_length : tie.Need-shape_of-page
 same_length c = search rules
 
 returns : tie.Need-returns
 returns c =
-    hex-put _ (omega arith) c.hex-k.ensures.len c.hex-k.ensures.digits c.put_text.ensures
+    hex-put _ (omega arith) c.hex-k.ensures.1.0 c.hex-k.ensures.1.1.0 c.put_text.ensures
 
 pub put_hex_spec : {M : Type 1} → statement M
 put_hex_spec =

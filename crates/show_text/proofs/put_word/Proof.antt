@@ -46,7 +46,7 @@ array-share-prefix-digits c = search rules
 put-text-requires-2 : tie.Need-put_text-requires
 put-text-requires-2 c κs =
     let digits = c.hex-k.ensures in
-    omega (arith, hex-few (omega arith) digits.len, digits.in_bounds.1, c.put_text-p.ensures.next)
+    omega (arith, hex-few (omega arith) digits.1.0, digits.0.1, c.put_text-p.ensures.next)
 
 same_length : tie.Need-shape_of-page
 same_length c = search rules
@@ -57,7 +57,7 @@ returns c =
     let digits = c.hex-k.ensures in
     let number = c.number-w in
     let text = c.put_text-p.ensures in
-    let word = hex-put _ (omega arith) digits.len digits.digits c.put_text.ensures in
+    let word = hex-put _ (omega arith) digits.1.0 digits.1.1.0 c.put_text.ensures in
     (puts-as (ap (λ (n : ℕ). bytes " word " ++ hex n) number.ensures) (joined (omega arith) text word), omega (arith, text.next, word.next, hex-length number.result))
 
 pub put_word_spec : {M : Type 1} → statement M

@@ -2,7 +2,7 @@
 -- are those of the receiver in it. It leans on how a state is read (crates c_states and front).
 --   receiver-long   an open receiver has the words it needs
 --   picks_in         the picks in a state; around: the state with other picks in their place
---   long, around-long, picks_at_lem, front-is, all_there   where the state holds a receiver
+--   long, around-long, picks-at, front-is, all_there   where the state holds a receiver
 use mathlib.Core.Path.{◌≡◌, refl, ap}
 use mathlib.Core.Bool.{Bool, true, false}
 use mathlib.Core.List.{List, ◌++◌}
@@ -43,9 +43,9 @@ module _ (state : List ℕ) where
     pub around-long : (picks : List ℕ) → picks_at ≤ length (around picks)
     around-long picks = rw (length-append (take picks_at state), length-take-le picks_at state long) (omega arith)
 
-    pub picks_at_lem : (receiver_in state).picks ≡ picks_in
+    pub picks-at : (receiver_in state).picks ≡ picks_in
     unfolding receiver_in
-    picks_at_lem = rw yes
+    picks-at = rw yes
 
     pub front-is : (f : Copied) → f ≡ copied_in state → parts_of true f.core f.sums f.registers picks_in ≡ receiver_in state
     unfolding receiver_in

@@ -34,7 +34,7 @@ use Rattle.c_states.specs.State.{receiver_in, words_of_receiver, read_receiver, 
 use Rattle.c_states.proofs.Back.{front-stored}
 use Rattle.c_recorder.specs.Calls.{told_four, call_of, hear_call, finish_call}
 use Rattle.c_recorder.specs.Promise.{Records}
-use Rattle.c_recorder.proofs.Around.{receiver-long, picks_in, around, long, picks_at, front-is, all_there}
+use Rattle.c_recorder.proofs.Around.{receiver-long, picks_in, around, long, picks-at, front-is, all_there}
 use Rattle.c_recorder.proofs.Ends.{hearing-keeps, hearing-reads, finishing-keeps, finishing-reads, finished_open}
 
 -- ---- any call
@@ -145,7 +145,7 @@ module _ (state : List ℕ) (piece : Piece) (out bytes told : List ℕ) (l : Len
   unchanged : l.kept.taken ≡ 0 → around state l.picks ≡ state
   unchanged none =
       let left = hearing-keeps (receiver_in state) piece (length out) (length bytes) (sym is.taken ∙ none) in
-      let same : l.picks ≡ picks_in state = ap (λ (x : Receiver). x.picks) (is.receiver ∙ left) ∙ picks_at state l.yes in
+      let same : l.picks ≡ picks_in state = ap (λ (x : Receiver). x.picks) (is.receiver ∙ left) ∙ picks-at state l.yes in
       rw (same, take-append-drop 72 (drop picks_at state)) (take-append-drop picks_at state)
 
   pub lent-kept : l.kept.taken ≡ 0 → Records (hear_call state piece out bytes told) l.n (around state l.picks) l.o l.b l.t

@@ -106,11 +106,11 @@ module _ (c : Course) (rest : List ℕ) (f : CourseFits c) where
   registers-at : drop 37 words ≡ s.receiver.registers ++ (s.receiver.picks ++ (s.due ++ rest))
   registers-at = sym (drop-drop 8 29 words) ∙ ap (λ (l : List ℕ). drop 8 l) sums_at_lem ∙ drop_at (packed s.receiver.sums) _ 8 (packed-length s.receiver.sums)
 
-  picks_at_lem : drop 85 words ≡ s.receiver.picks ++ (s.due ++ rest)
-  picks_at_lem = sym (drop-drop 48 37 words) ∙ ap (λ (l : List ℕ). drop 48 l) registers-at ∙ drop_at s.receiver.registers _ 48 f.registers
+  picks-at : drop 85 words ≡ s.receiver.picks ++ (s.due ++ rest)
+  picks-at = sym (drop-drop 48 37 words) ∙ ap (λ (l : List ℕ). drop 48 l) registers-at ∙ drop_at s.receiver.registers _ 48 f.registers
 
   due-at : drop 157 words ≡ s.due ++ rest
-  due-at = sym (drop-drop 72 85 words) ∙ ap (λ (l : List ℕ). drop 72 l) picks_at_lem ∙ drop_at s.receiver.picks _ 72 f.picks
+  due-at = sym (drop-drop 72 85 words) ∙ ap (λ (l : List ℕ). drop 72 l) picks-at ∙ drop_at s.receiver.picks _ 72 f.picks
 
   numbers-in : numbers_in words ≡ numbers
   numbers-in = ap (λ (l : List ℕ). take 28 l) parts ∙ take_at numbers _ 28 sized
@@ -155,7 +155,7 @@ module _ (c : Course) (rest : List ℕ) (f : CourseFits c) where
       let h : take 8 (drop sums_at words) ≡ packed s.receiver.sums = ap (λ (l : List ℕ). take 8 l) sums_at_lem ∙ take_at (packed s.receiver.sums) _ 8 (packed-length s.receiver.sums) in
       let p : unpacked (take 8 (drop sums_at words)) ≡ s.receiver.sums = ap unpacked h ∙ halves.back s.receiver.sums f.halves f.sums in
       let q : take 48 (drop registers_at words) ≡ s.receiver.registers = ap (λ (l : List ℕ). take 48 l) registers-at ∙ take_at s.receiver.registers _ 48 f.registers in
-      let r : take 72 (drop picks_at words) ≡ s.receiver.picks = ap (λ (l : List ℕ). take 72 l) picks_at_lem ∙ take_at s.receiver.picks _ 72 f.picks in
+      let r : take 72 (drop picks_at words) ≡ s.receiver.picks = ap (λ (l : List ℕ). take 72 l) picks-at ∙ take_at s.receiver.picks _ 72 f.picks in
       λ i. course_of (a i) (b i) (p i) (q i) (r i) (due_in_lem i)
 
 pub course-stored : (c : Course) (l : List ℕ) {o : List ℕ} → CourseFits c → o ≡ words_of c ++ drop replay_length l → CourseStored c l o

@@ -89,8 +89,8 @@ module _ (rx : Receiver) (rest : List ℕ) where
     registers-at : drop registers_at state ≡ rx.registers ++ (rx.picks ++ rest)
     registers-at = sym (drop-drop 8 sums_at state) ∙ rw sums_at_lem (drop_at (packed rx.sums) (rx.registers ++ (rx.picks ++ rest)) 8 (packed-length rx.sums))
 
-    picks_at_lem : drop picks_at state ≡ rx.picks ++ rest
-    picks_at_lem = sym (drop-drop 48 registers_at state) ∙ rw registers-at (drop_at rx.registers (rx.picks ++ rest) 48 f.registers)
+    picks-at : drop picks_at state ≡ rx.picks ++ rest
+    picks-at = sym (drop-drop 48 registers_at state) ∙ rw registers-at (drop_at rx.registers (rx.picks ++ rest) 48 f.registers)
 
     held-yes : rx.live ≡ true → holds receiver_length receiver_tag state ≡ true
     unfolding holds words_of_receiver
@@ -111,7 +111,7 @@ module _ (rx : Receiver) (rest : List ℕ) where
         let h : take 8 (drop sums_at state) ≡ packed rx.sums = rw sums_at_lem (take_at (packed rx.sums) (rx.registers ++ (rx.picks ++ rest)) 8 (packed-length rx.sums)) in
         let s : unpacked (take 8 (drop sums_at state)) ≡ rx.sums = ap unpacked h ∙ back rx.sums f.small f.sums in
         let t : take 48 (drop registers_at state) ≡ rx.registers = rw registers-at (take_at rx.registers (rx.picks ++ rest) 48 f.registers) in
-        let p : take 72 (drop picks_at state) ≡ rx.picks = rw picks_at_lem (take_at rx.picks rest 72 f.picks) in
+        let p : take 72 (drop picks_at state) ≡ rx.picks = rw picks-at (take_at rx.picks rest 72 f.picks) in
         rw (held-yes e) (λ i. record { live = sym e i; core = core_at i; sums = s i; registers = t i; picks = p i })
 
     receiver-shut : rx.live ≡ false → receiver_in (words_of_receiver rx ++ rest) ≡ machine.shut

@@ -39,7 +39,7 @@ use Rattle.demfizagu.specs.Calls.{pending_in, sender_opening, receiver_opening, 
 use Rattle.card.specs.Card.{Card}
 use Rattle.card.specs.Promise.{Checks}
 use Rattle.demfizagu.specs.Promise.{Opens, Sends, SendsList, Answers, ChecksCard}
-use Rattle.c_recorder.proofs.Around.{receiver-long, picks_in, around, long, picks_at_lem, front-is, all_there}
+use Rattle.c_recorder.proofs.Around.{receiver-long, picks_in, around, long, picks-at, front-is, all_there}
 use Rattle.c_layout.proofs.Held.{held}
 use Rattle.lists.proofs.Lent.{part-back}
 use Rattle.c_states.specs.declared.Copied.{Copied}
@@ -245,7 +245,7 @@ module _ (state : List ℕ) (piece : Piece) (out told : List ℕ) (yes : holds r
     unchanged : h.taken ≡ 0 → around state picks ≡ state
     unchanged none =
         let same = is.receiver ∙ hearing-keeps (receiver_in state) piece (length out) (sym is.taken ∙ none) in
-        let kept : picks ≡ (picks_in state) = ap (λ (rx : Receiver). rx.picks) same ∙ picks_at_lem state yes in
+        let kept : picks ≡ (picks_in state) = ap (λ (rx : Receiver). rx.picks) same ∙ picks-at state yes in
         rw (kept, take-append-drop 72 (drop picks_at state)) (take-append-drop picks_at state)
 
     pub lent-kept : h.taken ≡ 0 → Answers (hear_call state piece out told) n (around state picks) o t

@@ -35,7 +35,7 @@ same_length c = search rules
 returns : tie.Need-returns
 returns c =
     let a = c.args in
-    (c.number.ensures, rw c.place-place.ensures (stored (a.taken ∷ a.written ∷ (given_of a.why).place-place ∷ a.recorded ∷ []) a.told.now c.requires))
+    (c.number.ensures, rw c.place-place.ensures (stored (a.taken ∷ a.written ∷ (given_of a.why).place ∷ a.recorded ∷ []) a.told.now c.requires))
 
 pub answer_spec : {M : Type 1} → statement M
 answer_spec =

@@ -10,28 +10,18 @@ use borrow.Author.Rules.{rules}
 use Rattle.c_recorder.proofs.finish_recorded.Statement.{statement}
 use Rattle.c_recorder.proofs.finish_recorded.Tie as tie
 
--- after the answer: that `told` is long enough, the start, and the recorder's own answer
-abbrev enough : tie.After-answer-n → tie.Else-told-lt4
-enough g = g.before.before.before.before.before.before.before.before.before.before
-
-abbrev first : tie.After-answer-n → tie.Start
-first g = g.before.before.before.before.before
-
-abbrev finished : tie.After-answer-n → tie.After-finish-a
-finished g = g.before.before.before.before.before.before
-
 -- the promise of `finish` to the receiver that the state holds
 is : (g : tie.After-answer-n) → let a = g.args in let f = g.finish-a in
-    Is (taped_finishing (receiver_in a.state.now) (length a.out.now) (length a.bytes.now)) a.out.now a.bytes.now f.result f.last.1.0 f.last.1.1.0
+    Is (taped_finishing (receiver_in a.state.now) (length a.out.now) (length a.bytes.now)) a.out.now a.bytes.now f.result f.new.out f.new.bytes
 is g =
     let a = g.args in
     let f = g.finish-a in
-    subst (λ (rx : Receiver). Is (taped_finishing rx (length a.out.now) (length a.bytes.now)) a.out.now a.bytes.now f.result f.last.1.0 f.last.1.1.0)
+    subst (λ (rx : Receiver). Is (taped_finishing rx (length a.out.now) (length a.bytes.now)) a.out.now a.bytes.now f.result f.new.out f.new.bytes)
     g.load_receiver.ensures f.ensures.always
 
 answered : (g : tie.After-answer-n) → let a = g.args in let f = g.finish-a in
     Answered (taped_finishing (receiver_in a.state.now) (length a.out.now) (length a.bytes.now)) a.out.now a.bytes.now a.told.now
-    f.result g.answer-n.result f.last.1.0 f.last.1.1.0 g.answer-n.new.told
+    f.result g.answer-n.result f.new.out f.new.bytes g.answer-n.new.told
 answered g = record { is = is g; number = g.answer-n.ensures.0; tells = g.answer-n.ensures.1 }
 
 returns : tie.Need-returns-then-told-lt4

@@ -47,7 +47,7 @@ lent g =
     let e = holding d in
     record {
       yes = yes e;
-      enough = e.if-told-lt4.left;
+      enough = e.if-told-lt4.false;
       copied = f.load_front-copied.result;
       loaded = f.load_front-copied.ensures;
       kept = d.hear_piece_lent-a.result;

@@ -59,7 +59,7 @@ returns-3 c =
     let e = to-holds l in
     let s = to-long e in
     let a = (to_start s).args in
-    end_after a.state.now a.short s.if-short.left (yes e) (replay_of l.load-r.result) l.load-r.ensures (sym c.found.ensures ∙ c.if-found.true)
+    end_after a.state.now a.short s.if-short.false (yes e) (replay_of l.load-r.result) l.load-r.ensures (sym c.found.ensures ∙ c.if-found.true)
 
 end-requires : tie.Need-end-requires
 end-requires c κs = search rules
@@ -73,7 +73,7 @@ returns-4 c =
     let e = to-holds l in
     let s = to-long e in
     let a = (to_start s).args in
-    end-says a.state.now a.short s.if-short.left (yes e) (replay_of l.load-r.result) l.load-r.ensures c.end.result (sym c.found.ensures ∙ c.if-found.false) c.end.ensures
+    end-says a.state.now a.short s.if-short.false (yes e) (replay_of l.load-r.result) l.load-r.ensures c.end.result (sym c.found.ensures ∙ c.if-found.false) c.end.ensures
 
 pub closed_spec : {M : Type 1} → statement M
 closed_spec =

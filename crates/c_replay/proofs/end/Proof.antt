@@ -40,7 +40,7 @@ returns c =
     let h = to-closed c.before.before.before.before.before in
     let i = h.before.before in
     let s = to_start i in
-    told-ends (end_call s.args.state.now) i.is_short-short.result h.closed.result h.closed.last.0 s.args.line.now s.args.told.now
+    told-ends (end_call s.args.state.now) i.is_short-short.result h.closed.result h.closed.new.state s.args.line.now s.args.told.now
     h.closed.ensures i.is_short-short.ensures c.tell.ensures
 
 pub end_spec : {M : Type 1} → statement M

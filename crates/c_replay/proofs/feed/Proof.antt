@@ -39,7 +39,7 @@ returns c =
     let h = to-heard c.before.before.before.before.before in
     let i = h.before.before in
     let s = to_start i in
-    told-feeds s.args.state.now s.args.lump.now i.is_short-short.result h.heard.result h.heard.last.0 s.args.line.now s.args.told.now
+    told-feeds s.args.state.now s.args.lump.now i.is_short-short.result h.heard.result h.heard.new.state s.args.line.now s.args.told.now
     h.heard.ensures i.is_short-short.ensures c.tell.ensures
 
 pub feed_spec : {M : Type 1} → statement M

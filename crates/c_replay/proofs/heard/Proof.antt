@@ -58,7 +58,7 @@ returns-3 c =
     let e = to-holds c.before.before.before.before in
     let s = to-long e in
     let a = (to_start s).args in
-    feed-after a.state.now a.lump.now a.short s.if-short.left (yes e) (replay_of c.load-r.result) c.load-r.ensures (sym c.found.ensures ∙ c.if-found.true)
+    feed-after a.state.now a.lump.now a.short s.if-short.false (yes e) (replay_of c.load-r.result) c.load-r.ensures (sym c.found.ensures ∙ c.if-found.true)
 
 feed-requires : tie.Need-feed-fed-requires
 feed-requires c κs = search rules
@@ -79,7 +79,7 @@ returns-4 c =
     let e = to-holds l in
     let s = to-long e in
     let a = (to_start s).args in
-    feed-on a.state.now a.lump.now a.short s.if-short.left (yes e) (replay_of l.load-r.result) l.load-r.ensures (sym f.found.ensures ∙ f.if-found.left)
+    feed-on a.state.now a.lump.now a.short s.if-short.false (yes e) (replay_of l.load-r.result) l.load-r.ensures (sym f.found.ensures ∙ f.if-found.false)
     (replay_of f.feed-fed.result) f.feed-fed.ensures c.store.ensures (sym c.found-2.ensures ∙ c.if-not-found.true)
 
 end-requires : tie.Need-end-requires
@@ -95,7 +95,7 @@ returns-5 c =
     let e = to-holds l in
     let s = to-long e in
     let a = (to_start s).args in
-    feed-says a.state.now a.lump.now a.short s.if-short.left (yes e) (replay_of l.load-r.result) l.load-r.ensures (sym f.found.ensures ∙ f.if-found.left)
+    feed-says a.state.now a.lump.now a.short s.if-short.false (yes e) (replay_of l.load-r.result) l.load-r.ensures (sym f.found.ensures ∙ f.if-found.false)
     (replay_of f.feed-fed.result) f.feed-fed.ensures c.store.ensures
     c.end.result (sym c.found-2.ensures ∙ c.if-not-found.false) c.end.ensures
 

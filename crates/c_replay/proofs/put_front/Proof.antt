@@ -7,11 +7,11 @@ use borrow.Author.Rules.{rules}
 use Rattle.c_replay.proofs.put_front.Statement.{statement}
 use Rattle.c_replay.proofs.put_front.Tie as tie
 
-whole : (s : tie.Start) → length s.args.t1 ≡ 64
+whole : (s : tie.Start) → length s.args.text ≡ 64
 whole s = search rules
 
-sized : (s : tie.Start) → length (take s.args.size s.args.t1) ≡ s.args.size
-sized s = length-take-le s.args.size s.args.t1 (omega (arith, whole s, s.requires.0))
+sized : (s : tie.Start) → length (take s.args.size s.args.text) ≡ s.args.size
+sized s = length-take-le s.args.size s.args.text (omega (arith, whole s, s.requires.0))
 
 array-share-prefix-text : tie.Need-slice_bounds-text-end
 array-share-prefix-text c = search rules

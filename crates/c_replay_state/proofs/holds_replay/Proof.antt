@@ -38,7 +38,7 @@ fits-requires c κs = search rules
 
 returns-3 : tie.Need-returns-then-not-fits
 returns-3 c =
-    holds-over c.args.words.now c.if-words-lt-WORDS.false c.if-words-ne-REPLAY.false (sym c.fits2.ensures ∙ c.if-not-fits.true)
+    holds-over c.args.words.now c.if-words-lt-WORDS.false c.if-words-ne-REPLAY.false (sym c.fits.ensures ∙ c.if-not-fits.true)
 
 sub-fits-3 : tie.Need-slice_bounds-fits-count-3
 sub-fits-3 c = search rules
@@ -63,8 +63,8 @@ fits-requires-2 c κs = search rules
 
 returns-4 : tie.Need-returns
 returns-4 c =
-    let first = sym c.fits-2.ensures ∙ c.if-not-fits.false in
-    c.fits3.ensures ∙ holds_by c.args.words.now c.if-words-lt-WORDS.false c.if-words-ne-REPLAY.false first
+    let first = sym c.fits.ensures ∙ c.if-not-fits.false in
+    c.fits-2.ensures ∙ holds_by c.args.words.now c.if-words-lt-WORDS.false c.if-words-ne-REPLAY.false first
 
 pub holds_replay_spec : {M : Type 1} → statement M
 holds_replay_spec =

@@ -11,7 +11,7 @@ use borrow.Author.Rules.{rules}
 use Rattle.c_replay_state.proofs.put_lists.Statement.{statement}
 use Rattle.c_replay_state.proofs.put_lists.Tie as tie
 
-sized : (s : tie.Start) → (length s.args.sums ≡ 16) × (length s.args.t2 ≡ 48) × (length s.args.t3 ≡ 72)
+sized : (s : tie.Start) → (length s.args.sums ≡ 16) × (length s.args.registers ≡ 48) × (length s.args.picks ≡ 72)
 sized s = (search rules, search rules, search rules)
 
 pack-requires : tie.Need-pack-halves-requires
@@ -46,9 +46,9 @@ returns : tie.Need-returns
 returns c =
     let l = c.args.words.now in
     let (a, b, d) = sized c.before.before.before.before.before.before.before.before.before.before.before.before.before.before.before.before.before in
-    let put = lists-put l c.pack-halves.result c.args.t2 c.args.t3 (omega (arith, c.requires)) (words-many c.before.before.before.before.before.before.before.before.before.before.before.before.before.before.before) b d c.put.ensures.is c.put-2.ensures.is c.put-3.ensures.is in
+    let put = lists-put l c.pack-halves.result c.args.registers c.args.picks (omega (arith, c.requires)) (words-many c.before.before.before.before.before.before.before.before.before.before.before.before.before.before.before) b d c.put.ensures.is c.put-2.ensures.is c.put-3.ensures.is in
     record {
-      is = put ∙ ap (λ (m : List ℕ). take sums_at l ++ (m ++ (c.args.t2 ++ (c.args.t3 ++ drop due_at l)))) c.pack-halves.ensures.0;
+      is = put ∙ ap (λ (m : List ℕ). take sums_at l ++ (m ++ (c.args.registers ++ (c.args.picks ++ drop due_at l)))) c.pack-halves.ensures.0;
       same = same_length c;
       sums-fit = a;
       sums-small = c.pack-halves.ensures.1;

@@ -43,7 +43,7 @@ returns c =
     let n = to-in-loop c.before.before in
     let p = n.before in
     let s = p.before.before.before in
-    stop-fault s.args.floats.now s.args.missing.now s.args.out.now p.loop-i.out p.loop-i.i p.loop-i.invariant _ _ n.loop-i-test.taken
+    stop-fault s.args.floats.now s.args.missing.now s.args.out.now p.loop-i.out p.loop-i.i p.loop-i.invariant _ _ n.loop-i-test.true
     c.sample_at.ensures c.hear-h.ensures c.if-h-ne0.true
 
 add-if2 : tie.Need-overflow_add-i-in-loop-i invariant-loop-i decreases-loop-i
@@ -57,7 +57,7 @@ returns-2 c =
     let n = to-in-loop c.before.before in
     let p = n.before in
     let s = p.before.before.before in
-    stop-room s.args.floats.now s.args.missing.now s.args.out.now p.loop-i.out p.loop-i.i p.loop-i.invariant _ _ n.loop-i-test.taken
+    stop-room s.args.floats.now s.args.missing.now s.args.out.now p.loop-i.out p.loop-i.i p.loop-i.invariant _ _ n.loop-i-test.true
     c.sample_at.ensures c.hear-h.ensures c.if-h-ne0.false c.if-out-i.true
 
 put-pair-requires : tie.Need-put_pair-requires invariant-loop-i decreases-loop-i
@@ -74,7 +74,7 @@ loop-again c =
     let n = to-in-loop c.before.before.before.before.before in
     let p = n.before in
     let s = p.before.before.before in
-    go_on s.args.floats.now s.args.missing.now s.args.out.now p.loop-i.out p.loop-i.i p.loop-i.invariant _ _ n.loop-i-test.taken
+    go_on s.args.floats.now s.args.missing.now s.args.out.now p.loop-i.out p.loop-i.i p.loop-i.invariant _ _ n.loop-i-test.true
     c.sample_at.ensures c.hear-h.ensures _ c.if-h-ne0.false c.if-out-i.false c.put_pair.ensures
 
 same-length-3 : tie.Need-shape_of-out invariant-loop-i decreases-loop-i

@@ -21,10 +21,9 @@ enum_told c = search rules
 
 returns : tie.Need-returns-in-Heard
 returns c =
-    let g = c.in-Heard.given in
     let k = c.in-Heard.known_told-1-own.given in
-    heard-marked _ _ _ _ c.hear_sampled-h.ensures g.1
-    (record { number = refl; x-is = to_z-of_z w32 g.0.0 (record { sfits = k.0.1 }); y-is = to_z-of_z w32 g.0.1.0 (record { sfits = k.1.0.1 }); place = refl })
+    heard-marked _ _ _ _ c.hear_sampled-h.ensures c.in-Heard.is
+    (record { number = refl; x-is = to_z-of_z w32 c.in-Heard.x (record { sfits = k.0.1 }); y-is = to_z-of_z w32 c.in-Heard.y (record { sfits = k.1.0.1 }); place = refl })
 
 returns-2 : tie.Need-returns-in-Refused
 returns-2 c = heard-marked _ _ _ _ c.hear_sampled-h.ensures c.in-Refused.is (record { number = refl; x-is = refl; y-is = refl; place = refl })

@@ -1,6 +1,7 @@
 -- `sample_at`: missing by its mark; heard where that is another, or not there.
 use mathlib.Core.Logic.{⊎_elim, inl, inr}
 use borrow.Author.Rules.{rules}
+use borrow.Author.Tests.{eq-eqb, ne_eqb}
 use Rattle.c_samples.proofs.Flags.{not-marked}
 use Rattle.c_samples.proofs.Floats.{sample-missing, sample-heard}
 use Rattle.c_samples.proofs.sample_at.Statement.{statement}
@@ -10,7 +11,7 @@ shared-slice-read-if2 : tie.Need-bounds-missing-j
 shared-slice-read-if2 c = search rules
 
 returns : tie.Need-returns-then-missing-j-eq1
-returns c = sample-missing c.args.missing.now c.args.floats.now c.args.i c.if-missing-j-eq1.true
+returns c = sample-missing c.args.missing.now c.args.floats.now c.args.i (eq-eqb _ _ c.if-missing-j-eq1.true)
 
 mul-t6 : tie.Need-offset_bounds-floats-i
 mul-t6 c = search rules
@@ -31,7 +32,7 @@ returns-2 : tie.Need-returns
 returns-2 c =
     let missing = c.args.missing.now in
     sample-heard missing c.args.floats.now c.args.i
-    (⊎_elim (λ w. not-marked missing _ (inl w.2.left)) (λ w. not-marked missing _ (inr w.left)) c.else-j-missing.branch)
+    (⊎_elim (λ w. not-marked missing _ (inl (ne_eqb _ _ w.if-missing-j-eq1.false))) (λ w. not-marked missing _ (inr w.if-j-missing.false)) c.else-j-missing.branch-raw)
 
 pub sample_at_spec : {M : Type 1} → statement M
 sample_at_spec =

@@ -13,7 +13,7 @@ use Rattle.c_states.specs.Front.{words_of_core}
 use Rattle.c_states.proofs.store_front.Statement.{statement}
 use Rattle.c_states.proofs.store_front.Tie as tie
 
-sized : (s : tie.Start) → (length s.args.sums ≡ 16) × (length s.args.t4 ≡ 48)
+sized : (s : tie.Start) → (length s.args.sums ≡ 16) × (length s.args.registers ≡ 48)
 sized s = (search rules, search rules)
 
 store-core-requires : tie.Need-store_core-requires
@@ -81,9 +81,9 @@ returns c =
     let is = c.pack-halves.ensures.0 in
     let e₁ = take_all 8 c.pack-halves.result (omega (arith, ap length is)) ∙ is in
     let e₂ = placed l head 6 refl core.words halves 8 (all-copied halves _ _ 8 e₁ n₀ c.copy.ensures) in
-    let e₃ = placed l two 14 m₂ e₂ a.t4 48 (all-copied a.t4 _ _ 48 (take_all 48 a.t4 (omega arith)) n₂ c.copy-2.ensures) in
+    let e₃ = placed l two 14 m₂ e₂ a.registers 48 (all-copied a.registers _ _ 48 (take_all 48 a.registers (omega arith)) n₂ c.copy-2.ensures) in
     record {
-      words = e₃ ∙ ap (λ (m : List ℕ). m ++ drop 62 l) (append_assoc head halves a.t4);
+      words = e₃ ∙ ap (λ (m : List ℕ). m ++ drop 62 l) (append_assoc head halves a.registers);
       u-fits = core.u-fits;
       turn-fits = core.turn-fits;
       sums-fit = n₁;

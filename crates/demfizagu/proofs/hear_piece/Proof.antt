@@ -79,7 +79,7 @@ hear-piece-lent-requires : tie.Need-hear_piece_lent-a-requires
 hear-piece-lent-requires c κs = search rules
 
 answer-requires-2 : tie.Need-answer-n-requires
-answer-requires-2 c κs = let e = c.before.before in e.if-told-lt3.left
+answer-requires-2 c κs = let e = c.before.before in e.if-told-lt3.false
 
 same-length-3 : tie.Need-shape_of-state-then-a-eq0
 same-length-3 c = search rules
@@ -93,17 +93,17 @@ same-length-5 c = search rules
 returns-3 : tie.Need-returns-then-a-eq0
 returns-3 c =
     let d = to-hear-piece-lent c.before.before.before.before in
-    let e = (to-load-front d).before.before in
+    let e = (to-load-front d).before in
     let f = to-load-front d in
     let s = to_start e.before in
     let a = s.args in
     lent-kept a.state.now (piece s) a.out.now a.told.now (yes e) f.load_front-copied.result f.load_front-copied.ensures d.hear_piece_lent-a.result _ _ _ _
-    d.hear_piece_lent-a.ensures e.if-told-lt3.left _ _ c.answer-n.ensures.0 c.answer-n.ensures.1 c.if-a-eq0.true
+    d.hear_piece_lent-a.ensures e.if-told-lt3.false _ _ c.answer-n.ensures.0 c.answer-n.ensures.1 c.if-a-eq0.true
 
 store-front-requires : tie.Need-store_front-requires
 store-front-requires c κs =
     let d = to-hear-piece-lent c.before.before.before.before.before.before in
-    let e = (to-load-front d).before.before in
+    let e = (to-load-front d).before in
     let a = (to_start e.before).args in
     around-long a.state.now (yes e) (picks d)
 
@@ -119,12 +119,12 @@ same-length-8 c = search rules
 returns-4 : tie.Need-returns
 returns-4 c =
     let d = to-hear-piece-lent c.before.before.before.before.before.before.before.before.before in
-    let e = (to-load-front d).before.before in
+    let e = (to-load-front d).before in
     let f = to-load-front d in
     let s = to_start e.before in
     let a = s.args in
     lent_written a.state.now (piece s) a.out.now a.told.now (yes e) f.load_front-copied.result f.load_front-copied.ensures d.hear_piece_lent-a.result _ _ _ _
-    d.hear_piece_lent-a.ensures e.if-told-lt3.left _ _ c.answer-n.ensures.0 c.answer-n.ensures.1 _ (sized d)
+    d.hear_piece_lent-a.ensures e.if-told-lt3.false _ _ c.answer-n.ensures.0 c.answer-n.ensures.1 _ (sized d)
     c.if-a-eq0.false c.store_front.ensures
 
 pub hear_piece_spec : {M : Type 1} → statement M

@@ -9,8 +9,8 @@ use borrow.Author.Rules.{rules}
 use Rattle.c_replay_state.proofs.numbers.core_of.Statement.{statement}
 use Rattle.c_replay_state.proofs.numbers.core_of.Tie as tie
 
-known : (s : tie.Start) (i : ℕ) → i < 18 → get_or s.args.t1 i 0 ≤ get_or limits i 0
-known s i h = within-at limits s.args.t1 s.requires i h
+known : (s : tie.Start) (i : ℕ) → i < 18 → get_or s.args.numbers i 0 ≤ get_or limits i 0
+known s i h = within-at limits s.args.numbers s.requires i h
 
 array-read-accord-in : tie.Need-bounds-numbers-13
 array-read-accord-in c = search rules
@@ -25,7 +25,7 @@ array-read-t13 : tie.Need-bounds-numbers-14
 array-read-t13 c = search rules
 
 cast-t14 : tie.Need-overflow_cast-result
-cast-t14 c = let h : get_or c.args.t1 14 0 ≤ 4294967295 = known c.before 14 (omega arith) in omega (arith, h)
+cast-t14 c = let h : get_or c.args.numbers 14 0 ≤ 4294967295 = known c.before 14 (omega arith) in omega (arith, h)
 
 array-read-t17 : tie.Need-bounds-numbers-22
 array-read-t17 c = search rules

@@ -9,20 +9,20 @@ use Rattle.c_replay_state.specs.Numbers.{judge_in}
 use Rattle.c_replay_state.proofs.numbers.judge_of.Statement.{statement}
 use Rattle.c_replay_state.proofs.numbers.judge_of.Tie as tie
 
-known : (s : tie.Start) (i : ℕ) → i < 18 → get_or s.args.t1 i 0 ≤ get_or limits i 0
-known s i h = within-at limits s.args.t1 s.requires i h
+known : (s : tie.Start) (i : ℕ) → i < 18 → get_or s.args.numbers i 0 ≤ get_or limits i 0
+known s i h = within-at limits s.args.numbers s.requires i h
 
 array-read-g : tie.Need-bounds-numbers-16
 array-read-g c = search rules
 
 cast-g : tie.Need-overflow_cast-g
-cast-g c = let h : get_or c.args.t1 16 0 ≤ 4294967295 = known c.before 16 (omega arith) in omega (arith, h)
+cast-g c = let h : get_or c.args.numbers 16 0 ≤ 4294967295 = within-at limits c.args.numbers c.requires 16 (omega arith) in omega (arith, h)
 
 array-read-h : tie.Need-bounds-numbers-17
 array-read-h c = search rules
 
 cast-h : tie.Need-overflow_cast-h
-cast-h c = let h : get_or c.args.t1 17 0 ≤ 4294967295 = known c.before 17 (omega arith) in omega (arith, h)
+cast-h c = let h : get_or c.args.numbers 17 0 ≤ 4294967295 = within-at limits c.args.numbers c.requires 17 (omega arith) in omega (arith, h)
 
 array-read-t7 : tie.Need-bounds-numbers-12
 array-read-t7 c = search rules

@@ -110,20 +110,20 @@ returns c =
     let f = c.args.f in
     let j = c.args.j in
     let bytes : Bytes f.body = (
-      omega (arith, c.byte.ensures, c.byte.type-inv),
-      omega (arith, c.byte-2.ensures, c.byte-2.type-inv),
-      omega (arith, c.byte-3.ensures, c.byte-3.type-inv),
-      omega (arith, c.byte-4.ensures, c.byte-4.type-inv),
-      omega (arith, c.byte-5.ensures, c.byte-5.type-inv),
-      omega (arith, c.byte-6.ensures, c.byte-6.type-inv),
-      omega (arith, c.byte-7.ensures, c.byte-7.type-inv),
-      omega (arith, c.byte-8.ensures, c.byte-8.type-inv),
-      omega (arith, c.byte-9.ensures, c.byte-9.type-inv),
+      omega (arith, c.byte.ensures, c.byte.type_inv),
+      omega (arith, c.byte-2.ensures, c.byte-2.type_inv),
+      omega (arith, c.byte-3.ensures, c.byte-3.type_inv),
+      omega (arith, c.byte-4.ensures, c.byte-4.type_inv),
+      omega (arith, c.byte-5.ensures, c.byte-5.type_inv),
+      omega (arith, c.byte-6.ensures, c.byte-6.type_inv),
+      omega (arith, c.byte-7.ensures, c.byte-7.type_inv),
+      omega (arith, c.byte-8.ensures, c.byte-8.type_inv),
+      omega (arith, c.byte-9.ensures, c.byte-9.type_inv),
     ) in
     let kind = c.struct_known-1.given in
     let none : within limits (numbers_of f j) ≡ true = fit f j (omega (arith, kind)) bytes (wide c.before.before.before.before.before.before.before.before.before.before.before.before.before.before.before.before.before.before.before.before.before.before)
     (omega (arith, c.struct_known-2-1.given))
-    (omega (arith, c.got_of.ensures, c.got_of.type-inv)) (omega (arith, c.wanted_of.ensures, c.wanted_of.type-inv)) in
+    (omega (arith, c.got_of.ensures, c.got_of.type_inv)) (omega (arith, c.wanted_of.ensures, c.wanted_of.type_inv)) in
     let k = j.core in
     let same : _ ≡ numbers_of f j = λ i.
     c.stage_number.ensures i ∷

@@ -44,8 +44,8 @@ loop-again c =
     let i = c.loop-i.i in
     let rest = within (drop (i + 1) ls) (drop (i + 1) ws) in (
       omega arith,
-      c.loop-i.invariant.1 ∙ ⊎_elim (λ w. step-over ls ws i c.loop-i.ok (omega arith) (omega arith) w.0.taken ∙ ap (λ (b : Bool). b && rest) (sym w.1))
-          (λ w. step_fits ls ws i c.loop-i.ok (omega arith) (omega arith) w.0.left ∙ ap (λ (b : Bool). b && rest) (sym w.1)) c.if-words-i.branch,
+      c.loop-i.invariant.1 ∙ ⊎_elim (λ w. step-over ls ws i c.loop-i.ok (omega arith) (omega arith) w.if-words-i.true ∙ ap (λ (b : Bool). b && rest) (sym w.ok-is))
+          (λ w. step_fits ls ws i c.loop-i.ok (omega arith) (omega arith) w.if-words-i.false ∙ ap (λ (b : Bool). b && rest) (sym w.ok-is)) c.if-words-i.branch-raw,
     )
 
 returns : tie.Need-returns invariant-loop-i decreases-loop-i

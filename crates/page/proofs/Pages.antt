@@ -8,7 +8,7 @@ use native.Mathlib.Nat.{pow-le-pow_right}
 use native.Mathlib.Numerals.{add-one}
 use borrow.Author.Tests.{leb-true, leb-false}
 use lib.Dec.{leb}
-use lib.IntN.{ℤ, pos, negsuc, nat_abs}
+use lib.IntN.{ℤ, nat_abs}
 use lib.ListN.{length, get_or, take, drop, set, length-append, length-take}
 use lib.Seq.{paste, paste-zero, paste-suc, take_all, set_split, append_snoc, take_at, drop_at, drop-drop}
 use Rattle.io.specs.Counts.{IsPrefixLen}

@@ -87,18 +87,14 @@ add-from : tie.Need-overflow_add-from invariant-loop-k decreases-loop-k
 add-from c = omega (arith, ends (to-token c))
 
 loop-less : tie.Need-loop-k-smaller invariant-loop-k decreases-loop-k
-loop-less c =
-    let e = c.before.before in
-    omega (arith, e.loop-k-test.taken, e.loop-k.invariant.1.long)
+loop-less c = omega (arith, c.loop-k-test.true, c.loop-k.invariant.1.long)
 
 loop-again : tie.Need-loop-k-preserved invariant-loop-k decreases-loop-k
-loop-again c =
-    let d = to-token c in
-    let e = d.before.before in (
-      omega (arith, e.loop-k-test.taken, e.loop-k.invariant.1.long),
-      more e.loop-k.invariant.1 e.loop-k-test.taken e.if-s-from.left d.before-in-loop-k.ensures _ _ refl
-          (ap number_got (sym c.in-Got.is ∙ c.decimal.ensures)),
-    )
+loop-again c = (
+    omega (arith, c.loop-k-test.true, c.loop-k.invariant.1.long),
+    more c.loop-k.invariant.1 c.loop-k-test.true c.if-s-from.false c.before-in-loop-k.ensures _ _ refl
+        (ap number_got (sym c.in-Got.is ∙ c.decimal.ensures)),
+  )
 
 same-length-3 : tie.Need-shape_of-list invariant-loop-k decreases-loop-k
 same-length-3 c = search rules

@@ -4,6 +4,7 @@ use mathlib.Core.Path.{sym, ap, ◌∙◌}
 use native.Mathlib.Omega.{arith}
 use borrow.Author.Rules.{rules}
 use lib.ListN.{length}
+use mir.Syntax.{w32}
 use mir.Facts.{to_z-of_z}
 use Rattle.number_lists.specs.Many.{whole_got, whole_in}
 use Rattle.line_fields.proofs.Reading.{Read, begun, ended, gone, within, bad, more}
@@ -88,18 +89,14 @@ add-from : tie.Need-overflow_add-from invariant-loop-k decreases-loop-k
 add-from c = omega (arith, ends (to-token c))
 
 loop-less : tie.Need-loop-k-smaller invariant-loop-k decreases-loop-k
-loop-less c =
-    let e = c.before.before in
-    omega (arith, e.loop-k-test.taken, e.loop-k.invariant.1.long)
+loop-less c = omega (arith, c.loop-k-test.true, c.loop-k.invariant.1.long)
 
 loop-again : tie.Need-loop-k-preserved invariant-loop-k decreases-loop-k
-loop-again c =
-    let d = to-token c in
-    let e = d.before.before in (
-      omega (arith, e.loop-k-test.taken, e.loop-k.invariant.1.long),
-      more e.loop-k.invariant.1 e.loop-k-test.taken e.if-s-from.left d.before-in-loop-k.ensures _ _ (to_z-of_z (record { sfits = c.in-Got.known_told-1-own.given.0.1 }))
-          (ap whole_got (sym c.in-Got.is ∙ c.signed.ensures)),
-    )
+loop-again c = (
+    omega (arith, c.loop-k-test.true, c.loop-k.invariant.1.long),
+    more c.loop-k.invariant.1 c.loop-k-test.true c.if-s-from.false c.before-in-loop-k.ensures _ _ (to_z-of_z {w = w32} (record { sfits = c.in-Got.known_told-1-own.given.0.1 }))
+        (ap whole_got (sym c.in-Got.is ∙ c.signed.ensures)),
+  )
 
 same-length-3 : tie.Need-shape_of-list invariant-loop-k decreases-loop-k
 same-length-3 c = search rules

@@ -33,11 +33,8 @@ returns-2 c =
 
 -- one digit more, whatever 64 bits hold
 module _ (e : tie.Else-d-ge10 invariant-loop-i decreases-loop-i) where
-  abbrev a₂ : tie.At-loop-i invariant-loop-i decreases-loop-i
-  a₂ = e.before.before.before.before
-
-  longer : Reads 10 a₂.args.s.now (a₂.loop-i.n * 10 + e.digit-d.result) (a₂.loop-i.i + 1)
-  longer = further a₂.loop-i.invariant.2 e.loop-i-test.taken e.digit-d.ensures e.if-d-ge10.left
+  longer : Reads 10 e.args.s.now (e.loop-i.n * 10 + e.digit-d.result) (e.loop-i.i + 1)
+  longer = further e.loop-i.invariant.2 e.loop-i-test.true e.digit-d.ensures e.if-d-ge10.false
 
 returns-3 : tie.Need-returns-then-n-gt-TENTH invariant-loop-i decreases-loop-i
 returns-3 c = ap number_got (too_large (longer c.before) 18446744073709551615 (omega arith) (omega arith))

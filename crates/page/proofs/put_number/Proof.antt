@@ -23,7 +23,7 @@ same_length c = search rules
 returns : tie.Need-returns
 returns c =
     number_put c.decimal-k.new.out c.ranges.n.fits c.decimal-k.ensures.0 c.decimal-k.ensures.1.0
-    c.decimal-k.ensures.1.1 c.put_text.ensures
+    c.decimal-k.ensures.1.1.0 c.put_text.ensures
 
 pub put_number_spec : {M : Type 1} → statement M
 put_number_spec =

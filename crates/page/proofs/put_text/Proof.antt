@@ -1,6 +1,6 @@
 -- `put_text`: after i turns the page has the first i bytes of the text.
 use Prim.Native.Nat.{◌-◌, ◌≤◌}
-use mathlib.Core.Path.{◌≡◌, refl, sym, ◌∙◌}
+use mathlib.Core.Path.{◌≡◌, refl}
 use native.Mathlib.Omega.{arith}
 use lib.ListN.{length, length-set}
 use Rattle.page.proofs.Pages.{Pasted, none-put, one_more, all-put}

@@ -46,10 +46,6 @@ returns-2 : tie.Need-returns-then-n-rest
 returns-2 c =
     list-alone c.before-n.ensures _ c.if-n-rest.true (sym c.in-Got.is ∙ c.cap_of.ensures)
 
--- the way back from the words to the text behind the cap
-abbrev to-rest : tie.After-number_list → tie.Else-n-rest
-to-rest n = n.before.before.before
-
 add-number-list : tie.Need-overflow_add-n
 add-number-list c = search rules
 
@@ -76,8 +72,7 @@ same_length c = search rules
 
 returns-3 : tie.Need-returns-in_default-number_list
 returns-3 c =
-    let e = to-rest c.before.before.before in
-    list-more e.before-n.ensures e.if-n-rest.left (sym e.cap.given.1 ∙ e.cap_of.ensures)
+    list-more c.before-n.ensures c.if-n-rest.false (sym c.in-Got.is ∙ c.cap_of.ensures)
     (lists-as c.in_default-number_list.is c.number_list.ensures) refl
 
 same-length-2 : tie.Need-shape_of-words-then-count-gt-MOST_WORDS
@@ -85,8 +80,7 @@ same-length-2 c = search rules
 
 returns-4 : tie.Need-returns-then-count-gt-MOST_WORDS
 returns-4 c =
-    let e = to-rest c.before.before.before.before in
-    list-more e.before-n.ensures e.if-n-rest.left (sym e.cap.given.1 ∙ e.cap_of.ensures)
+    list-more c.before-n.ensures c.if-n-rest.false (sym c.in-Got.is ∙ c.cap_of.ensures)
     (lists-as c.in-Got-number_list.is c.number_list.ensures) (too_many _ _ c.if-count-gt-MOST_WORDS.true)
 
 same-length-3 : tie.Need-shape_of-words
@@ -94,8 +88,7 @@ same-length-3 c = search rules
 
 returns-5 : tie.Need-returns
 returns-5 c =
-    let e = to-rest c.before.before.before.before in
-    list-more e.before-n.ensures e.if-n-rest.left (sym e.cap.given.1 ∙ e.cap_of.ensures)
+    list-more c.before-n.ensures c.if-n-rest.false (sym c.in-Got.is ∙ c.cap_of.ensures)
     (lists-as c.in-Got-number_list.is c.number_list.ensures) (so-many _ _ c.if-count-gt-MOST_WORDS.false)
 
 pub read_spec : {M : Type 1} → statement M

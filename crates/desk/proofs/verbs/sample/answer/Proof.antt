@@ -36,10 +36,9 @@ returns : tie.Need-returns-in-Heard
 unfolding sample_line
 returns c =
     let told = c.in-Heard.known_told-1-own.given in
-    let values = c.in-Heard.given in
     puts-as
-    (pair-back values.0.0 values.0.1.0 (record { sfits = told.0.1 }) (record { sfits = told.1.0.1 })
-    ∙ answer-text values.1 c.hear_sampled-heard.ensures) c.pair.ensures
+    (pair-back c.in-Heard.x c.in-Heard.y (record { sfits = told.0.1 }) (record { sfits = told.1.0.1 })
+    ∙ answer-text c.in-Heard.is c.hear_sampled-heard.ensures) c.pair.ensures
 
 same-length-2 : tie.Need-shape_of-page-in-Refused
 same-length-2 c = search rules

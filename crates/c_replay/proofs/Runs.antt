@@ -2,6 +2,7 @@
 -- with no further line".
 --   run-keeps         the state of a run, and what it said
 --   lumps-said        THE THEOREM: a start, any lumps, the end: joined, what is said is the line of the verdict on all the bytes
+--   lumps-said-freely the same of runs with refused ends and copied states (specs/Freely); freely: a run is such a run
 --   ended-none        a state that has ended holds no replay: every later call answers 9
 --   feed-settled, end-settled, start-settled   any two results that a promise allows are equal
 use mathlib.Core.Path.{◌≡◌, refl, sym, ap, subst, ◌∙◌}
@@ -21,7 +22,9 @@ use Rattle.c_replay_state.specs.Table.{replay_tag, replay_length}
 use Rattle.c_replay_state.specs.Words.{holds_replay, course_in}
 use Rattle.c_replay.specs.Calls.{Call, Started, is_short, quiet, saying, is_found, verdict_now, into, fed, over, refusing, gone_on, start_call, feed_call, end_call}
 use Rattle.c_replay.specs.Promise.{Keeps, Starts, Feeds, Ends}
-use Rattle.c_replay.specs.Run.{said_in, all_of, Fed, none, lump, refused, refused_end, copied}
+use Rattle.c_replay.specs.Run as run
+use Rattle.c_replay.specs.Run.{said_in, all_of, Fed}
+use Rattle.c_replay.specs.Freely.{FedFreely, none, lump, refused, refused_end, copied}
 use Rattle.c_replay.proofs.Cases.{long-enough}
 use Rattle.c_replay.proofs.Final.{gone_all, fresh, said_by, said_at_end, said-once}
 use Rattle.c_replay.proofs.Settling.{ended_is}
@@ -129,7 +132,7 @@ refused-end-stays line told {s} n f some =
 
 -- ---- a run
 
-pub run-keeps : (s : List ℕ) {t w : List ℕ} {xs : List (List ℕ)} (c : Course) → Keeps s c → Fed s xs w t → (w ≡ said_by c xs) × Keeps t (gone_all c xs)
+pub run-keeps : (s : List ℕ) {t w : List ℕ} {xs : List (List ℕ)} (c : Course) → Keeps s c → FedFreely s xs w t → (w ≡ said_by c xs) × Keeps t (gone_all c xs)
 unfolding said_by gone_all
 run-keeps s c k none = (refl, k)
 run-keeps s c k (lump {t = t} {x = x} line told line' told' f r) =
@@ -147,12 +150,22 @@ unfolding found
 fresh-none = refl
 
 -- THE THEOREM
-pub lumps-said : (s₀ line told : List ℕ) {s t u w line' told' : List ℕ} {xs : List (List ℕ)} → Starts (start_call s₀) 0 s → Fed s xs w t → Ends (end_call t line told) 0 u line' told'
+pub lumps-said-freely : (s₀ line told : List ℕ) {s t u w line' told' : List ℕ} {xs : List (List ℕ)} → Starts (start_call s₀) 0 s → FedFreely s xs w t → Ends (end_call t line told) 0 u line' told'
     → w ++ said_in told' line' ≡ line_of (capped_verdict (verdict_of (all_of xs)))
-lumps-said s₀ line told {s = s} {t = t} {xs = xs} a r e =
+lumps-said-freely s₀ line told {s = s} {t = t} {xs = xs} a r e =
     let c = replay_of fresh_replay in
     let k = run-keeps s c (a.keeps refl) r in
     (λ i. k.0 i ++ end-said t line told (gone_all c xs) k.1 e i) ∙ said-once c xs fresh-none ∙ ap line_of (ended_is (all_of xs))
+
+-- a run is a free one
+pub freely : {s t w : List ℕ} {xs : List (List ℕ)} → Fed s xs w t → FedFreely s xs w t
+freely run.none = none
+freely (run.lump line told line' told' f r) = lump line told line' told' f (freely r)
+freely (run.refused n line told line' told' f some r) = refused n line told line' told' f some (freely r)
+
+pub lumps-said : (s₀ line told : List ℕ) {s t u w line' told' : List ℕ} {xs : List (List ℕ)} → Starts (start_call s₀) 0 s → Fed s xs w t → Ends (end_call t line told) 0 u line' told'
+    → w ++ said_in told' line' ≡ line_of (capped_verdict (verdict_of (all_of xs)))
+lumps-said s₀ line told a r e = lumps-said-freely s₀ line told a (freely r) e
 
 -- ---- a replay that has ended
 

@@ -16,7 +16,8 @@ use Rattle.replay.proofs.Feeds.{feedings-append}
 use Rattle.replay_text.specs.Says.{line_of}
 use Rattle.c_replay.specs.Calls.{is_found, verdict_now, gone_on, start_call, feed_call}
 use Rattle.c_replay.specs.Promise.{Starts, Feeds}
-use Rattle.c_replay.specs.Run.{said_in, all_of, Fed}
+use Rattle.c_replay.specs.Run.{said_in, all_of}
+use Rattle.c_replay.specs.Freely.{FedFreely}
 use Rattle.c_replay.specs.Settled.{Settled, Open}
 use Rattle.c_replay.proofs.Final.{gone_all, fresh, step_stays, stays-found, all_after, gone-before}
 use Rattle.c_replay.proofs.Settling.{begins, ended_is, found-settled, settled-found}
@@ -53,7 +54,7 @@ alike-by c (x ∷ xs) = go (is_found c) refl (alike-by (feedings c x) xs)
 
 -- ---- what a lump says
 
-module _ (s₀ line told : List ℕ) {s t u w line' told' x : List ℕ} {xs : List (List ℕ)} (starts : Starts (start_call s₀) 0 s) (run : Fed s xs w t)
+module _ (s₀ line told : List ℕ) {s t u w line' told' x : List ℕ} {xs : List (List ℕ)} (starts : Starts (start_call s₀) 0 s) (run : FedFreely s xs w t)
     (fed : Feeds t x (feed_call t x line told) 0 u line' told') where
   abbrev before : Course
   before = gone_all begins xs

@@ -3,3 +3,4 @@ pub mod Promise
 pub mod Run
 pub mod Saying
 pub mod Settled
+pub mod Freely

@@ -31,37 +31,32 @@ use c_states::{
 use openings::{Opened, Start};
 use reasons::Why;
 
-#[unsafe(no_mangle)]
-pub extern "C" fn demfizagu_version() -> u32
+pub fn demfizagu_version() -> u32
     ensures { result ≡ 1 }
 {
     1
 }
 
-#[unsafe(no_mangle)]
-pub extern "C" fn demfizagu_sender_words() -> usize
+pub fn demfizagu_sender_words() -> usize
     ensures { result ≡ sender_length }
 {
     c_layout::SENDER_WORDS
 }
 
-#[unsafe(no_mangle)]
-pub extern "C" fn demfizagu_receiver_words() -> usize
+pub fn demfizagu_receiver_words() -> usize
     ensures { result ≡ receiver_length }
 {
     c_layout::RECEIVER_WORDS
 }
 
-#[unsafe(no_mangle)]
-pub extern "C" fn demfizagu_sender_open(state: &mut [u64], u: u32) -> u32
+pub fn demfizagu_sender_open(state: &mut [u64], u: u32) -> u32
     ensures { Opens sender_in (sender_opening state.old (of_width u)) result state.new }
 {
     demfizagu_sender_open_map(state, 0, u)
 }
 
 // The same on the map with this number: 0 is the round map, 1 the square map.
-#[unsafe(no_mangle)]
-pub extern "C" fn demfizagu_sender_open_map(state: &mut [u64], map: u32, u: u32) -> u32
+pub fn demfizagu_sender_open_map(state: &mut [u64], map: u32, u: u32) -> u32
     ensures { Opens sender_in (sender_opening state.old (accord_by map u)) result state.new }
 {
     if state.len() < c_layout::SENDER_WORDS {
@@ -75,8 +70,7 @@ pub extern "C" fn demfizagu_sender_open_map(state: &mut [u64], map: u32, u: u32)
 }
 
 // Refused, in this order: a closed sender, a bit at or above 3 + 2u, an output shorter than four places.
-#[unsafe(no_mangle)]
-pub extern "C" fn demfizagu_send(state: &mut [u64], word: u32, out: &mut [i32]) -> u32
+pub fn demfizagu_send(state: &mut [u64], word: u32, out: &mut [i32]) -> u32
     ensures { Sends (send_call state.old word out.old) result state.new out.new }
 {
     let a = sender::send(load_sender(state), word, out);
@@ -91,8 +85,7 @@ pub extern "C" fn demfizagu_send(state: &mut [u64], word: u32, out: &mut [i32]) 
 }
 
 // A list of words, word by word up to the first that is refused. The state is written back where a word was sent.
-#[unsafe(no_mangle)]
-pub extern "C" fn demfizagu_send_list(
+pub fn demfizagu_send_list(
     state: &mut [u64],
     words: &[u32],
     out: &mut [i32],
@@ -128,16 +121,14 @@ fn opened(state: &mut [u64], o: Opened) -> u32
     reasons::number(why)
 }
 
-#[unsafe(no_mangle)]
-pub extern "C" fn demfizagu_receiver_open(state: &mut [u64], u: u32, window: u32, start: u32) -> u32
+pub fn demfizagu_receiver_open(state: &mut [u64], u: u32, window: u32, start: u32) -> u32
     ensures { Opens receiver_in (receiver_opening state.old (of_width u) window (start_at start)) result state.new }
 {
     demfizagu_receiver_open_map(state, 0, u, window, start)
 }
 
 // The same on the map with this number.
-#[unsafe(no_mangle)]
-pub extern "C" fn demfizagu_receiver_open_map(
+pub fn demfizagu_receiver_open_map(
     state: &mut [u64],
     map: u32,
     u: u32,
@@ -157,8 +148,7 @@ pub extern "C" fn demfizagu_receiver_open_map(
 }
 
 // The plain opening of the receiver.
-#[unsafe(no_mangle)]
-pub extern "C" fn demfizagu_receiver_open_plain(state: &mut [u64], u: u32) -> u32
+pub fn demfizagu_receiver_open_plain(state: &mut [u64], u: u32) -> u32
     ensures { Opens receiver_in (receiver_opening state.old (of_width u) plain_window Start.Free) result state.new }
 {
     opened(state, openings::open_plain(c_layout::accord_by(0, u)))
@@ -218,13 +208,7 @@ fn hear_piece(
     n
 }
 
-#[unsafe(no_mangle)]
-pub extern "C" fn demfizagu_hear(
-    state: &mut [u64],
-    piece: &[i32],
-    out: &mut [u32],
-    told: &mut [u64],
-) -> u32
+pub fn demfizagu_hear(state: &mut [u64], piece: &[i32], out: &mut [u32], told: &mut [u64]) -> u32
     ensures { Answers (hear_call state.old (piece_of piece.now) out.old told.old) result state.new out.new told.new }
 {
     let none = [0u8; 0];
@@ -232,8 +216,7 @@ pub extern "C" fn demfizagu_hear(
 }
 
 // A mark for each symbol: 0 both points heard, 1 the first missing, 2 the second, 3 both.
-#[unsafe(no_mangle)]
-pub extern "C" fn demfizagu_hear_marked(
+pub fn demfizagu_hear_marked(
     state: &mut [u64],
     piece: &[i32],
     marks: &[u8],
@@ -247,8 +230,7 @@ pub extern "C" fn demfizagu_hear_marked(
 }
 
 // The state is written back, closed, where the finish was done.
-#[unsafe(no_mangle)]
-pub extern "C" fn demfizagu_finish(state: &mut [u64], out: &mut [u32], told: &mut [u64]) -> u32
+pub fn demfizagu_finish(state: &mut [u64], out: &mut [u32], told: &mut [u64]) -> u32
     ensures { Answers (finish_call state.old out.old told.old) result state.new out.new told.new }
 {
     if told.len() < 3 {
@@ -266,16 +248,14 @@ pub extern "C" fn demfizagu_finish(state: &mut [u64], out: &mut [u32], told: &mu
 }
 
 // 0 of a sender and of a closed state.
-#[unsafe(no_mangle)]
-pub extern "C" fn demfizagu_pending(state: &[u64]) -> u32
+pub fn demfizagu_pending(state: &[u64]) -> u32
     ensures { result ≡ pending_in state.now }
 {
     let n = openings::pending(load_receiver(state));
     n as u32
 }
 
-#[unsafe(no_mangle)]
-pub extern "C" fn demfizagu_is_open(state: &[u64]) -> u32
+pub fn demfizagu_is_open(state: &[u64]) -> u32
     ensures { result ≡ open_in state.now }
 {
     if openings::is_open(load_receiver(state)) {
@@ -287,24 +267,21 @@ pub extern "C" fn demfizagu_is_open(state: &[u64]) -> u32
     0
 }
 
-#[unsafe(no_mangle)]
-pub extern "C" fn demfizagu_sample(x: f32, y: f32, out: &mut [i32]) -> u32
+pub fn demfizagu_sample(x: f32, y: f32, out: &mut [i32]) -> u32
     ensures { Samples (sample_call x y out.old) result out.new }
 {
     c_samples::convert_sample(x, y, out)
 }
 
 // Refused as a whole where the length is odd.
-#[unsafe(no_mangle)]
-pub extern "C" fn demfizagu_samples(floats: &[f32], out: &mut [i32], told: &mut [u64]) -> u32
+pub fn demfizagu_samples(floats: &[f32], out: &mut [i32], told: &mut [u64]) -> u32
     ensures { Converts (samples_call floats.now out.old told.old) result out.new told.new }
 {
     c_samples::convert_list(floats, out, told)
 }
 
 // A mark for each sample: 0 heard, 1 missing. Refused as a whole where the marks do not fit.
-#[unsafe(no_mangle)]
-pub extern "C" fn demfizagu_samples_marked(
+pub fn demfizagu_samples_marked(
     floats: &[f32],
     missing: &[u8],
     out: &mut [i32],
@@ -316,29 +293,20 @@ pub extern "C" fn demfizagu_samples_marked(
 }
 
 // The record of an opening: 8 where the bytes are too short for it, then 1, 2, 3. A refusal writes no byte.
-#[unsafe(no_mangle)]
-pub extern "C" fn demfizagu_record_open(u: u32, window: u32, start: u32, bytes: &mut [u8]) -> u32
+pub fn demfizagu_record_open(u: u32, window: u32, start: u32, bytes: &mut [u8]) -> u32
     ensures { OpenTaped (of_width u) window start bytes.old result bytes.new }
 {
     demfizagu_record_open_map(0, u, window, start, bytes)
 }
 
 // The same on the map with this number: the square map's opens with kind 6.
-#[unsafe(no_mangle)]
-pub extern "C" fn demfizagu_record_open_map(
-    map: u32,
-    u: u32,
-    window: u32,
-    start: u32,
-    bytes: &mut [u8],
-) -> u32
+pub fn demfizagu_record_open_map(map: u32, u: u32, window: u32, start: u32, bytes: &mut [u8]) -> u32
     ensures { OpenTaped (accord_by map u) window start bytes.old result bytes.new }
 {
     recorder::record_open(c_layout::accord_by(map, u), window, start, bytes)
 }
 
-#[unsafe(no_mangle)]
-pub extern "C" fn demfizagu_hear_recorded(
+pub fn demfizagu_hear_recorded(
     state: &mut [u64],
     piece: &[i32],
     out: &mut [u32],
@@ -351,8 +319,7 @@ pub extern "C" fn demfizagu_hear_recorded(
     c_recorder::hear_recorded(state, piece, out, bytes, told)
 }
 
-#[unsafe(no_mangle)]
-pub extern "C" fn demfizagu_hear_marked_recorded(
+pub fn demfizagu_hear_marked_recorded(
     state: &mut [u64],
     piece: &[i32],
     marks: &[u8],
@@ -366,8 +333,7 @@ pub extern "C" fn demfizagu_hear_marked_recorded(
     c_recorder::hear_marked_recorded(state, piece, marks, out, bytes, told)
 }
 
-#[unsafe(no_mangle)]
-pub extern "C" fn demfizagu_finish_recorded(
+pub fn demfizagu_finish_recorded(
     state: &mut [u64],
     out: &mut [u32],
     bytes: &mut [u8],
@@ -379,23 +345,20 @@ pub extern "C" fn demfizagu_finish_recorded(
     c_recorder::finish_recorded(state, out, bytes, told)
 }
 
-#[unsafe(no_mangle)]
-pub extern "C" fn demfizagu_replay_words() -> usize
+pub fn demfizagu_replay_words() -> usize
     ensures { result ≡ replay_length }
 {
     c_replay_state::table::WORDS
 }
 
-#[unsafe(no_mangle)]
-pub extern "C" fn demfizagu_replay_start(state: &mut [u64]) -> u32
+pub fn demfizagu_replay_start(state: &mut [u64]) -> u32
     ensures { Starts (start_call state.old) result state.new }
 {
     c_replay::start(state)
 }
 
 // A lump of a capture's bytes, which may be empty and may end inside a record.
-#[unsafe(no_mangle)]
-pub extern "C" fn demfizagu_replay_feed(
+pub fn demfizagu_replay_feed(
     state: &mut [u64],
     lump: &[u8],
     line: &mut [u8],
@@ -407,16 +370,14 @@ pub extern "C" fn demfizagu_replay_feed(
     c_replay::feed(state, lump, line, told)
 }
 
-#[unsafe(no_mangle)]
-pub extern "C" fn demfizagu_replay_end(state: &mut [u64], line: &mut [u8], told: &mut [u64]) -> u32
+pub fn demfizagu_replay_end(state: &mut [u64], line: &mut [u8], told: &mut [u64]) -> u32
     ensures { Ends (end_call state.old line.old told.old) result state.new line.new told.new }
 {
     c_replay::end(state, line, told)
 }
 
 // The check of another maker's decoder, which chose a sequence for a list of symbols: 1 where it is accepted, else 0. No end is needed.
-#[unsafe(no_mangle)]
-pub extern "C" fn demfizagu_check_card(
+pub fn demfizagu_check_card(
     map: u32,
     u: u32,
     coordinates: &[i32],

@@ -1,6 +1,5 @@
 -- `verdict`: the lists, and the check of them.
 use borrow.Author.Rules.{rules}
-use borrow.Author.Tests.{not-true, not-false}
 use Rattle.requests.proofs.Filling.{no-verdict, verdict-is}
 use Rattle.requests.proofs.card_verb.verdict.Statement.{statement}
 use Rattle.requests.proofs.card_verb.verdict.Tie as tie

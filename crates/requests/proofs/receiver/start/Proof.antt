@@ -1,6 +1,5 @@
 -- `start`: `free` and a map, `at` and a state, or none.
 use mathlib.Core.Path.{sym, ◌∙◌}
-use borrow.Author.Tests.{not-true, not-false}
 use Rattle.requests.proofs.Openings.{start-free, start-more, start-alone}
 use borrow.Author.Rules.{rules}
 use Rattle.requests.proofs.receiver.start.Statement.{statement}

@@ -1,5 +1,5 @@
 -- `verbs::list::sent`: the sender, how many words it sent, and its number and coordinates.
-use mathlib.Core.Path.{sym, ◌∙◌}
+use mathlib.Core.Path.{sym}
 use native.Mathlib.Omega.{arith}
 use Prim.Native.Nat.{◌*◌}
 use lib.ListN.{length-take}

@@ -76,6 +76,6 @@ pub fn act(
             marks: row,
             count,
         } => verbs::marked::hear(desk, cap, row, count, coordinates, marks, words, page, at),
-        Request::Card { accepted } => verbs::card::card(desk, accepted, page, at),
+        Request::Card { accepted } => verbs::card_verb::card(desk, accepted, page, at),
     }
 }

@@ -3,7 +3,7 @@ ghost use Rattle.std.specs.Prelude.{◌≡◌};
 ghost use Rattle.text.specs.Token.{tokens};
 ghost use Rattle.protocol.specs.Request.{sender_verb};
 
-use crate::card;
+use crate::card_verb;
 use requests::Request;
 use text::token;
 
@@ -13,5 +13,5 @@ pub fn tried(word: &[u8], rest: &[u8]) -> Request
     if token::same(word, b"sender") {
         return requests::sender::read(rest);
     }
-    card::tried(word, rest)
+    card_verb::tried(word, rest)
 }

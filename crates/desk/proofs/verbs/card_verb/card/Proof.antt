@@ -1,12 +1,12 @@
--- `verbs::card::card`: the text alone.
+-- `verbs::card_verb::card`: the text alone.
 use mathlib.Core.Path.{refl}
 use native.Mathlib.Omega.{arith}
 use Rattle.answers.proofs.Answers.{card-near}
 use Rattle.desk.specs.Desk.{acting}
 use Rattle.desk.proofs.Desks.{does}
 use borrow.Author.Rules.{rules}
-use Rattle.desk.proofs.verbs.card.card.Statement.{statement}
-use Rattle.desk.proofs.verbs.card.card.Tie as tie
+use Rattle.desk.proofs.verbs.card_verb.card.Statement.{statement}
+use Rattle.desk.proofs.verbs.card_verb.card.Tie as tie
 
 card-requires : tie.Need-card-requires
 card-requires c κs = search rules

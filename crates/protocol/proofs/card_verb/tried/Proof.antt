@@ -1,8 +1,8 @@
--- `card::tried`: this verb, or none.
+-- `card_verb::tried`: this verb, or none.
 use mathlib.Core.Path.{sym, ◌∙◌}
 use borrow.Author.Rules.{rules}
-use Rattle.protocol.proofs.card.tried.Statement.{statement}
-use Rattle.protocol.proofs.card.tried.Tie as tie
+use Rattle.protocol.proofs.card_verb.tried.Statement.{statement}
+use Rattle.protocol.proofs.card_verb.tried.Tie as tie
 
 same-requires : tie.Need-same-requires
 same-requires c κs = search rules

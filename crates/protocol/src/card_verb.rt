@@ -1,5 +1,5 @@
 // Whether the verb is `card`; if not, it is none of the protocol's: a verb more is tried after this one. The tokens after it are read by
-// `requests::card_verb`.
+// `requests::card_verb`, and like that file this one is not named after the verb alone, since `card` is a crate.
 ghost use Rattle.std.specs.Prelude.{◌≡◌};
 ghost use Rattle.text.specs.Token.{tokens};
 ghost use Rattle.protocol.specs.Request.{card_verb};

@@ -1,4 +1,5 @@
-// `card`: whether the card of the line is accepted. The desk stays as it is.
+// `card`: whether the card of the line is accepted. The desk stays as it is. The file is not named after the verb alone, since
+// `card` is a crate.
 ghost use Rattle.std.specs.Prelude.{◌+◌, ◌≤◌, length};
 ghost use Rattle.answers.specs.Answer.{answer_room};
 ghost use Rattle.requests.specs.Named.{none_named};

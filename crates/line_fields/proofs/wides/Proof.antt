@@ -91,10 +91,10 @@ loop-less c = omega (arith, c.loop-k-test.true, c.loop-k.invariant.1.long)
 
 loop-again : tie.Need-loop-k-preserved invariant-loop-k decreases-loop-k
 loop-again c = (
-    omega (arith, c.loop-k-test.true, c.loop-k.invariant.1.long),
-    more c.loop-k.invariant.1 c.loop-k-test.true c.if-s-from.false c.before-in-loop-k.ensures _ _ refl
-        (sym (ap wide_got c.in-Got.is) ∙ c.wide_of.ensures),
-  )
+  omega (arith, c.loop-k-test.true, c.loop-k.invariant.1.long),
+  more c.loop-k.invariant.1 c.loop-k-test.true c.if-s-from.false c.before-in-loop-k.ensures _ _ refl
+      (sym (ap wide_got c.in-Got.is) ∙ c.wide_of.ensures),
+)
 
 same-length-3 : tie.Need-shape_of-list invariant-loop-k decreases-loop-k
 same-length-3 c = search rules

@@ -23,11 +23,10 @@ same_length : tie.Need-shape_of-coordinates
 same_length c = search rules
 
 returns : tie.Need-returns
-returns c =
-    (
-      piece-read c.before-n.ensures _ c.cap_of-cap.ensures c.coordinates_after.ensures.0 c.heard.ensures,
-      c.coordinates_after.ensures.1,
-    )
+returns c = (
+  piece-read c.before-n.ensures _ c.cap_of-cap.ensures c.coordinates_after.ensures.0 c.heard.ensures,
+  c.coordinates_after.ensures.1,
+)
 
 pub read_spec : {M : Type 1} → statement M
 read_spec =

@@ -1,6 +1,6 @@
 -- `accord_word`: a map's number is 0 or 1, so the word holds it and the width.
 use Prim.Native.Nat.{ℕ, ◌+◌, ◌*◌, ◌^◌, ◌≤◌}
-use mathlib.Core.Path.{◌≡◌, refl, ap}
+use mathlib.Core.Path.{ap}
 use native.Mathlib.Omega.{arith}
 use borrow.Author.Rules.{rules}
 use Rattle.points.specs.declared.Map.{Map}

@@ -4,7 +4,6 @@ use mathlib.Core.Bool.{true}
 use mathlib.Core.List.{List}
 use Prim.Native.Nat.{ℕ}
 use native.Mathlib.Omega.{arith}
-use borrow.Author.Tests.{not-true, not-false}
 use lib.ListN.{length}
 use Rattle.receiver_meaning.specs.Piece.{Piece, piece_with}
 use Rattle.c_layout.specs.Layout.{receiver_length, receiver_tag}

@@ -2,7 +2,6 @@
 use mathlib.Core.Path.{◌≡◌, sym, ◌∙◌}
 use mathlib.Core.Bool.{true}
 use native.Mathlib.Omega.{arith}
-use borrow.Author.Tests.{not-true, not-false}
 use Rattle.replay.specs.Course.{replay_of}
 use Rattle.c_replay_state.specs.Words.{holds_replay}
 use Rattle.c_replay_state.proofs.WordsBack.{holding}

@@ -1,6 +1,5 @@
 -- `holds_replay`: each test decides where it fails.
 use mathlib.Core.Path.{sym, ◌∙◌}
-use borrow.Author.Tests.{not-true, not-false}
 use Rattle.c_replay_state.proofs.WordsBack.{holds-short, holds-other, holds-over, holds_by}
 use borrow.Author.Rules.{rules}
 use Rattle.c_replay_state.proofs.holds_replay.Statement.{statement}

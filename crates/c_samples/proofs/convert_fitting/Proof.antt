@@ -1,5 +1,4 @@
 -- `convert_fitting`: told too short, lists that do not fit, or how the samples went.
-use borrow.Author.Tests.{not-true, not-false}
 use borrow.Author.Rules.{rules}
 use Rattle.c_samples.proofs.Floats.{list-short, list-unfit, list_done}
 use Rattle.c_samples.proofs.convert_fitting.Statement.{statement}

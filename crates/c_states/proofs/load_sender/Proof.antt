@@ -3,7 +3,7 @@ use mathlib.Core.Path.{◌≡◌, sym, ◌∙◌}
 use mathlib.Core.Bool.{true}
 use native.Mathlib.Omega.{arith}
 use lib.ListN.{get_or}
-use borrow.Author.Tests.{not-true, not-false, ltb-true}
+use borrow.Author.Tests.{ltb-true}
 use Rattle.c_layout.specs.Layout.{sender_length, sender_tag}
 use Rattle.c_layout.specs.Tagged.{is_half, holds}
 use Rattle.c_states.specs.State.{sender_in}

@@ -162,14 +162,13 @@ function continues(file, bare,    constructor) {
     if (is_data && bare ~ /^[^ ]+ : /) { constructor = bare; sub(/ .*/, "", constructor); owner[file, constructor] = item }
 }
 
-# use Rattle·CRATE.specs.FILE.{a, b as c}, or `as NAME` for the whole file
+# use Rattle.CRATE.specs.FILE.{a, b as c}, or `as NAME` for the whole file
 function brings(file, line,    target, names, n, i, pair) {
     sub(/^(pub )?use /, "", line)
-    if (line !~ /^Rattle·/ || line ~ /\.declared\./) return
+    if (line !~ /^Rattle\./ || line ~ /\.declared\./) return
     target = line
-    sub(/^Rattle·/, "", target)
+    sub(/^Rattle\./, "", target)
     sub(/(\.\{| ).*/, "", target)
-    sub(/·(specs|proofs)/, "", target)
     gsub(/\./, "/", target)
     if (line ~ /\} *$/) {
         names = line

@@ -26,7 +26,7 @@ function requires(cell, name, n,    part, m, i, said, before) {
         gsub(/^ +| +$/, "", said)
         if (said == "the same") said = before
         before = said
-        if ((said == "none") == (text[name[i]] ~ /requires \{/)) complain(name[i], said == "none" ? "requires something" : "requires nothing")
+        if ((said == "none") == (text[name[i]] ~ /requires( [a-z0-9_]+)? \{/)) complain(name[i], said == "none" ? "requires something" : "requires nothing")
     }
 }
 
@@ -57,7 +57,7 @@ function words_of(cell, word,    n, said, part, m, i) {
         cell = substr(cell, RSTART + RLENGTH)
         gsub(/[()]/, " ", said)
         m = split(said, part, " ")
-        for (i = 1; i <= m; i++) if (part[i] ~ /^[A-Za-z][A-Za-z0-9]+$/) word[++n] = part[i]
+        for (i = 1; i <= m; i++) if (part[i] ~ /^[A-Za-z][A-Za-z0-9_]+$/) word[++n] = part[i]
     }
     return n
 }

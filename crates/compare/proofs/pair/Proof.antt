@@ -1,7 +1,6 @@
 -- `pair`: what the two fronts tell, and how far it goes.
 use mathlib.Core.Path.{sym, ◌∙◌}
 use native.Mathlib.Omega.{arith}
-use borrow.Author.Tests.{not-true, not-false}
 use Rattle.compare.proofs.Bounds.{looked-within, pair-halts, pair-moves}
 use borrow.Author.Rules.{rules}
 use Rattle.compare.proofs.pair.Statement.{statement}

@@ -1,6 +1,5 @@
 -- `empty`: whether the capture has ended, and where that may be.
 use mathlib.Core.Path.{sym, ◌∙◌}
-use borrow.Author.Tests.{not-true, not-false}
 use borrow.Author.Rules.{rules}
 use Rattle.record_front.proofs.empty.Statement.{statement}
 use Rattle.record_front.proofs.empty.Tie as tie

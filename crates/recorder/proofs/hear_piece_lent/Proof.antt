@@ -1,7 +1,6 @@
 -- `hear_piece_lent`: closed, uneven, or the symbols of the piece.
 use mathlib.Core.Path.{◌≡◌, sym, subst, ◌∙◌}
 use mathlib.Core.Bool.{Bool, true, false}
-use borrow.Author.Tests.{not-true, not-false}
 use Rattle.machine.specs.declared.Receiver.{Receiver}
 use Rattle.machine.specs.Machine.{sound}
 use Rattle.machine.proofs.Sound.{sound-live}

@@ -1,7 +1,6 @@
 -- `found`: a frame that is malformed, or a verdict other than agreement.
 use Rattle.replay.proofs.Feeds.{found-fault, found-bad}
 use mathlib.Core.Path.{sym, ◌∙◌}
-use borrow.Author.Tests.{not-true, not-false}
 use borrow.Author.Rules.{rules}
 use Rattle.replay.proofs.found.Statement.{statement}
 use Rattle.replay.proofs.found.Tie as tie

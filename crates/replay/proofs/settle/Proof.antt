@@ -1,7 +1,6 @@
 -- `settle`: the judge takes a record that has just become whole, and nothing else.
 use Rattle.replay.proofs.Feeds.{settle-no, settle-yes}
 use mathlib.Core.Path.{sym, ◌∙◌}
-use borrow.Author.Tests.{not-true, not-false}
 use borrow.Author.Rules.{rules}
 use Rattle.replay.proofs.settle.Statement.{statement}
 use Rattle.replay.proofs.settle.Tie as tie

@@ -1,7 +1,6 @@
 -- `verdict`: what was found, a record that is cut, words that are due, or agreement.
 use Rattle.replay.proofs.Feeds.{ended-fault, ended-cut, ended-due, ended-agree}
 use mathlib.Core.Path.{sym, ◌∙◌}
-use borrow.Author.Tests.{not-true, not-false}
 use borrow.Author.Rules.{rules}
 use Rattle.replay.proofs.verdict.Statement.{statement}
 use Rattle.replay.proofs.verdict.Tie as tie

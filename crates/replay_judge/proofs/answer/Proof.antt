@@ -1,6 +1,5 @@
 -- `answer`: a record that the receiver took, and one that it refused.
 use mathlib.Core.Path.{sym, ◌∙◌}
-use borrow.Author.Tests.{not-true, not-false}
 use borrow.Author.Rules.{rules}
 use Rattle.replay_judge.proofs.Dues.{answer-refused, answer-took}
 use Rattle.replay_judge.proofs.answer.Statement.{statement}

@@ -1,7 +1,6 @@
 -- `put`: nothing, or the frame's record and then the words.
 use mathlib.Core.Path.{◌≡◌, refl, sym}
 use native.Mathlib.Omega.{arith}
-use borrow.Author.Tests.{not-true, not-false}
 use lib.ListN.{length, take, length-drop}
 use lib.Seq.{length-take-le}
 use Rattle.lists.proofs.Lent.{lent}

@@ -1,6 +1,5 @@
 -- `settle`: a record that has just become whole is taken, and nothing else.
 use mathlib.Core.Path.{refl, sym, ◌∙◌}
-use borrow.Author.Tests.{not-true, not-false}
 use Rattle.salvage.proofs.Feeds.{settles-no, settles-yes}
 use borrow.Author.Rules.{rules}
 use Rattle.salvage.proofs.settle.Statement.{statement}

@@ -1,6 +1,5 @@
 -- `lay`: the lists after an answer.
 use mathlib.Core.Path.{sym, ◌∙◌}
-use borrow.Author.Tests.{not-true, not-false}
 use Rattle.replay.proofs.Records.{laid_done, laid-refused}
 use borrow.Author.Rules.{rules}
 use Rattle.replay.proofs.record.lay.Statement.{statement}

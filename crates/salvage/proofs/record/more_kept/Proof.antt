@@ -1,6 +1,5 @@
 -- `more_kept`: by whether it is taken.
 use native.Mathlib.Omega.{arith}
-use borrow.Author.Tests.{not-true, not-false}
 use Rattle.records.proofs.Steps.{size_fits}
 use borrow.Author.Rules.{rules}
 use Rattle.salvage.proofs.record.more_kept.Statement.{statement}

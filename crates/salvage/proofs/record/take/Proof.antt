@@ -1,6 +1,5 @@
 -- `take`: after a refusal, an old word, any other record.
 use mathlib.Core.Path.{sym, ap, ◌∙◌}
-use borrow.Author.Tests.{not-true, not-false}
 use Rattle.records.specs.declared.Kind.{Kind}
 use Rattle.salvage_meaning.specs.Salvage.{is_word_role}
 use Rattle.salvage.proofs.Takes.{off-is, word-is, run_is}

@@ -1,5 +1,7 @@
 // The answers, a line each, put into the page: what each one says is in specs/Answer.antt. Every function asks for the room that
 // its text can take, and answers with the place after it. The parts of a line are those of `phrases`.
+#![tactic(auto)]
+
 ghost use Rattle.std.specs.Prelude.{◌+◌, ◌≤◌, length};
 ghost use Rattle.page.specs.Page.{Puts};
 ghost use Rattle.reasons.specs.Reason.{given_of};

@@ -4,6 +4,8 @@
 //
 // A number that is no map's names no line: an opening refuses it with 1, and a state that holds it is not open. Each contract is an
 // equation of the result with one definition, so any two results that it allows are equal.
+#![tactic(auto)]
+
 ghost use Rattle.std.specs.Prelude.{◌≡◌, cond, ◌++◌, ◌+◌, ◌*◌, ◌/◌, ◌%◌, ◌≤◌, ◌<◌, length, drop};
 ghost use Rattle.c_layout.specs.Tagged.{tag_of, is_half, holds};
 ghost use Rattle.c_layout.specs.Halves.{unpacked, packed, AllHalves};

@@ -1,5 +1,7 @@
 // The recorder for the library: a piece and a finish on a state in words that the caller lends, with their records in lent bytes. As
 // `demfizagu_hear` and `demfizagu_finish`, with how many bytes were recorded in the fourth place of `told`.
+#![tactic(auto)]
+
 ghost use Rattle.std.specs.Prelude.{◌≡◌, ◌≤◌, length};
 ghost use Rattle.reasons.specs.Reason.{given_of};
 ghost use Rattle.receiver_meaning.specs.Piece.{piece_with, marked_piece, piece_of};

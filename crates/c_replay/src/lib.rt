@@ -3,6 +3,8 @@
 //
 // A call reads the state, feeds or ends the replay that it holds, and writes it back. A fault is said by the call whose bytes settle it, and
 // by no later one: once it is found the state stays as it is, whatever comes.
+#![tactic(auto)]
+
 ghost use Rattle.std.specs.Prelude.{◌≡◌, ◌≤◌, ◌++◌, length, take, drop, set};
 ghost use Rattle.page.specs.Page.{Puts};
 ghost use Rattle.replay_text.specs.Says.{line_of};

@@ -1,6 +1,8 @@
 // A replay in the words that a caller lends: whether words hold one, which one, and how a replay goes into them. Where each part stands is
 // said in `table`, which number stands for which part of a replay in `numbers`. Words that are too short, have another tag, or a number above
 // its limit, hold none: a replay that has ended, and one of an older layout, too.
+#![tactic(auto)]
+
 pub mod numbers;
 pub mod table;
 

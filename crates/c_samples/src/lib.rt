@@ -2,6 +2,8 @@
 //
 // What is heard of a float is the crate samples; here it is put into lent memory, and a number says how it went. Here too stands `tell`,
 // the three places in which a call of the library says how far it came.
+#![tactic(auto)]
+
 ghost use Rattle.std.specs.Prelude.{◌≡◌, [], ◌+◌, ◌≤◌, ◌<◌, pos, length, set};
 ghost use Rattle.samples.specs.Sampled.{heard_sampled};
 ghost use Rattle.c_samples.specs.Counts.{told_of};

@@ -4,6 +4,8 @@
 //
 // The front of a receiver's state is all but its picks, which stand last and are half of it. It is what a call copies out of the words and
 // back into them; where the picks need not stay in their place, they are copied too.
+#![tactic(auto)]
+
 ghost use Rattle.std.specs.Prelude.{◌≡◌, true, ◌≤◌, length};
 ghost use Rattle.c_layout.specs.Layout.{receiver_tag, receiver_length, picks_at, sender_length};
 ghost use Rattle.c_layout.specs.Tagged.{holds};

@@ -1,3 +1,5 @@
+#![tactic(auto)]
+
 // Theory only: no function stands here.
 //
 // What anything that speaks and answers writes over any list of calls, whichever of them refuse. specs/Calls.antt says what each

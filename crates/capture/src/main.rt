@@ -2,6 +2,8 @@
 // `capture salvage IN OUT`, `capture help`. It reads a file or standard input, as it comes, in constant memory. Here stands which word asks for
 // what; each word's reading and writing is a crate (`record_files`, `replay_files`, `show_files`, `compare_files`, `salvage_files`), and what is written is said in
 // those below them.
+#![tactic(auto)]
+
 mod compare;
 mod help;
 mod input;

@@ -5,6 +5,8 @@
 // step between counts for, lie below the sum of every allowed sequence; so a sequence whose own sum no number of the last row is below is
 // nearest, whoever found it and however its ties fell. True least sums are such numbers. One pass goes through the list, with the weighing
 // that the receiver uses, and nothing is kept over symbols but the sum so far. What was handed over may be anything.
+#![tactic(auto)]
+
 ghost use Rattle.std.specs.Prelude.{◌≡◌, true, ◌+◌, ◌≤◌, length};
 ghost use Rattle.points.specs.Agreed.{is_accord};
 ghost use Rattle.points.specs.Points.{coordinates as a_coordinates};

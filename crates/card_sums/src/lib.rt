@@ -5,6 +5,8 @@
 // smaller sum than the number of the state that it ends in, whoever made the numbers and however large they are. Nothing is ever added
 // to a number of the card's, so nothing can pass 64 bits. Each contract is an equation of the result with one definition of specs/Rows,
 // so any two results that it allows are equal.
+#![tactic(auto)]
+
 ghost use Rattle.std.specs.Prelude.{◌≡◌, ◌+◌, ◌≤◌, ◌<◌, leb, length};
 ghost use Rattle.card_sums.specs.Rows.{way_holds, holds, starts_at_zero, none_below};
 

@@ -4,6 +4,8 @@
 // The points are read off the map by the symbol's own labels and numbers, so that nothing is searched. A caller makes the round map's
 // table once by `points::table::a_points` and lends it. Each contract is an equation of the result with one definition, so any two
 // results that it allows are equal.
+#![tactic(auto)]
+
 ghost use Rattle.std.specs.Prelude.{◌≡◌, true, ◌+◌, ◌^◌, ◌≤◌, ◌<◌, length};
 ghost use Rattle.wei.specs.Symbol.{Valid};
 ghost use Rattle.points.specs.Agreed.{is_accord};

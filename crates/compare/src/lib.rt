@@ -2,6 +2,8 @@
 //
 // `form` reads a lump of one capture for its form, `next` two lumps side by side up to the next line. Both pass whole records only and say
 // how many bytes they have used; the caller keeps the rest, puts more behind it and calls again. Nothing is kept of a record that is passed.
+#![tactic(auto)]
+
 ghost use Rattle.std.specs.Prelude.{◌≡◌, ◌+◌, ◌≤◌, length};
 ghost use Rattle.records.specs.Frames.{capped};
 ghost use Rattle.compare.specs.Passing.{is_record, form_step, form_of, takes as Passing·takes, is_same, line_more, pair_step, pass_of, fresh_pass};

@@ -1,5 +1,7 @@
 // What two captures tell at the places where they stand: a record each, an end, too few bytes or a malformed place. The lines of a comparison are
 // said here, Wish 12 of 02, and nothing is read: `compare` brings the fronts of the bytes here.
+#![tactic(auto)]
+
 ghost use Rattle.std.specs.Prelude.{◌≡◌};
 ghost use Rattle.compare_events.specs.Events.{judge as Events·judge};
 

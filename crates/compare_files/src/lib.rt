@@ -3,6 +3,8 @@
 // the first to the last they tell the comparison of the two files' bytes; which bytes a read gave and a write took no contract can say.
 //
 // A file that cannot be read or rewound, as a pipe, is told on the error stream before any line is printed.
+#![tactic(auto)]
+
 ghost use Rattle.std.specs.Prelude.{◌≡◌, ◌+◌, ◌-◌, ◌≤◌, length, take, drop};
 ghost use Rattle.compare.specs.Passing.{pass_of};
 ghost use Rattle.compare_files.specs.Steps.{shape_of, is_unread, FormTurn, waiting, Kept, LineSaid, Heeded, SideTurn, second_line, only_line};

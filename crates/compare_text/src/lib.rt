@@ -1,4 +1,6 @@
 // The lines of a comparison as text, put into a lent page: specs/Says has the bytes. A line takes 40 bytes at most, its newline included.
+#![tactic(auto)]
+
 ghost use Rattle.std.specs.Prelude.{◌++◌, ◌+◌, ◌≤◌, length, take};
 ghost use Rattle.text.specs.Bytes.{bytes};
 ghost use Rattle.page.specs.Page.{Puts};

@@ -2,6 +2,8 @@
 //
 // Each function reads the state, calls the door that it wraps, and writes the state back where it changed. A state is read as closed
 // where it is too short, its tag is another, or the record in it is not sound (crate c_states).
+#![tactic(auto)]
+
 ghost use Rattle.std.specs.Prelude.{◌≡◌, ◌≤◌, length};
 ghost use Rattle.points.specs.Agreed.{of_width};
 ghost use Rattle.c_layout.specs.Accords.{accord_by};

@@ -1,5 +1,7 @@
 // The desk: one sender and one receiver, and what each request does to them, into a lent page. The desk after a request and its
 // answer are those of specs/Desk.antt. Each verb is a file of src/verbs/; here stand the ends, and which verb a request is for.
+#![tactic(auto)]
+
 ghost use Rattle.std.specs.Prelude.{◌≡◌};
 ghost use Rattle.requests.specs.Named.{named};
 ghost use Rattle.desk.specs.Desk.{closed_desk, Acts};

@@ -1,6 +1,7 @@
 // Where a point was heard, and what a search finds for it: what the searches of both maps share, whichever way they go.
 //
 // How far a spot is from a point, and which number of a label is nearest, is said in specs/Distance and specs/Found.
+#![tactic(auto)]
 
 // Where a point was heard, in line units.
 #[derive(Clone, Copy)]

@@ -1,3 +1,5 @@
+#![tactic(auto)]
+
 // Theory only: no function stands here.
 //
 // What a dropout costs. specs/ has a line that loses points, the rule after a dropout, and which bits of a word a dropout spoils (`spoiled`);

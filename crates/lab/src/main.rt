@@ -1,6 +1,8 @@
 // The laboratory: both ends of the line behind a text protocol. A line of standard input is answered by a line of standard
 // output; `lab help` prints what the lines are. What no proof can say of a program, which bytes it reads and writes, is kept
 // to the crate `stream` and, for words after the program's name, to `words` and `help`; all the rest works on slices lent here.
+#![tactic(auto)]
+
 mod help;
 mod words;
 

@@ -1,4 +1,6 @@
 // The line so far, gathered from the pieces in which the input comes: what stands in the buffer, or that it is too long and is skipped.
+#![tactic(auto)]
+
 ghost use Rattle.std.specs.Prelude.{◌≡◌, List, ◌++◌, ℕ, ◌≤◌, length};
 ghost use Rattle.line_buffer.specs.Part.{Gathered, no_part};
 

@@ -3,6 +3,8 @@
 //
 // A place is where a token begins; past the text's end no token is left. The tokens, and the numbers that they write, are those of `text`
 // and `number_lists`; specs/Fields.antt says what is read, and each contract settles the answer and, where there is one, the list.
+#![tactic(auto)]
+
 pub mod map_names;
 pub mod marks;
 

@@ -1,5 +1,7 @@
 // Lines: the answer to a line that has come to its end. The line so far is `line_buffer`'s.
 // What a line asks for is `protocol`'s, what it does is the `desk`'s; specs/Line.antt puts the two together.
+#![tactic(auto)]
+
 ghost use Rattle.std.specs.Prelude.{◌≡◌, List, ℕ, ◌+◌, ◌≤◌, length};
 ghost use Rattle.answers.specs.Answer.{answer_room};
 ghost use Rattle.protocol.specs.Request.{request_of};

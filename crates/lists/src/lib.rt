@@ -1,6 +1,8 @@
 // Lists that a loop goes through from the front, place by place: those that it fills (specs/Tabled, and what one more store makes of them,
 // proofs/Filled), those of which it asks whether any number is above a bound (specs/UpTo, proofs/UpTo), and those whose rest is lent to a
 // call (proofs/Lent). The functions ask it of bytes, and copy words.
+#![tactic(auto)]
+
 ghost use Rattle.std.specs.Prelude.{◌≡◌, ◌++◌, ◌≤◌, length, drop};
 ghost use Rattle.lists.specs.UpTo.{all_up_to};
 

@@ -1,6 +1,8 @@
 // The receiver as a record, and the words of its pending symbols. `Receiver` is the whole state of the receiving end; what a symbol does to
 // it is a pure function of specs/Machine, which the crate `one_symbol` computes, and what that means is proved here. `write_words` gives
 // words of the answer, for a symbol that releases some and for the end of a line, on lent arrays.
+#![tactic(auto)]
+
 ghost use Rattle.std.specs.Prelude.{◌≡◌, ◌++◌, ◌≤◌, ◌<◌, length, take, drop};
 ghost use Rattle.trellis.specs.Speak.{after};
 ghost use Rattle.trellis.specs.Words.{words_from, turn_after};

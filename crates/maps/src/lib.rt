@@ -4,6 +4,8 @@
 // both meet, so that nothing is said twice. A caller makes the round map's table once by `points::table::a_points` and lends it.
 //
 // The contract is an equation of the result with one definition, so any two results that it allows are equal.
+#![tactic(auto)]
+
 pub mod square;
 
 ghost use Rattle.std.specs.Prelude.{◌≡◌, true, ◌^◌, ◌<◌};

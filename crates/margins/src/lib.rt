@@ -1,3 +1,5 @@
+#![tactic(auto)]
+
 // Theory only: no function stands here.
 //
 // What a line is guaranteed whose noise has a bound. specs/ has the guarantee (Guarantee) and the number that it comes from (Latest); proofs/

@@ -9,6 +9,8 @@
 // the chart once and lends it.
 //
 // Each contract here is an equation of the result with one definition, so any two results that it allows are equal.
+#![tactic(auto)]
+
 ghost use Rattle.std.specs.Prelude.{◌≡◌, true};
 ghost use Rattle.points.specs.Agreed.{has_width, is_accord};
 ghost use Rattle.round_places.specs.Places.{listed};

@@ -1,5 +1,7 @@
 // The numbers that the tokens of a text write, read into a list that is lent: whole numbers, or numbers of 32 bits. The tokens and the numbers are those of `text`;
 // specs/Many.antt says which numbers there are, and what the list holds where a token writes none.
+#![tactic(auto)]
+
 ghost use Rattle.number_lists.specs.Many.{whole_in, number_in, Lists};
 
 use text::number::{Number, Whole};

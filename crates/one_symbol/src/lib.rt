@@ -4,6 +4,8 @@
 //
 // The arrays are lent and copied nowhere: a caller that holds a receiver takes it apart once for a whole piece. Every function
 // equals a definition of machine/specs on the same numbers, whatever the lists hold.
+#![tactic(auto)]
+
 ghost use Rattle.std.specs.Prelude.{◌≡◌, [], ◌+◌, ◌%◌, ◌<◌, length};
 ghost use Rattle.nearest.specs.Line.{InRange};
 ghost use Rattle.nearest.specs.Found.{chart_of, heard_as};

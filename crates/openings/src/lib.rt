@@ -2,6 +2,8 @@
 //
 // `open_receiver` names what both ends agree on, the window and the start; `open_plain` only the first. A refused opening gives a closed
 // receiver. The tests say whether a record is one that the machine can work on: whatever is not is answered like a closed receiver.
+#![tactic(auto)]
+
 ghost use Rattle.std.specs.Prelude.{◌≡◌, true, cond, ◌&&◌};
 ghost use Rattle.trellis.specs.Words.{first_turn};
 ghost use Rattle.machine.specs.Machine.{core, fresh_sums, shut, sound_core, sound};

@@ -1,5 +1,7 @@
 // Text put into a lent page. A page is a slice that the caller lends with the place from which it is free: each `put_..` writes there
 // and answers with the next free place. It asks for the room that it needs, so nothing is ever cut short.
+#![tactic(auto)]
+
 ghost use Rattle.std.specs.Prelude.{◌≡◌, ◌+◌, ◌≤◌, [], ◌∷◌, nat_abs, length};
 ghost use Rattle.page.specs.Page.{Puts, PutsNumber, PutsWhole};
 

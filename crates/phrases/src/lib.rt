@@ -1,5 +1,7 @@
 // The parts that answers are made of, put into the page: what each one says is in specs/Phrase.antt. Every function asks for the
 // room that its text can take, and answers with the place after it. The numbers are those that `text` puts.
+#![tactic(auto)]
+
 ghost use Rattle.std.specs.Prelude.{◌++◌, map, ◌≡◌, ◌+◌, ◌≤◌, length};
 ghost use Rattle.text.specs.Bytes.{bytes};
 ghost use Rattle.page.specs.Page.{Puts};

@@ -3,6 +3,8 @@
 // subset, its slot and how many symbols came after it.
 //
 // Leans on `wei` for labels, turns and words.
+#![tactic(auto)]
+
 ghost use Rattle.std.specs.Prelude.{◌≡◌, ◌+◌, ◌*◌, ◌^◌, ◌≤◌, ◌<◌, length};
 ghost use Rattle.picks.specs.Picks.{byte_at, numbers_of, type_at, symbol_by, symbol_in, longer, kept_in, said_of};
 

@@ -1,5 +1,7 @@
 // What is looked at of a piece before a machine hears any of it: whether it fits, the mark of each symbol, and each symbol as it was received,
 // with the place of its first coordinate out of range. No receiver is needed for it; `pieces` and the doors ask here.
+#![tactic(auto)]
+
 ghost use Rattle.std.specs.Prelude.{◌≡◌, ◌+◌, ◌≤◌, get_or, length};
 ghost use Rattle.nearest.specs.Found.{heard_as};
 ghost use Rattle.receiver_meaning.specs.Told.{fault_at, fault_of};

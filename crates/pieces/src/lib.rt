@@ -2,6 +2,8 @@
 // refused. A piece may come with marks, a number for each symbol that says which of its points are missing. The crate leans on `piece_input`, which
 // has the symbol and its first fault, and on `one_symbol`, which takes a symbol that is in range; the doors of `receiver` test a record and
 // whether a piece fits before they come here.
+#![tactic(auto)]
+
 ghost use Rattle.std.specs.Prelude.{◌≡◌, true, [], ◌+◌, ◌%◌, ◌≤◌, length};
 ghost use Rattle.nearest.specs.Found.{chart_of};
 ghost use Rattle.machine.specs.Machine.{sound};

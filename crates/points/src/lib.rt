@@ -3,6 +3,8 @@
 //
 // All coordinates are odd, and twice those of the paper. Label l has the A points turned clockwise l times: A 0, C 1, B 2,
 // D 3. A caller makes the table once by `table::a_points` and lends it to `point_of`, the only way to a point.
+#![tactic(auto)]
+
 pub mod table;
 
 ghost use Rattle.std.specs.Prelude.{◌≡◌, ◌<◌};

@@ -11,6 +11,8 @@
 // nothing. Any other line is unread. `read` gives the request of every
 // line, and specs/Request.antt says which it is. The verbs are tried one after the other, each in a file of its own that hands on
 // to the next; what the tokens after a verb ask for is the crate `requests`.
+#![tactic(auto)]
+
 mod card_verb;
 mod finish;
 mod list;

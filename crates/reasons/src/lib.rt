@@ -1,5 +1,7 @@
 // Why a call of the receiving end stopped, and the number of 01's table for it. Whoever speaks of reasons, the machine as well as the
 // doors above it and the programs, uses these and no numbers of its own.
+#![tactic(auto)]
+
 ghost use Rattle.std.specs.Prelude.{◌≡◌};
 ghost use Rattle.reasons.specs.Reason.{given_of, is_done};
 

@@ -5,6 +5,8 @@
 // wrote and why it stopped. `hear_marked` takes a piece of which points may be missing: a mark for each symbol says which. `finish`
 // writes the pending words of the answer and closes the receiver. A refused symbol leaves the receiver as it was. A closed receiver,
 // and any record that is out of range, is answered 9.
+#![tactic(auto)]
+
 ghost use Rattle.std.specs.Prelude.{◌≡◌, ◌&&◌};
 ghost use Rattle.machine.specs.Machine.{core, sound_core};
 ghost use Rattle.lists.specs.UpTo.{all_up_to};

@@ -1,3 +1,5 @@
+#![tactic(auto)]
+
 // Theory only: no function stands here.
 //
 // The meaning: what a receiver has been told, and what it owes for it, in the words of 01 and over lists alone. specs/Told has the

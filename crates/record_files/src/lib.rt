@@ -1,5 +1,7 @@
 // `capture record`: lines of lab's protocol for one receiver in, its capture out, and each line's answer on the error stream. What a line
 // does is `record_text`'s; what it wrote is handed out here, the records before the answer that tells of them.
+#![tactic(auto)]
+
 ghost use Rattle.std.specs.Prelude.{◌≡◌, ◌≤◌, length};
 
 use libc::{STDERR_FILENO, STDIN_FILENO, STDOUT_FILENO};

@@ -2,6 +2,8 @@
 //
 // A body's byte put into a frame by value costs a copy of the frame. Here a record costs two steps: its kind byte, and the rest of it as far
 // as the lump goes. Only of a symbol with missing points, whose bytes are looked at one by one, do they come so (`records::push`).
+#![tactic(auto)]
+
 ghost use Rattle.std.specs.Prelude.{◌≡◌, true, ◌+◌, ◌-◌, ◌≤◌, ◌<◌, min, length, take, drop};
 ghost use Rattle.std.proofs.lemmas.List.Edits.{sets};
 ghost use Rattle.records.specs.Kinds.{kind_of};

@@ -1,5 +1,7 @@
 // A capture record by record, over bytes that lie in a buffer: what stands at their front. Where a record lies there whole, nothing of it is
 // copied; where it does not, more bytes are wanted. `push` tells the same byte by byte.
+#![tactic(auto)]
+
 ghost use Rattle.std.specs.Prelude.{◌≡◌};
 ghost use Rattle.records.specs.Kinds.{begins as Kinds·begins};
 ghost use Rattle.records.specs.Values.{body_fits};

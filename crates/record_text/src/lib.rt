@@ -1,6 +1,8 @@
 // A line of a recording: what it does to the receiver, the records that it leaves at the front of lent bytes, and its answer at the front
 // of a lent page. Lines are read by `protocol`, the calls are those of `recorder`, the answers those of `answers`; specs/Note has what is
 // written.
+#![tactic(auto)]
+
 ghost use Rattle.std.specs.Prelude.{◌≡◌, List, ℕ, ◌≤◌, length};
 ghost use Rattle.recorder.specs.Promise.{Is};
 ghost use Rattle.receiver_meaning.specs.Piece.{piece_of, marked_piece};

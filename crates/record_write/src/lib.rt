@@ -1,5 +1,7 @@
 // Records put into lent bytes: one place that writes an open, one that writes a symbol, one that writes words, one that writes a finish.
 // Each writes at the front of the bytes that it is lent and leaves the rest as it was; what the bytes say is records/specs/Values.
+#![tactic(auto)]
+
 ghost use Rattle.std.specs.Prelude.{◌≡◌, cond, [], ◌∷◌, ◌+◌, ◌*◌, ◌%◌, ◌≤◌, ◌<◌, pos, nat_abs, leb, length};
 ghost use Rattle.records.specs.Values.{half_of, open_kind, open_entry, symbol_entry, marked_entry, word_entry, finish_entry};
 ghost use Rattle.record_write.specs.Front.{symbol_in, symbol_record, symbol_space, word_entries, symbol_records, finish_records, Fronted, Small};

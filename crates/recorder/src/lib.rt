@@ -1,6 +1,8 @@
 // The recorder: the receiver's doors with a lent list of bytes beside the output. Each symbol that is taken leaves its record there, then
 // the records of the words that it released; a finish leaves its own, then those of its words. What is refused leaves none. The symbols of a
 // piece are `piece`'s.
+#![tactic(auto)]
+
 pub mod piece;
 
 ghost use Rattle.std.specs.Prelude.{◌≡◌};

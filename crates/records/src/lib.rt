@@ -3,6 +3,8 @@
 // A capture is read by a byte step: `start` gives a frame, `push` takes one byte more. A frame holds one record at most, and says after each
 // byte whether a record has just become whole or the capture is malformed; at the end of input it is well formed exactly if the frame is
 // whole. specs/Reading says the same record by record, and proofs/Steps shows that the steps give it.
+#![tactic(auto)]
+
 ghost use Rattle.std.specs.Prelude.{◌≡◌, ◌+◌, ◌≤◌, nat_abs};
 ghost use Rattle.records.specs.Kinds.{kind_of, may_stand, after_role};
 ghost use Rattle.records.specs.Values.{byte_fits, map_in, lead_of, coordinate_of, number_of};

@@ -5,6 +5,8 @@
 // A step is 8 times the state before and the 4D subset, as `select` selects it. A symbol moves the registers of all states on (`shift`): a
 // state takes over the words of the state that its best way comes from, each with three bits more. Where few symbols are pending only the
 // words that hold them are moved: one for up to 20, as on a quiet line.
+#![tactic(auto)]
+
 ghost use Rattle.std.specs.Prelude.{◌≡◌, ◌<◌, ◌≤◌, ◌/◌, ◌%◌, ◌^◌, get_or};
 ghost use Rattle.registers.specs.Registers.{came_from, bit_in, subset_in, words_before, same_at, oldest, apart_of, lowest, parted_of, above_of, reach_of, longer, moved_of};
 ghost use Rattle.registers.specs.Put.{put_word};

@@ -5,6 +5,8 @@
 // that are due in places of its own: nothing is copied for a byte, a symbol or a word. A lump of bytes may have any length and may end
 // inside a record. Once a fault is found later bytes change no verdict. What a replay sees of records in a row, whoever wrote them, is in
 // proofs/Forms and proofs/Words.
+#![tactic(auto)]
+
 pub mod record;
 
 ghost use Rattle.std.specs.Prelude.{◌≡◌, Bool};

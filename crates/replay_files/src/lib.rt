@@ -1,5 +1,7 @@
 // `capture replay`: bytes as they come into a replay, and its verdict out. A fault is printed as soon as it is found; what follows is read
 // and swallowed, so that whoever writes the capture into a pipe is not broken off.
+#![tactic(auto)]
+
 use libc::STDOUT_FILENO;
 use replay::Replay;
 use replay_judge::Verdict;

@@ -4,6 +4,8 @@
 // A judge holds the receiver's numbers, how many words its last symbol or finish gave, how many of these have been shown, how many records
 // there were, and the verdict, which is that they agree as long as no fault is found. The receiver's lists and the words that are due stand
 // beside it.
+#![tactic(auto)]
+
 ghost use Rattle.std.specs.Prelude.{◌≡◌};
 ghost use Rattle.replay_judge.specs.Judging.{left, first_due, ruled, answered_by, took_word};
 

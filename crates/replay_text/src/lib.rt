@@ -1,4 +1,6 @@
 // The line that a verdict prints: specs/Says has its text. A line is given by value, at most 64 bytes with no newline.
+#![tactic(auto)]
+
 ghost use Rattle.std.specs.Prelude.{◌≡◌, ◌++◌, ◌+◌, ◌≤◌, length, take};
 ghost use Rattle.text.specs.Bytes.{bytes};
 ghost use Rattle.page.specs.Page.{Puts};

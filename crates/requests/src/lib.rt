@@ -3,6 +3,8 @@
 // A number is decimal digits and nothing else, zeros in front allowed; U, W, WINDOW, S and CAP are 0 to 4294967295, and a CAP is
 // 4096 at most. A coordinate C may have one `-` before it and has 32 bits. HEX is eight hexadecimal digits, small or large.
 // Other tokens are unread. specs/Verb.antt says what each verb asks for, and of `card` specs/Asked.antt.
+#![tactic(auto)]
+
 pub mod card_verb;
 pub mod finish;
 pub mod list;

@@ -9,6 +9,8 @@
 // A label's points are the A points turned, so the received point is turned back instead: four coordinates, x, -x, y and -y, serve
 // all labels. Coordinates are counted from 95 units below zero, so that the middle point stands at 12288 = 24 · 512 and nothing is
 // negative. The contract is an equation of the result with `near_keys` (specs/Near), so any two results that it allows are equal.
+#![tactic(auto)]
+
 ghost use Rattle.std.specs.Prelude.{◌≡◌, ◌+◌, ◌-◌, ◌*◌, ◌≤◌, ◌<◌, nat_abs};
 ghost use Rattle.round_places.specs.Places.{listed, Wide, number_at};
 ghost use Rattle.round_columns.specs.Near.{near_keys};

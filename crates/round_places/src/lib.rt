@@ -9,6 +9,8 @@
 // there are 254 and 255 in turn: at four equal numbers in a row the compiler would take the copying of the table to pieces. Then, for
 // the widths from 5 on, each view and each of four columns, 16 times the column and its last row; where a view has three, the last one
 // twice. Then the coordinates of the first 16 points, counted from 95 below zero. A caller makes it once by `table` and lends it.
+#![tactic(auto)]
+
 ghost use Rattle.std.specs.Prelude.{◌≡◌, ◌<◌, ◌≤◌, get_or, pos, ◌-ℤ◌};
 ghost use Rattle.points.specs.Points.{a_point};
 ghost use Rattle.round_places.specs.Places.{listed, Wide, rim_of};

@@ -3,6 +3,8 @@
 // Keys carry number and distance (see `key`), and the A points alone are read (see `line`). A caller makes the table once by
 // `round_places::table` and lends it. The contract of `search` is an equation of the result with one definition, so any two
 // results that it allows are equal.
+#![tactic(auto)]
+
 mod key;
 pub mod line;
 

@@ -4,6 +4,8 @@
 // `start` is a salvage before any byte. `feed` takes bytes and puts the records that are kept into a lent page, each with the words that belong
 // there; `end` tells what was changed. Once a place is malformed or a record refused (`replay::found`) nothing more is kept, and later bytes
 // need not be fed: it is enough to count them.
+#![tactic(auto)]
+
 pub mod record;
 
 ghost use Rattle.std.specs.Prelude.{◌≡◌, ◌∷◌, [], ◌+◌, ◌-◌, ◌≤◌, length};

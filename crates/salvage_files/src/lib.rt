@@ -4,6 +4,8 @@
 //
 // Where anything fails there is a message on the error stream and no line, OUT.part is removed, and OUT is not made. An OUT that exists, whatever
 // it is, stays as it was. OUT.part is made anew or not at all, so of two salvages to one OUT the second is refused.
+#![tactic(auto)]
+
 ghost use Rattle.std.specs.Prelude.{◌≡◌, true, ◌+◌, ◌≤◌, length};
 ghost use Rattle.salvage.specs.Working.{feedings, salvage_at};
 

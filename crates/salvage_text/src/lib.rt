@@ -1,4 +1,6 @@
 // The line that tells what a salvage changed: specs/Says has its bytes. It is given by value, at most 111 bytes, its newline included.
+#![tactic(auto)]
+
 ghost use Rattle.std.specs.Prelude.{◌≡◌, ◌++◌, ◌+◌, ◌≤◌, length, take};
 ghost use Rattle.page.specs.Page.{Puts};
 ghost use Rattle.phrases.specs.Phrase.{decimal};

@@ -5,6 +5,8 @@
 // going to the even neighbour, and it is refused if that number is out of range or v is no number at all.
 // What is given back, in numbers, is in specs/Given.antt; what is heard, read from the bits, in specs/Heard.antt. A front end that loses
 // samples says which are missing: specs/Sampled.antt.
+#![tactic(auto)]
+
 ghost use Rattle.std.specs.Prelude.{◌≡◌};
 ghost use Rattle.samples.specs.Given.{coordinate_given, sample_given};
 ghost use Rattle.samples.specs.Heard.{heard_coordinate, heard_sample};

@@ -1,6 +1,8 @@
 // Add, compare and select over the sums of the sixteen states. `advance` gives what each state keeps, its new sum less the least one, and
 // the step into each state (`ways`), where a state that nothing reaches follows a reached one (`follow`). Every function equals a
 // definition of specs/ on the same numbers; what is asked of the sums by themselves is the crate `sums`.
+#![tactic(auto)]
+
 mod follow;
 mod ways;
 

@@ -4,6 +4,8 @@
 // four coordinates of the word's two points to the first four places of the lent output, and gives the sender back. `send_list` does
 // so for a list of words, each straight after the one before, and says how many it sent. A word that is refused leaves the sender
 // and the output as they stood. A closed sender, and any record that is out of range, is answered 9.
+#![tactic(auto)]
+
 ghost use Rattle.std.specs.Prelude.{◌≡◌, true};
 ghost use Rattle.points.specs.Points.{coordinates};
 ghost use Rattle.sender.specs.Send.{number_of, sound, shut};

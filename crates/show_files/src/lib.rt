@@ -1,4 +1,6 @@
 // `capture show`: a line for each record, as `show_text` puts it, and the malformed place if there is one.
+#![tactic(auto)]
+
 use libc::STDOUT_FILENO;
 use records::Frame;
 

@@ -1,5 +1,7 @@
 // The line of one record, put into a lent page. It looks at the form of a capture alone, as `records` reads it: no receiver runs.
 // specs/Shown has the text.
+#![tactic(auto)]
+
 ghost use Rattle.std.specs.Prelude.{◌≡◌, ◌++◌, ◌+◌, ◌≤◌, length};
 ghost use Rattle.page.specs.Page.{Puts};
 ghost use Rattle.text.specs.Bytes.{bytes};

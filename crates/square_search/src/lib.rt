@@ -6,6 +6,8 @@
 // is the lower one, but for the two places around 0, where the lower one is negative, has the field of ones, and loses.
 //
 // The contract of `search` is an equation of the result with one definition, so any two results that it allows are equal.
+#![tactic(auto)]
+
 ghost use Rattle.std.specs.Prelude.{◌≡◌, true, ◌≤◌, ◌<◌, nat_abs};
 ghost use Rattle.maps.specs.SquareMap.{is_width};
 ghost use Rattle.distance.specs.Distance.{SpotInRange};

@@ -1,6 +1,8 @@
 // Lines from standard input, answers to standard output. Input comes in chunks, and a line may go on from one chunk to the next,
 // so `line_buffer` gathers it. Answers are gathered in a page. A pass hears what was read, or as much of it as fills the page well,
 // and hands the page to `write`: a person at a terminal sees each answer at once, and a file of many lines costs few writes.
+#![tactic(auto)]
+
 ghost use Rattle.std.specs.Prelude.{◌≡◌, false, ◌≤◌, ◌<◌, length, take};
 ghost use Rattle.stream.specs.Stream.{streaming, last_line, Moves, Passes, Reads, took as Stream·took};
 

@@ -3,6 +3,8 @@
 // A type is a pair of labels: the turn q = 2·I3' + I2', Y0 and I1 give it. A subset fixes Y0, I1 and I2' and leaves I3' open, so
 // it has two types, with the turns q and q + 2, and both are weighed. Each contract is an equation of the result with one
 // definition of specs/Types, so any two results that it allows are equal.
+#![tactic(auto)]
+
 ghost use Rattle.std.specs.Prelude.{◌≡◌, ◌<◌};
 ghost use Rattle.subset_types.specs.Types.{Summable, sum_of, nearer_of, choices_of};
 

@@ -1,6 +1,8 @@
 // Questions to sixteen numbers, the sums of the states or what select makes of them: where the least stands and what it is, and whether
 // all are small enough. One symbol asks for the least and whether all states are reached, finish asks for the end state, and a receiver
 // that is handed in is asked for its sums. Each answer equals a definition of specs/Sums.
+#![tactic(auto)]
+
 ghost use Rattle.std.specs.Prelude.{◌≡◌, ◌<◌};
 ghost use Rattle.lists.specs.UpTo.{all_up_to};
 ghost use Rattle.sums.specs.Sums.{end_of, lowest};

@@ -1,3 +1,5 @@
+#![tactic(auto)]
+
 // Theory only: no function stands here.
 //
 // A trellis code, its allowed sequences and their order; the best sequence into each state, the answer for a list, the

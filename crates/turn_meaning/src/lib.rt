@@ -1,3 +1,5 @@
+#![tactic(auto)]
+
 // Theory only: no function stands here.
 //
 // A quarter turn of all that is heard: the words after a finish stay, if no second symbol sequence is equally near (02, Wish 10). specs/

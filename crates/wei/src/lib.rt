@@ -5,6 +5,8 @@
 // other way: `state::before_state` gives the four states that lead to a state, `state::subset_between` says which 4D subset a step uses,
 // `label::turn_since` takes the turns' difference and `word::pack` makes the word. Every function here is a leaf: numbers in, numbers
 // out, and a contract that names one definition of specs/.
+#![tactic(auto)]
+
 pub mod label;
 pub mod state;
 pub mod word;

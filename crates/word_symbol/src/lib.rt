@@ -2,6 +2,8 @@
 //
 // It leans on the code's rules (crate wei) and on the table of points, which the caller makes once and lends. Whether there is such
 // a word, and whether the output has room, is the sender's to test.
+#![tactic(auto)]
+
 ghost use Rattle.std.specs.Prelude.{◌≡◌, true, ◌≤◌, ◌<◌, length, set};
 ghost use Rattle.wei.specs.State.{next_state};
 ghost use Rattle.wei.specs.Symbol.{first_label, symbol_of};

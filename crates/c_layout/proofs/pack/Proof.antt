@@ -60,13 +60,12 @@ loop-less : tie.Need-loop-i-smaller invariant-loop-i decreases-loop-i
 loop-less c = omega arith
 
 loop-again : tie.Need-loop-i-preserved invariant-loop-i decreases-loop-i
-loop-again c =
-    (
-      omega arith,
-      c.loop-i.invariant.1,
-      rw (c.loop-i.invariant.2, c.paired.ensures.0, add-one c.loop-i.i) (tabled-more (pair_at c.args.numbers) c.loop-i.i _ (omega arith)),
-      two-more c.args.numbers c.loop-i.i c.loop-i.invariant.3 c.paired.ensures.1 c.paired.ensures.2,
-    )
+loop-again c = (
+  omega arith,
+  c.loop-i.invariant.1,
+  rw (c.loop-i.invariant.2, c.paired.ensures.0, add-one c.loop-i.i) (tabled-more (pair_at c.args.numbers) c.loop-i.i _ (omega arith)),
+  two-more c.args.numbers c.loop-i.i c.loop-i.invariant.3 c.paired.ensures.1 c.paired.ensures.2,
+)
 
 returns : tie.Need-returns invariant-loop-i decreases-loop-i
 unfolding tabled packed

@@ -39,11 +39,10 @@ fed-on-requires : tie.Need-fed_on-requires
 fed-on-requires c κs = search rules
 
 returns : tie.Need-returns
-returns c =
-    (
-      rw (sym c.kind_of-kind.ensures) c.least-n.ensures,
-      simp (c.fed_on.ensures, c.fill.ensures, c.stage_at.ensures, c.kind_of-kind.ensures),
-    )
+returns c = (
+  rw (sym c.kind_of-kind.ensures) c.least-n.ensures,
+  simp (c.fed_on.ensures, c.fill.ensures, c.stage_at.ensures, c.kind_of-kind.ensures),
+)
 
 pub grow_spec : {M : Type 1} → statement M
 grow_spec =

@@ -34,11 +34,10 @@ same_length : tie.Need-shape_of-page
 same_length c = search rules
 
 returns : tie.Need-returns
-returns c =
-    (
-      own_put _ _ (sized c.before.before.before.before.before.before.before.before.before.before) _ _ _ _ _ _ (omega (arith, c.requires)) c.put_byte-p.ensures c.put_text.ensures,
-      omega (arith, c.put_byte-p.ensures.next, c.put_text.ensures.next, (sized c.before.before.before.before.before.before.before.before.before.before).long, (sized c.before.before.before.before.before.before.before.before.before.before).few),
-    )
+returns c = (
+  own_put _ _ (sized c.before.before.before.before.before.before.before.before.before.before) _ _ _ _ _ _ (omega (arith, c.requires)) c.put_byte-p.ensures c.put_text.ensures,
+  omega (arith, c.put_byte-p.ensures.next, c.put_text.ensures.next, (sized c.before.before.before.before.before.before.before.before.before.before).long, (sized c.before.before.before.before.before.before.before.before.before.before).few),
+)
 
 pub put_own_spec : {M : Type 1} → statement M
 put_own_spec =

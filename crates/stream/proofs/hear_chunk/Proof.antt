@@ -140,11 +140,10 @@ same-length-4 : tie.Need-shape_of-page-else-now-le32768 invariant-loop-from decr
 same-length-4 c = search rules
 
 returns-2 : tie.Need-returns-else-now-le32768 invariant-loop-from decreases-loop-from
-returns-2 c =
-    (
-      (c.loop-from.invariant.1.0, omega (arith, c.loop-from.invariant.1.1, c.loop-from.invariant.0.1)),
-      ((c.loop-from.invariant.0.0, λ _. some-heard c.loop-from.from c.loop-from.invariant.1.2 (leb-false c.loop-from.now.at 32768 c.if-now-le32768.false)), c.loop-from.invariant.2),
-    )
+returns-2 c = (
+  (c.loop-from.invariant.1.0, omega (arith, c.loop-from.invariant.1.1, c.loop-from.invariant.0.1)),
+  ((c.loop-from.invariant.0.0, λ _. some-heard c.loop-from.from c.loop-from.invariant.1.2 (leb-false c.loop-from.now.at 32768 c.if-now-le32768.false)), c.loop-from.invariant.2),
+)
 
 same-length-5 : tie.Need-shape_of-line-after-loop-from invariant-loop-from decreases-loop-from
 same-length-5 c = search rules

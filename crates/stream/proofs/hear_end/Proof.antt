@@ -9,11 +9,10 @@ use Rattle.stream.proofs.hear_end.Statement.{statement}
 use Rattle.stream.proofs.hear_end.Tie as tie
 
 returns : tie.Need-returns-then-not-part
-returns c =
-    (
-      (omega (arith, c.requires.1.0), c.requires.1.1),
-      λ k b z. stands-as (no_last _ k z.holds.part c.if-part-eq0.true (c.if-not-part.true)) z,
-    )
+returns c = (
+  (omega (arith, c.requires.1.0), c.requires.1.1),
+  λ k b z. stands-as (no_last _ k z.holds.part c.if-part-eq0.true (c.if-not-part.true)) z,
+)
 
 reply-requires : tie.Need-reply-requires
 reply-requires c κs = search rules
@@ -29,15 +28,14 @@ abbrev to_start : tie.After-reply → tie.Start
 to_start c = c.before.before.before.before.before
 
 returns-2 : tie.Need-returns
-returns-2 c =
-    (
-      (omega (arith, c.reply.ensures.0.0, c.requires.1.0), omega (arith, c.reply.ensures.0.1)),
-      λ k b z. let start = to_start c.before.before in
-          let some =
-          some-last _ k z.holds.part start.requires.1.1
-          (λ e f. ⊎_elim (λ w. clash start.args.lab.part.long (not-false _ w.2.left) f) (λ w. w.left e) c.else-part-eq0.branch) in
-          stands-as some (after-reply z _ _ (omega (arith, start.requires.0, start.requires.1.0)) (c.reply.ensures.1 _ z.holds.part)),
-    )
+returns-2 c = (
+  (omega (arith, c.reply.ensures.0.0, c.requires.1.0), omega (arith, c.reply.ensures.0.1)),
+  λ k b z. let start = to_start c.before.before in
+      let some =
+      some-last _ k z.holds.part start.requires.1.1
+      (λ e f. ⊎_elim (λ w. clash start.args.lab.part.long (not-false _ w.2.left) f) (λ w. w.left e) c.else-part-eq0.branch) in
+      stands-as some (after-reply z _ _ (omega (arith, start.requires.0, start.requires.1.0)) (c.reply.ensures.1 _ z.holds.part)),
+)
 
 pub hear_end_spec : {M : Type 1} → statement M
 hear_end_spec =

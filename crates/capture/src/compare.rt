@@ -1,24 +1,24 @@
 // `capture compare FIRST SECOND`: two captures, record by record. Both are opened before either is read; what is told of them is `compare_files`'s.
 use crate::{help, input};
-use libc::STDERR_FILENO;
+use edge::Streams;
+use std::env::Env;
+use std::fs::Files;
 
-fn wants_two() {
-    io::write_all(STDERR_FILENO, b"capture: compare wants two files\n\n");
-    help::show(STDERR_FILENO);
+fn wants_two(to: Streams) {
+    edge::note(to, b"capture: compare wants two files\n\n");
+    help::note(to);
 }
 
-pub fn run() {
-    if os::arg_count() < 4 {
-        wants_two();
+pub fn run<R: Files + Env>(rt: &R, to: Streams) {
+    if !edge::is_given(rt, 3) {
+        wants_two(to);
         return;
     }
-    let first = input::named(2);
-    if first < 0 {
+    let Some(mut first) = input::named(rt, to, 2) else {
         return;
-    }
-    let second = input::named(3);
-    if second < 0 {
+    };
+    let Some(mut second) = input::named(rt, to, 3) else {
         return;
-    }
-    compare_files::run(first, second);
+    };
+    compare_files::run(&mut first, &mut second, to);
 }

@@ -1,7 +1,9 @@
 // The page of `capture help`. It goes to standard output where it is asked for, and to the error stream where a word is unknown.
-pub fn show(to: i32) -> bool {
-    io::write_all(
-        to,
+use edge::Streams;
+use std::io;
+
+fn show<P: Print>(to: &P) -> io::Result<()> {
+    to.write_all(
         b"capture: recorded runs of a receiver.
 
   capture record          records a receiver: lines of lab in, the capture out, each line's answer on the error stream
@@ -50,4 +52,17 @@ A capture is a row of records: a byte of kind, then its body.
   6  open on the square map: as 1
 ",
     )
+}
+
+pub fn print(to: Streams) {
+    let out = to.out;
+    match show(&out) {
+        Ok(()) => {}
+        Err(why) => edge::tell(to, b"capture: standard output", why),
+    }
+}
+
+pub fn note(to: Streams) {
+    let err = to.err;
+    let _ = show(&err);
 }

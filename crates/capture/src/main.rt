@@ -9,89 +9,124 @@ mod help;
 mod input;
 mod salvage;
 
-use libc::{STDERR_FILENO, STDOUT_FILENO};
+use edge::Streams;
+use std::env::Env;
+use std::fs::Files;
+use std::io::Read;
 use text::token;
 
 // Whether argument i is this word. One that has no room is none of ours.
-fn is_word(i: usize, word: &[u8]) -> bool {
-    let mut given = io::buffer();
-    let n = os::arg(i, &mut given);
-    token::same(&given[..n], word)
+fn is_word<E: Env>(env: &E, i: usize, word: &[u8]) -> bool {
+    let mut given = [0u8; 4096];
+    match env.arg(i, &mut given) {
+        Ok(n) => token::same(&given[..n], word),
+        Err(_) => false,
+    }
 }
 
-// The page on the error stream, its first line naming the word that means nothing here, or what fits of it.
-fn unknown(i: usize) {
-    let mut word = io::buffer();
-    let n = os::arg(i, &mut word);
-    io::write_all(STDERR_FILENO, b"capture: not known here: ");
-    io::write_all(STDERR_FILENO, &word[..n]);
-    io::write_all(STDERR_FILENO, b"\n\n");
-    help::show(STDERR_FILENO);
+// The page on the error stream, its first line naming the word that means nothing here, if it fits.
+fn unknown<E: Env>(env: &E, to: Streams, i: usize) {
+    let mut word = [0u8; 4096];
+    let filled = env.arg(i, &mut word);
+    edge::note(to, b"capture: not known here: ");
+    match filled {
+        Ok(n) => edge::note(to, &word[..n]),
+        Err(_) => {}
+    }
+    edge::note(to, b"\n\n");
+    help::note(to);
 }
 
-fn nothing_asked() {
-    io::write_all(
-        STDERR_FILENO,
+fn nothing_asked(to: Streams) {
+    edge::note(
+        to,
         b"capture: it wants a word: record, replay, show, compare, salvage or help\n\n",
     );
-    help::show(STDERR_FILENO);
+    help::note(to);
 }
 
-fn asked_help() {
-    if os::arg_count() > 2 {
-        unknown(2);
+fn asked_help<E: Env>(env: &E, to: Streams) {
+    if edge::is_given(env, 2) {
+        unknown(env, to, 2);
         return;
     }
-    if !help::show(STDOUT_FILENO) {
-        os::fail(b"capture: standard output");
+    help::print(to);
+}
+
+fn asked_record<E: Env, I: Read>(env: &E, input: &mut I, to: Streams) {
+    if edge::is_given(env, 2) {
+        unknown(env, to, 2);
+        return;
+    }
+    record_files::run(input, to);
+}
+
+fn asked_replay<R: Files + Env, I: Read>(rt: &R, input: &mut I, to: Streams) {
+    if !edge::is_given(rt, 2) {
+        replay_files::run(input, to);
+        return;
+    }
+    if let Some(mut file) = input::named(rt, to, 2) {
+        replay_files::run(&mut file, to);
     }
 }
 
-fn asked_record() {
-    if os::arg_count() > 2 {
-        unknown(2);
+fn asked_show<R: Files + Env, I: Read>(rt: &R, input: &mut I, to: Streams) {
+    if !edge::is_given(rt, 2) {
+        show_files::run(input, to);
         return;
     }
-    record_files::run();
+    if let Some(mut file) = input::named(rt, to, 2) {
+        show_files::run(&mut file, to);
+    }
 }
 
-fn main() {
-    let count = os::arg_count();
-    if count < 2 {
-        nothing_asked();
+// What the first word asks for, of the program's arguments, its input and the streams that it prints on.
+fn obey<R: Files + Env, I: Read>(rt: &R, input: &mut I, to: Streams) {
+    if !edge::is_given(rt, 1) {
+        nothing_asked(to);
         return;
     }
-    if count > 4 {
-        unknown(4);
+    if edge::is_given(rt, 4) {
+        unknown(rt, to, 4);
         return;
     }
-    if is_word(1, b"compare") {
-        compare::run();
+    if is_word(rt, 1, b"compare") {
+        compare::run(rt, to);
         return;
     }
-    if is_word(1, b"salvage") {
-        salvage::run();
+    if is_word(rt, 1, b"salvage") {
+        salvage::run(rt, to);
         return;
     }
-    if count > 3 {
-        unknown(3);
+    if edge::is_given(rt, 3) {
+        unknown(rt, to, 3);
         return;
     }
-    if is_word(1, b"replay") {
-        replay_files::run(input::open());
+    if is_word(rt, 1, b"replay") {
+        asked_replay(rt, input, to);
         return;
     }
-    if is_word(1, b"record") {
-        asked_record();
+    if is_word(rt, 1, b"record") {
+        asked_record(rt, input, to);
         return;
     }
-    if is_word(1, b"show") {
-        show_files::run(input::open());
+    if is_word(rt, 1, b"show") {
+        asked_show(rt, input, to);
         return;
     }
-    if is_word(1, b"help") {
-        asked_help();
+    if is_word(rt, 1, b"help") {
+        asked_help(rt, to);
         return;
     }
-    unknown(1);
+    unknown(rt, to, 1);
+}
+
+fn main(rt: HostRuntime) {
+    let to = Streams {
+        out: rt.stdout(),
+        err: rt.stderr(),
+    };
+    let mut input = rt.stdin();
+    obey(&rt, &mut input, to);
 }

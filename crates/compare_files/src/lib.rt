@@ -11,15 +11,14 @@ ghost use Rattle.compare_files.specs.Steps.{shape_of, is_unread, FormTurn, waiti
 
 use compare::Pass;
 use compare_events::{Event, Line};
-use libc::{SEEK_SET, STDERR_FILENO, STDOUT_FILENO};
+use edge::Streams;
 use record_front::Sign;
 use records::Phase;
+use std::io::{Error, Read, Seek};
 
-// One file: its descriptor, the place in its chunk from which bytes wait and the one up to which they do, whether it has ended, and whether
-// all went well.
+// One file: the place in its chunk from which bytes wait and the one up to which they do, whether it has ended, and whether all went well.
 #[derive(Clone, Copy)]
 struct Side {
-    fd: i32,
     from: usize,
     to: usize,
     ends: bool,
@@ -65,8 +64,13 @@ fn to_front(chunk: &mut [u8], from: usize, to: usize) -> usize
     i
 }
 
-// Reads once, behind the bytes that wait. A read that answers 0 is the file's end.
-fn refill(s: Side, chunk: &mut [u8]) -> Side
+// No error yet.
+fn unknown() -> Error {
+    Error::from_raw_os_error(0)
+}
+
+// Reads once, behind the bytes that wait. A read that answers 0 is the file's end. Why a read failed stands in `why`.
+fn refill<R: Read>(file: &mut R, why: &mut Error, s: Side, chunk: &mut [u8]) -> Side
     requires { (s.from ≤ s.to) × (s.to ≤ length chunk.old) }
     ensures from_le_to { (result.from ≤ result.to) × (result.to ≤ length chunk.old) }
     ensures from_bound { (s.to - s.from ≤ result.to) × (take (s.to - s.from) chunk.new ≡ take (s.to - s.from) (drop s.from chunk.old)) }
@@ -76,22 +80,29 @@ fn refill(s: Side, chunk: &mut [u8]) -> Side
     let to = s.to;
     let held = to_front(chunk, from, to);
     let rest = &mut chunk[held..];
-    let got = libc::read(s.fd, rest);
-    let n = io::count(got, rest);
-    Side {
-        fd: s.fd,
-        from: 0,
-        to: held + n,
-        ends: got == 0,
-        fine: got >= 0,
+    match file.read(rest) {
+        Ok(n) => Side {
+            from: 0,
+            to: held + n,
+            ends: n == 0,
+            fine: true,
+        },
+        Err(e) => {
+            *why = e;
+            Side {
+                from: 0,
+                to: held,
+                ends: false,
+                fine: false,
+            }
+        }
     }
 }
 
-fn fresh(fd: i32) -> Side
+fn fresh() -> Side
     ensures { (result.from ≡ 0) × (result.to ≡ 0) }
 {
     Side {
-        fd: fd,
         from: 0,
         to: 0,
         ends: false,
@@ -106,7 +117,6 @@ fn passed(s: Side, n: usize) -> Side
     ensures from_value { (result.from ≡ s.from + n) × (result.ends ≡ s.ends) × (result.fine ≡ s.fine) }
 {
     Side {
-        fd: s.fd,
         from: s.from + n,
         to: s.to,
         ends: s.ends,
@@ -146,14 +156,14 @@ fn is_unread(shape: Shape) -> bool
 }
 
 // One read of the first reading.
-fn read_form(r: Reading, chunk: &mut [u8]) -> Reading
+fn read_form<R: Read>(file: &mut R, why: &mut Error, r: Reading, chunk: &mut [u8]) -> Reading
     requires { (r.side.from ≤ r.side.to) × (r.side.to ≤ length chunk.old) }
     ensures from_le_to { (result.side.from ≤ result.side.to) × (result.side.to ≤ length chunk.old) }
     ensures form_turn { FormTurn r chunk.old result chunk.new }
 {
     let old = r.side;
     let phase = r.phase;
-    let s = refill(old, chunk);
+    let s = refill(file, why, old, chunk);
     let from = s.from;
     let to = s.to;
     let f = compare::form(phase, r.at, &chunk[from..to], s.ends);
@@ -171,10 +181,10 @@ fn read_form(r: Reading, chunk: &mut [u8]) -> Reading
 
 // The first reading of a file, to its end or its malformed place. A proved loop has to end, and nothing says that a file does: the turns are
 // counted down from a number that no run uses up.
-fn form_of(fd: i32) -> Shape {
+fn form_of<R: Read>(file: &mut R, why: &mut Error) -> Shape {
     let mut chunk = [0u8; 65536];
     let mut now = Reading {
-        side: fresh(fd),
+        side: fresh(),
         phase: Phase::Start,
         at: 0,
         shape: Shape::Unread,
@@ -182,7 +192,7 @@ fn form_of(fd: i32) -> Shape {
     };
     let mut turns = u64::MAX;
     while turns > 0 && now.on {
-        now = read_form(now, &mut chunk);
+        now = read_form(file, why, now, &mut chunk);
         turns -= 1;
     }
     let side = now.side;
@@ -193,18 +203,14 @@ fn form_of(fd: i32) -> Shape {
 }
 
 // Hands what the page holds to `write`.
-fn flush(page: &[u8], at: usize) -> bool
+fn flush(to: Streams, page: &[u8], at: usize) -> bool
     requires { at ≤ length page.now }
 {
-    let is_written = io::write_all(STDOUT_FILENO, &page[..at]);
-    if !is_written {
-        os::fail(b"capture: standard output");
-    }
-    is_written
+    edge::write(to, &page[..at], b"capture: standard output")
 }
 
 // A line more on the page, which is handed on with the last line and where no other would find room.
-fn say(at: usize, line: Line, ends: bool, page: &mut [u8]) -> Out
+fn say(to: Streams, at: usize, line: Line, ends: bool, page: &mut [u8]) -> Out
     requires { at + 40 ≤ length page.old }
     ensures at_in_bounds { result.at + 40 ≤ length page.old }
     ensures line_said { LineSaid line page.old at result page.new }
@@ -217,7 +223,7 @@ fn say(at: usize, line: Line, ends: bool, page: &mut [u8]) -> Out
             on: true,
         };
     }
-    let is_written = flush(page, end);
+    let is_written = flush(to, page, end);
     Out {
         at: 0,
         waits: false,
@@ -226,7 +232,7 @@ fn say(at: usize, line: Line, ends: bool, page: &mut [u8]) -> Out
 }
 
 // A side of which less than half a chunk waits is read on, where more bytes are wanted.
-fn fed(s: Side, is_wanted: bool, chunk: &mut [u8]) -> Side
+fn fed<R: Read>(file: &mut R, why: &mut Error, s: Side, is_wanted: bool, chunk: &mut [u8]) -> Side
     requires { (s.from ≤ s.to) × (s.to ≤ length chunk.old) }
     ensures from_le_to { (result.from ≤ result.to) × (result.to ≤ length chunk.old) }
     ensures kept { Kept s chunk.old result chunk.new }
@@ -235,17 +241,14 @@ fn fed(s: Side, is_wanted: bool, chunk: &mut [u8]) -> Side
     if !is_wanted | s.ends | (chunk.len() - waits < waits) {
         return s;
     }
-    refill(s, chunk)
+    refill(file, why, s, chunk)
 }
 
 // A file that was well formed a moment ago.
-fn changed(at: usize) -> Out
+fn changed(to: Streams, at: usize) -> Out
     ensures { result.at ≡ at }
 {
-    io::write_all(
-        STDERR_FILENO,
-        b"capture: a file was changed while it was read\n",
-    );
+    edge::note(to, b"capture: a file was changed while it was read\n");
     Out {
         at: at,
         waits: false,
@@ -254,7 +257,7 @@ fn changed(at: usize) -> Out
 }
 
 // What two lumps told: a line goes to the page.
-fn heed(event: Event, at: usize, page: &mut [u8]) -> Out
+fn heed(to: Streams, event: Event, at: usize, page: &mut [u8]) -> Out
     requires { at + 40 ≤ length page.old }
     ensures at_in_bounds { result.at + 40 ≤ length page.old }
     ensures heeded { Heeded event page.old at result page.new }
@@ -265,14 +268,14 @@ fn heed(event: Event, at: usize, page: &mut [u8]) -> Out
             waits: false,
             on: true,
         },
-        Event::Said(line) => say(at, line, false, page),
-        Event::Last(line) => say(at, line, true, page),
+        Event::Said(line) => say(to, at, line, false, page),
+        Event::Last(line) => say(to, at, line, true, page),
         Event::Wait => Out {
             at: at,
             waits: true,
             on: true,
         },
-        Event::Broken => changed(at),
+        Event::Broken => changed(to, at),
     }
 }
 
@@ -294,7 +297,7 @@ fn told_by(b: Both, one: &[u8], two: &[u8]) -> Pass
 }
 
 // And the line to the page.
-fn look_on(b: Both, one: &[u8], two: &[u8], page: &mut [u8]) -> Both
+fn look_on(to: Streams, b: Both, one: &[u8], two: &[u8], page: &mut [u8]) -> Both
     requires from_le_to { (b.first.from ≤ b.first.to) × (b.first.to ≤ length one.now) }
     requires from_le_to_2 { (b.second.from ≤ b.second.to) × (b.second.to ≤ length two.now) }
     requires at_in_bounds { b.out.at + 40 ≤ length page.old }
@@ -308,7 +311,7 @@ fn look_on(b: Both, one: &[u8], two: &[u8], page: &mut [u8]) -> Both
     let second = b.second;
     let out = b.out;
     let event = pass.event;
-    let next = heed(event, out.at, page);
+    let next = heed(to, event, out.at, page);
     Both {
         pass: pass,
         first: passed(first, pass.here),
@@ -318,7 +321,14 @@ fn look_on(b: Both, one: &[u8], two: &[u8], page: &mut [u8]) -> Both
 }
 
 // Reads on where more bytes are wanted.
-fn read_on(b: Both, one: &mut [u8], two: &mut [u8]) -> Both
+fn read_on<R: Read>(
+    first_file: &mut R,
+    second_file: &mut R,
+    why: &mut Error,
+    b: Both,
+    one: &mut [u8],
+    two: &mut [u8],
+) -> Both
     requires from_le_to { (b.first.from ≤ b.first.to) × (b.first.to ≤ length one.old) }
     requires from_le_to_2 { (b.second.from ≤ b.second.to) × (b.second.to ≤ length two.old) }
     ensures from_le_to_3 { (result.first.from ≤ result.first.to) × (result.first.to ≤ length one.old) }
@@ -330,8 +340,8 @@ fn read_on(b: Both, one: &mut [u8], two: &mut [u8]) -> Both
     let old_first = b.first;
     let old_second = b.second;
     let out = b.out;
-    let first = fed(old_first, out.waits, one);
-    let second = fed(old_second, out.waits, two);
+    let first = fed(first_file, why, old_first, out.waits, one);
+    let second = fed(second_file, why, old_second, out.waits, two);
     let next = Out {
         at: out.at,
         waits: false,
@@ -346,7 +356,15 @@ fn read_on(b: Both, one: &mut [u8], two: &mut [u8]) -> Both
 }
 
 // One turn of the second reading.
-fn turn(b: Both, one: &mut [u8], two: &mut [u8], page: &mut [u8]) -> Both
+fn turn<R: Read>(
+    first_file: &mut R,
+    second_file: &mut R,
+    to: Streams,
+    b: Both,
+    one: &mut [u8],
+    two: &mut [u8],
+    page: &mut [u8],
+) -> Both
     requires from_le_to { (b.first.from ≤ b.first.to) × (b.first.to ≤ length one.old) }
     requires from_le_to_2 { (b.second.from ≤ b.second.to) × (b.second.to ≤ length two.old) }
     requires at_in_bounds { b.out.at + 40 ≤ length page.old }
@@ -354,23 +372,24 @@ fn turn(b: Both, one: &mut [u8], two: &mut [u8], page: &mut [u8]) -> Both
     ensures from_le_to_4 { (result.second.from ≤ result.second.to) × (result.second.to ≤ length two.old) }
     ensures at_in_bounds_2 { result.out.at + 40 ≤ length page.old }
 {
-    let next = read_on(b, one, two);
+    let mut why = unknown();
+    let next = read_on(first_file, second_file, &mut why, b, one, two);
     if !next.out.on {
-        os::fail(b"capture: read");
+        edge::tell(to, b"capture: read", why);
         return next;
     }
-    look_on(next, one, two, page)
+    look_on(to, next, one, two, page)
 }
 
 // The second reading: both files side by side.
-fn side_by_side(first: i32, second: i32) {
+fn side_by_side<R: Read>(first: &mut R, second: &mut R, to: Streams) {
     let mut one = [0u8; 65536];
     let mut two = [0u8; 65536];
     let mut page = [0u8; 65536];
     let mut now = Both {
         pass: compare::start(),
-        first: fresh(first),
-        second: fresh(second),
+        first: fresh(),
+        second: fresh(),
         out: Out {
             at: 0,
             waits: true,
@@ -379,37 +398,40 @@ fn side_by_side(first: i32, second: i32) {
     };
     let mut turns = u64::MAX;
     while turns > 0 && now.out.on {
-        now = turn(now, &mut one, &mut two, &mut page);
+        now = turn(first, second, to, now, &mut one, &mut two, &mut page);
         turns -= 1;
     }
 }
 
 // A file as it was before its first byte was read.
-fn rewind(fd: i32) -> bool {
-    let is_back = libc::lseek(fd, 0, SEEK_SET) == 0;
-    if !is_back {
-        os::fail(b"capture: a file that cannot be read twice");
+fn rewind<R: Seek>(file: &mut R, to: Streams) -> bool {
+    match file.rewind() {
+        Ok(()) => true,
+        Err(why) => {
+            edge::tell(to, b"capture: a file that cannot be read twice", why);
+            false
+        }
     }
-    is_back
 }
 
 // What a file is, with the file rewound; a failure is told.
-fn shape_of(fd: i32) -> Shape {
-    let shape = form_of(fd);
+fn shape_of<R: Read + Seek>(file: &mut R, to: Streams) -> Shape {
+    let mut why = unknown();
+    let shape = form_of(file, &mut why);
     if is_unread(shape) {
-        os::fail(b"capture: read");
+        edge::tell(to, b"capture: read", why);
         return shape;
     }
-    if !rewind(fd) {
+    if !rewind(file, to) {
         return Shape::Unread;
     }
     shape
 }
 
 // The only line.
-fn say_alone(line: Line) {
+fn say_alone(to: Streams, line: Line) {
     let mut page = [0u8; 40];
-    say(0, line, true, &mut page);
+    say(to, 0, line, true, &mut page);
 }
 
 // `second malformed P`, or no line yet.
@@ -435,24 +457,24 @@ fn only_line(a: Shape, b: Shape) -> Event
 }
 
 // The only line, or the second reading.
-fn judged(a: Shape, b: Shape, first: i32, second: i32) {
+fn judged<R: Read>(a: Shape, b: Shape, first: &mut R, second: &mut R, to: Streams) {
     let only = only_line(a, b);
     if let Event::Last(line) = only {
-        say_alone(line);
+        say_alone(to, line);
         return;
     }
-    side_by_side(first, second);
+    side_by_side(first, second, to);
 }
 
-// Compares the captures behind two descriptors. Nothing is printed before both are read for their form and rewound.
-pub fn run(first: i32, second: i32) {
-    let a = shape_of(first);
+// Compares the captures of two files. Nothing is printed before both are read for their form and rewound.
+pub fn run<R: Read + Seek>(first: &mut R, second: &mut R, to: Streams) {
+    let a = shape_of(first, to);
     if is_unread(a) {
         return;
     }
-    let b = shape_of(second);
+    let b = shape_of(second, to);
     if is_unread(b) {
         return;
     }
-    judged(a, b, first, second);
+    judged(a, b, first, second, to);
 }

@@ -1,8 +1,9 @@
 // The page of `lab help`: a first session to copy, the verbs, and the numbers given back. It goes to standard output where it is asked
 // for, and to the error stream where an argument is another word. Each part answers whether it was written.
-fn first_session(to: i32) -> bool {
-    io::write_all(
-        to,
+use std::io;
+
+fn first_session<P: Print>(to: &P) -> io::Result<()> {
+    to.write_all(
         b"lab: both ends of the line by hand. It reads lines from standard input and answers each by a line.
 
 A first session. Start `lab` and type the lines on the left; its answers stand on the right.
@@ -19,9 +20,8 @@ The receiver says a word only when no later symbol can change it, so mostly some
     )
 }
 
-fn verbs(to: i32) -> bool {
-    io::write_all(
-        to,
+fn verbs<P: Print>(to: &P) -> io::Result<()> {
+    to.write_all(
         b"What a line can be. Tokens are separated by one space.
 
   sender U                  opens a sender of width U, 0 to 8. Answer: N
@@ -51,9 +51,8 @@ fn verbs(to: i32) -> bool {
     )
 }
 
-fn numbers(to: i32) -> bool {
-    io::write_all(
-        to,
+fn numbers<P: Print>(to: &P) -> io::Result<()> {
+    to.write_all(
         b"N, the number given back:
 
   0 done                        6 the window is full: finish, and open again
@@ -68,6 +67,8 @@ Numbers are decimal, CAP is at most 4096, and a line at most 65536 bytes.
     )
 }
 
-pub fn show(to: i32) -> bool {
-    first_session(to) && verbs(to) && numbers(to)
+pub fn show<P: Print>(to: &P) -> io::Result<()> {
+    first_session(to)?;
+    verbs(to)?;
+    numbers(to)
 }

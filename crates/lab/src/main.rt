@@ -6,13 +6,20 @@
 mod help;
 mod words;
 
-fn main() {
-    if os::arg_count() > 1 {
-        words::answer();
+use edge::Streams;
+
+fn main(rt: HostRuntime) {
+    let to = Streams {
+        out: rt.stdout(),
+        err: rt.stderr(),
+    };
+    if edge::is_given(&rt, 1) {
+        words::answer(&rt, to);
         return;
     }
     let mut chunk = [0u8; 65536];
     let mut line = [0u8; 65536];
     let mut page = [0u8; 131072];
-    stream::serve(&mut chunk, &mut line, &mut page);
+    let mut input = rt.stdin();
+    stream::serve(&mut input, to, &mut chunk, &mut line, &mut page);
 }

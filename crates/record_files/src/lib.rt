@@ -4,10 +4,11 @@
 
 ghost use Rattle.std.specs.Prelude.{◌≡◌, ◌≤◌, length};
 
-use libc::{STDERR_FILENO, STDIN_FILENO, STDOUT_FILENO};
+use edge::Streams;
 use line_buffer::Part;
 use machine::Receiver;
 use record_text::Noted;
+use std::io::Read;
 use text::token;
 
 // The receiver, whether its opening is recorded, the line so far, and whether to read on.
@@ -19,33 +20,39 @@ struct Progress {
     on: bool,
 }
 
-// The first bytes of some text.
-fn write_front(to: i32, text: &[u8], size: usize) -> bool {
+// The first bytes of some text, to standard output.
+fn write_front(to: Streams, text: &[u8], size: usize) -> bool {
     if size > text.len() {
         return false;
     }
-    io::write_all(to, &text[..size])
+    edge::write(to, &text[..size], b"capture: standard output")
+}
+
+// The same to the error stream.
+fn note_front(to: Streams, text: &[u8], size: usize) {
+    if size <= text.len() {
+        edge::note(to, &text[..size]);
+    }
 }
 
 // The records, then the answer. Whether to read on.
-fn put_out(n: Noted, bytes: &[u8], page: &[u8]) -> bool {
-    if !write_front(STDOUT_FILENO, bytes, n.recorded) {
-        os::fail(b"capture: standard output");
+fn put_out(to: Streams, n: Noted, bytes: &[u8], page: &[u8]) -> bool {
+    if !write_front(to, bytes, n.recorded) {
         return false;
     }
     if n.ends {
-        io::write_all(
-            STDERR_FILENO,
+        edge::note(
+            to,
             b"capture: a capture holds one receiver: the recording ends before this opening\n",
         );
         return false;
     }
-    write_front(STDERR_FILENO, page, n.at);
+    note_front(to, page, n.at);
     true
 }
 
 // The line that has come to its end.
-fn end_line(t: Progress, line: &[u8], bytes: &mut [u8], page: &mut [u8]) -> Progress
+fn end_line(to: Streams, t: Progress, line: &[u8], bytes: &mut [u8], page: &mut [u8]) -> Progress
     requires { (t.part.held ≤ length line.now) × (length page.old ≡ 98304) }
     ensures { result.part.held ≡ 0 }
 {
@@ -53,7 +60,7 @@ fn end_line(t: Progress, line: &[u8], bytes: &mut [u8], page: &mut [u8]) -> Prog
     let rx = t.receiver;
     let n = record_text::line(rx, t.begun, part, line, bytes, page);
     let after = n.receiver;
-    let on = put_out(n, bytes, page);
+    let on = put_out(to, n, bytes, page);
     Progress {
         receiver: after,
         begun: n.begun,
@@ -64,7 +71,7 @@ fn end_line(t: Progress, line: &[u8], bytes: &mut [u8], page: &mut [u8]) -> Prog
 
 // Line by line; what stands after the last newline is kept. The bytes hold the records of any line: 10 at most for each of 1,024 symbols,
 // 5 for each of 4096 words. So no line is refused for want of them.
-fn hear_chunk(t: Progress, chunk: &[u8], line: &mut [u8]) -> Progress
+fn hear_chunk(to: Streams, t: Progress, chunk: &[u8], line: &mut [u8]) -> Progress
     requires { t.part.held ≤ length line.old }
     ensures { result.part.held ≤ length line.old }
 {
@@ -81,7 +88,7 @@ fn hear_chunk(t: Progress, chunk: &[u8], line: &mut [u8]) -> Progress
         if end == chunk.len() {
             return now;
         }
-        now = end_line(now, line, &mut bytes, &mut page);
+        now = end_line(to, now, line, &mut bytes, &mut page);
         from = end + 1;
     }
     now
@@ -96,7 +103,7 @@ fn stopped(t: Progress) -> Progress
 }
 
 // A last line that no newline follows counts as a line.
-fn at_end(t: Progress, line: &mut [u8]) -> Progress
+fn at_end(to: Streams, t: Progress, line: &mut [u8]) -> Progress
     requires { t.part.held ≤ length line.old }
     ensures { result.part.held ≤ length line.old }
 {
@@ -104,27 +111,32 @@ fn at_end(t: Progress, line: &mut [u8]) -> Progress
     if part.held == 0 && !part.long {
         return stopped(t);
     }
-    stopped(hear_chunk(t, b"\n", line))
+    stopped(hear_chunk(to, t, b"\n", line))
 }
 
 // One read. Where it fails, what was gathered is no line.
-fn read_once(t: Progress, chunk: &mut [u8], line: &mut [u8]) -> Progress
+fn read_once<R: Read>(
+    input: &mut R,
+    to: Streams,
+    t: Progress,
+    chunk: &mut [u8],
+    line: &mut [u8],
+) -> Progress
     requires { t.part.held ≤ length line.old }
     ensures { result.part.held ≤ length line.old }
 {
-    let got = libc::read(STDIN_FILENO, chunk);
+    let got = edge::read(input, chunk, to, b"capture: standard input");
     if got < 0 {
-        os::fail(b"capture: standard input");
         return stopped(t);
     }
     if got == 0 {
-        return at_end(t, line);
+        return at_end(to, t, line);
     }
     let n = io::count(got, chunk);
-    hear_chunk(t, &chunk[..n], line)
+    hear_chunk(to, t, &chunk[..n], line)
 }
 
-pub fn run() {
+pub fn run<R: Read>(input: &mut R, to: Streams) {
     let mut chunk = [0u8; 65536];
     let mut line = [0u8; 65536];
     let mut now = Progress {
@@ -136,6 +148,6 @@ pub fn run() {
     let mut passes = u64::MAX;
     while passes > 0 && now.on {
         passes -= 1;
-        now = read_once(now, &mut chunk, &mut line);
+        now = read_once(input, to, now, &mut chunk, &mut line);
     }
 }

@@ -2,9 +2,10 @@
 // and swallowed, so that whoever writes the capture into a pipe is not broken off.
 #![tactic(auto)]
 
-use libc::STDOUT_FILENO;
+use edge::Streams;
 use replay::Replay;
 use replay_judge::Verdict;
+use std::io::Read;
 
 // The replay so far, whether to read on, and whether there is nothing left to say.
 #[derive(Clone, Copy)]
@@ -15,31 +16,30 @@ struct Progress {
 }
 
 // The first bytes of a text, and a newline.
-fn write_line(text: &[u8], size: usize) {
+fn write_line(to: Streams, text: &[u8], size: usize) {
     if size > text.len() {
         return;
     }
-    let is_written = io::write_all(STDOUT_FILENO, &text[..size])
-        && io::write_all(STDOUT_FILENO, b"\n");
-    if !is_written {
-        os::fail(b"capture: standard output");
+    let what = b"capture: standard output";
+    if edge::write(to, &text[..size], what) {
+        edge::write(to, b"\n", what);
     }
 }
 
-fn print(v: Verdict) {
+fn print(to: Streams, v: Verdict) {
     let line = replay_text::line_of(v);
     let text = line.text;
-    write_line(&text, line.size);
+    write_line(to, &text, line.size);
 }
 
 // Bytes that were read. A fault is printed at once.
-fn heard(r: Replay, bytes: &[u8]) -> Progress {
+fn heard(to: Streams, r: Replay, bytes: &[u8]) -> Progress {
     let after = replay::feed(r, bytes);
     let frame = after.frame;
     let judge = after.judge;
     let said = replay::found(frame, judge);
     if said {
-        print(replay::end(after));
+        print(to, replay::end(after));
     }
     Progress {
         replay: after,
@@ -49,12 +49,9 @@ fn heard(r: Replay, bytes: &[u8]) -> Progress {
 }
 
 // One read. Where it fails there is a message, and no verdict.
-fn read_once(t: Progress, fd: i32, chunk: &mut [u8]) -> Progress {
+fn read_once<R: Read>(from: &mut R, to: Streams, t: Progress, chunk: &mut [u8]) -> Progress {
     let r = t.replay;
-    let got = libc::read(fd, chunk);
-    if got < 0 {
-        os::fail(b"capture: read");
-    }
+    let got = edge::read(from, chunk, to, b"capture: read");
     if got <= 0 {
         return Progress {
             replay: r,
@@ -66,14 +63,11 @@ fn read_once(t: Progress, fd: i32, chunk: &mut [u8]) -> Progress {
         return t;
     }
     let n = io::count(got, chunk);
-    heard(r, &chunk[..n])
+    heard(to, r, &chunk[..n])
 }
 
 // A proved loop has to end, and nothing says that the input does: the passes are counted down from a number that no run uses up.
-pub fn run(fd: i32) {
-    if fd < 0 {
-        return;
-    }
+pub fn run<R: Read>(from: &mut R, to: Streams) {
     let mut chunk = [0u8; 65536];
     let mut now = Progress {
         replay: replay::start(),
@@ -82,11 +76,11 @@ pub fn run(fd: i32) {
     };
     let mut passes = u64::MAX;
     while passes > 0 && now.on {
-        now = read_once(now, fd, &mut chunk);
+        now = read_once(from, to, now, &mut chunk);
         passes -= 1;
     }
     if !now.said {
         let r = now.replay;
-        print(replay::end(r));
+        print(to, replay::end(r));
     }
 }

@@ -3,6 +3,7 @@
 ghost use Rattle.std.specs.Prelude.{◌<◌};
 
 use crate::say;
+use std::io::Stdout;
 
 // A coordinate as four bits; 8 stands for those that no row has.
 fn coordinate(x: i32) -> u64 {
@@ -22,18 +23,21 @@ fn point(l: u32, w: u32) -> u64
     coordinate(p.x) << 4 | coordinate(p.y)
 }
 
-fn row(l: u32, should: u64)
+fn row(to: Stdout, l: u32, should: u64)
     requires { l < 4 }
 {
     let is = point(l, 0) << 24 | point(l, 1) << 16 | point(l, 2) << 8 | point(l, 3);
-    say::bits(b"label @", l as u64, 2);
-    say::row(b"(+,+)(+,+)(+,+)(+,+)", should, is, 32);
+    say::bits(to, b"label @", l as u64, 2);
+    say::row(to, b"(+,+)(+,+)(+,+)(+,+)", should, is, 32);
 }
 
-pub fn all() {
-    say::text(b"\nThe square map, u 2: the points with the numbers 0 to 3\n");
-    row(0, 0x11_1D_D1_DD);
-    row(1, 0x13_1F_D3_DF);
-    row(2, 0x33_3F_F3_FF);
-    row(3, 0x31_3D_F1_FD);
+pub fn all(to: Stdout) {
+    say::text(
+        to,
+        b"\nThe square map, u 2: the points with the numbers 0 to 3\n",
+    );
+    row(to, 0, 0x11_1D_D1_DD);
+    row(to, 1, 0x13_1F_D3_DF);
+    row(to, 2, 0x33_3F_F3_FF);
+    row(to, 3, 0x31_3D_F1_FD);
 }

@@ -9,10 +9,11 @@ mod say;
 mod tables;
 mod words;
 
-fn main() {
-    tables::all();
-    words::all();
-    grid::all();
-    floats::all();
-    received::all();
+fn main(rt: HostRuntime) {
+    let to = rt.stdout();
+    tables::all(to);
+    words::all(to);
+    grid::all(to);
+    floats::all(to);
+    received::all(to);
 }

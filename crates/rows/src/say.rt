@@ -3,10 +3,11 @@
 // coordinate, which is negative from 8 on.
 ghost use Rattle.std.specs.Prelude.{◌<◌};
 
-use libc::STDOUT_FILENO;
+use std::io::{Print, Stdout};
 
-pub fn text(t: &[u8]) {
-    io::write_all(STDOUT_FILENO, t);
+// What cannot be written is not told: the rows are short.
+pub fn text(to: Stdout, t: &[u8]) {
+    let _ = to.write_all(t);
 }
 
 // How many bits are left after a byte of a form.
@@ -33,72 +34,70 @@ fn letter(label: u64) -> u8 {
     }
 }
 
-fn byte(b: u8) {
+fn byte(to: Stdout, b: u8) {
     let t = [b];
-    text(&t);
+    text(to, &t);
 }
 
-pub fn count(n: u64) {
-    io::print_decimal(STDOUT_FILENO, n);
+pub fn count(to: Stdout, n: u64) {
+    let _ = to.print(n);
 }
 
 // A byte of a form that stands for the low bits of n.
-fn hole(b: u8, n: u64) {
+fn hole(to: Stdout, b: u8, n: u64) {
     match b {
-        b'0' => count(n & 1),
-        b'@' => byte(letter(n & 3)),
-        b'#' => count(n & 15),
-        b'+' => coordinate(n & 15),
-        b'~' => count(n & 65535),
-        b'-' => minus(n & 1),
-        _ => byte(b),
+        b'0' => count(to, n & 1),
+        b'@' => byte(to, letter(n & 3)),
+        b'#' => count(to, n & 15),
+        b'+' => coordinate(to, n & 15),
+        b'~' => count(to, n & 65535),
+        b'-' => minus(to, n & 1),
+        _ => byte(to, b),
     }
 }
 
-fn minus(n: u64) {
+fn minus(to: Stdout, n: u64) {
     if n == 1 {
-        byte(b'-');
+        byte(to, b'-');
     }
 }
 
-fn coordinate(n: u64) {
-    minus(n >> 3);
+fn coordinate(to: Stdout, n: u64) {
+    minus(to, n >> 3);
     if n < 8 {
-        count(n);
+        count(to, n);
     } else if n < 16 {
-        count(16 - n);
+        count(to, 16 - n);
     }
 }
 
 // A form filled with the lowest k bits of n.
-pub fn bits(form: &[u8], n: u64, k: u32)
+pub fn bits(to: Stdout, form: &[u8], n: u64, k: u32)
     requires { k < 64 }
 {
     let mut left = k;
-    let mut i = 0;
-    while i < form.len() {
-        left = after(form[i], left);
-        hole(form[i], n >> left);
-        i += 1;
+    for b in form {
+        left = after(*b, left);
+        hole(to, *b, n >> left);
     }
 }
 
 // Ends a row.
-pub fn verdict(ok: bool) {
+pub fn verdict(to: Stdout, ok: bool) {
     if ok {
-        text(b"  ok\n");
+        text(to, b"  ok\n");
     } else {
-        text(b"  DIFFERS\n");
+        text(to, b"  DIFFERS\n");
     }
 }
 
 // What should be and what is, k bits each, in one form.
-pub fn row(form: &[u8], should: u64, is: u64, k: u32)
+pub fn row(to: Stdout, form: &[u8], should: u64, is: u64, k: u32)
     requires { k < 64 }
 {
-    text(b"  should be ");
-    bits(form, should, k);
-    text(b"  is ");
-    bits(form, is, k);
-    verdict(should == is);
+    text(to, b"  should be ");
+    bits(to, form, should, k);
+    text(to, b"  is ");
+    bits(to, form, is, k);
+    verdict(to, should == is);
 }

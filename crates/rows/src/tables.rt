@@ -3,6 +3,7 @@
 ghost use Rattle.std.specs.Prelude.{◌<◌};
 
 use crate::say;
+use std::io::Stdout;
 
 // Table IV-2, a row for each of the bits Y0 I1 I2' I3': the two labels of its column "4D TYPE", A as 00, B as 10, C as 01, D as 11.
 const LABELS: [u64; 16] = [
@@ -74,25 +75,26 @@ fn types(r: u32) -> u64 {
     pair(ruled.first, ruled.second) << 4 | pair(listed.first, listed.second)
 }
 
-fn labels(r: u32)
+fn labels(to: Stdout, r: u32)
     requires { r < 16 }
 {
     let should = LABELS[r as usize];
     let is = types(r);
     say::bits(
+        to,
         b"bits 0000  should be @,@  by rule @,@  by table @,@",
         (r as u64) << 12 | should << 8 | is,
         16,
     );
-    say::verdict(is == (should << 4 | should));
+    say::verdict(to, is == (should << 4 | should));
 }
 
 // The row of a state: what should be and what is have k bits each.
-fn row(form: &[u8], s: u32, should: u64, is: u64, k: u32)
+fn row(to: Stdout, form: &[u8], s: u32, should: u64, is: u64, k: u32)
     requires { k < 30 }
 {
-    say::bits(form, ((s as u64) << k | should) << k | is, 4 + 2 * k);
-    say::verdict(is == should);
+    say::bits(to, form, ((s as u64) << k | should) << k | is, 4 + 2 * k);
+    say::verdict(to, is == should);
 }
 
 // The state after s, with I1 and I2'.
@@ -102,11 +104,12 @@ fn next(s: u32, i1: u32, i2: u32) -> u64
     wei::state::next(s, i1, i2) as u64
 }
 
-fn next_states(s: u32)
+fn next_states(to: Stdout, s: u32)
     requires { s < 16 }
 {
     let is = next(s, 0, 0) << 12 | next(s, 0, 1) << 8 | next(s, 1, 0) << 4 | next(s, 1, 1);
     row(
+        to,
         b"state 0000  should lead to 0000 0000 0000 0000  leads to 0000 0000 0000 0000",
         s,
         NEXT[s as usize],
@@ -124,11 +127,12 @@ fn step(t: u32, k: u32) -> u64
     (s as u64) << 3 | c as u64
 }
 
-fn states_before(t: u32)
+fn states_before(to: Stdout, t: u32)
     requires { t < 16 }
 {
     let is = step(t, 0) << 21 | step(t, 1) << 14 | step(t, 2) << 7 | step(t, 3);
     row(
+        to,
         b"state 0000  should come from 0000,000 0000,000 0000,000 0000,000  comes from 0000,000 0000,000 0000,000 0000,000",
         t,
         BEFORE[t as usize],
@@ -138,29 +142,30 @@ fn states_before(t: u32)
 }
 
 // The sixteen rows of a table: that of the labels, of the next states, or else of the states before.
-fn rows(title: &[u8], table: u32) {
-    say::text(title);
-    let mut r = 0;
-    while r < 16 {
+fn rows(to: Stdout, title: &[u8], table: u32) {
+    say::text(to, title);
+    for r in 0..16 {
         match table {
-            2 => labels(r),
-            5 => next_states(r),
-            _ => states_before(r),
+            2 => labels(to, r),
+            5 => next_states(to, r),
+            _ => states_before(to, r),
         }
-        r += 1;
     }
 }
 
-pub fn all() {
+pub fn all(to: Stdout) {
     rows(
+        to,
         b"Table IV-2: the labels of the two points, by the bits Y0 I1 I2' I3'\n",
         2,
     );
     rows(
+        to,
         b"\nTable IV-5: the next states at I1 I2' = 00, 01, 10, 11\n",
         5,
     );
     rows(
+        to,
         b"\nTable IV-6, row 1110 repaired: the states before a state, and the subset Y0 I1 I2' of the step\n",
         6,
     );

@@ -2,6 +2,7 @@
 // number: F is -1 and D is -3.
 use crate::say;
 use sender::Sender;
+use std::io::Stdout;
 
 fn fresh(u: u32) -> Sender {
     let r = sender::open_sender(points::Accord {
@@ -29,19 +30,20 @@ fn points(out: [i32; 4]) -> u64 {
         | coordinate(out[3])
 }
 
-fn asked(u: u32, word: u32) {
-    say::bits(b"u # word ", u as u64, 4);
-    say::count(word as u64);
+fn asked(to: Stdout, u: u32, word: u32) {
+    say::bits(to, b"u # word ", u as u64, 4);
+    say::count(to, word as u64);
 }
 
 // Sends a word into four zeros, prints the row, and gives the sender after it.
-fn row(s: Sender, word: u32, should: u64) -> Sender {
+fn row(to: Stdout, s: Sender, word: u32, should: u64) -> Sender {
     let mut out = [0i32; 4];
     let r = sender::send(s, word, &mut out);
     let next = r.sender;
     let why = r.why;
-    asked(s.accord.u, word);
+    asked(to, s.accord.u, word);
     say::row(
+        to,
         b"(+,+)(+,+) state 0000 number #",
         should,
         points(out) << 8 | (next.state as u64) << 4 | sender::number(why) as u64,
@@ -50,15 +52,15 @@ fn row(s: Sender, word: u32, should: u64) -> Sender {
     next
 }
 
-pub fn all() {
-    say::text(b"\nThe sender, from fresh, into four zeros\n");
-    let s = row(fresh(0), 1, 0x11FF_1_0);
-    row(s, 0, 0x111F_4_0);
-    let s = row(fresh(0), 2, 0x1F1F_2_0);
-    let s = row(s, 0, 0x1F1F_B_0);
-    row(s, 0, 0x1FFF_E_0);
-    let s = row(fresh(0), 4, 0xFFFF_0_0);
-    row(s, 8, 0x0000_0_4);
-    let s = row(fresh(1), 8, 0xD111_0_0);
-    row(s, 32, 0x0000_0_4);
+pub fn all(to: Stdout) {
+    say::text(to, b"\nThe sender, from fresh, into four zeros\n");
+    let s = row(to, fresh(0), 1, 0x11FF_1_0);
+    row(to, s, 0, 0x111F_4_0);
+    let s = row(to, fresh(0), 2, 0x1F1F_2_0);
+    let s = row(to, s, 0, 0x1F1F_B_0);
+    row(to, s, 0, 0x1FFF_E_0);
+    let s = row(to, fresh(0), 4, 0xFFFF_0_0);
+    row(to, s, 8, 0x0000_0_4);
+    let s = row(to, fresh(1), 8, 0xD111_0_0);
+    row(to, s, 32, 0x0000_0_4);
 }

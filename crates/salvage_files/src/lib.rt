@@ -9,8 +9,11 @@
 ghost use Rattle.std.specs.Prelude.{◌≡◌, true, ◌+◌, ◌≤◌, length};
 ghost use Rattle.salvage.specs.Working.{feedings, salvage_at};
 
-use libc::{STDERR_FILENO, STDOUT_FILENO};
+use edge::Streams;
 use salvage::{Changes, Salvage};
+use std::fs::{Files, OpenFile, OpenOptions};
+use std::io::{Error, ErrorKind, Read, Write};
+use std::{fs, str};
 
 // The salvage so far, how many bytes have come, whether anything was written, whether to read on, and whether all went well.
 #[derive(Clone, Copy)]
@@ -23,24 +26,26 @@ struct Progress {
 }
 
 // What failed with a file, by the name it has.
-fn tell(path: &[u8]) {
-    io::write_all(STDERR_FILENO, b"capture: ");
-    os::fail(path);
+fn tell(to: Streams, path: &str, why: Error) {
+    edge::note(to, b"capture: ");
+    edge::tell(to, path.as_bytes(), why);
 }
 
 // Hands the front of the page to `write`.
-fn flush(to: i32, page: &[u8], size: usize) -> bool
+fn flush<W: Write>(file: &mut W, to: Streams, page: &[u8], size: usize) -> bool
     requires { size ≤ length page.now }
 {
-    let is_written = io::write_all(to, &page[..size]);
-    if !is_written {
-        os::fail(b"capture: write");
+    match file.write_all(&page[..size]) {
+        Ok(()) => true,
+        Err(why) => {
+            edge::tell(to, b"capture: write", why);
+            false
+        }
     }
-    is_written
 }
 
 // Bytes that were read: page after page of what they give.
-fn hear(t: Progress, to: i32, bytes: &[u8], page: &mut [u8]) -> Progress
+fn hear<W: Write>(file: &mut W, to: Streams, t: Progress, bytes: &[u8], page: &mut [u8]) -> Progress
     requires { 335 ≤ length page.old }
     ensures { result.fine ≡ true → salvage_at result.salvage ≡ feedings (salvage_at t.salvage) bytes.now }
 {
@@ -53,7 +58,7 @@ fn hear(t: Progress, to: i32, bytes: &[u8], page: &mut [u8]) -> Progress
         let next = f.salvage;
         s = next;
         some = some | (0 < f.size);
-        fine = flush(to, page, f.size);
+        fine = flush(file, to, page, f.size);
         i += f.used;
     }
     Progress {
@@ -99,13 +104,17 @@ fn is_over(t: Progress) -> bool {
 }
 
 // One read.
-fn read_once(t: Progress, fd: i32, to: i32, chunk: &mut [u8], page: &mut [u8]) -> Progress
+fn read_once<R: Read, W: Write>(
+    from: &mut R,
+    file: &mut W,
+    to: Streams,
+    t: Progress,
+    chunk: &mut [u8],
+    page: &mut [u8],
+) -> Progress
     requires { 335 ≤ length page.old }
 {
-    let got = libc::read(fd, chunk);
-    if got < 0 {
-        os::fail(b"capture: read");
-    }
+    let got = edge::read(from, chunk, to, b"capture: read");
     if got <= 0 {
         return stopped(t, got == 0);
     }
@@ -114,12 +123,12 @@ fn read_once(t: Progress, fd: i32, to: i32, chunk: &mut [u8], page: &mut [u8]) -
     if is_over(now) {
         return now;
     }
-    hear(now, to, &chunk[..n], page)
+    hear(file, to, now, &chunk[..n], page)
 }
 
-// All that the descriptor fd has, salvaged to the descriptor `to`. A proved loop has to end, and nothing says that the input does: the passes are
+// All that the reader has, salvaged to the file. A proved loop has to end, and nothing says that the input does: the passes are
 // counted down from a number that no run uses up.
-fn salvage_all(fd: i32, to: i32) -> Progress {
+fn salvage_all<R: Read, W: Write>(from: &mut R, file: &mut W, to: Streams) -> Progress {
     let mut chunk = [0u8; 65536];
     let mut page = [0u8; 65536];
     let mut now = Progress {
@@ -131,147 +140,149 @@ fn salvage_all(fd: i32, to: i32) -> Progress {
     };
     let mut passes = u64::MAX;
     while passes > 0 && now.on {
-        now = read_once(now, fd, to, &mut chunk, &mut page);
+        now = read_once(from, file, to, now, &mut chunk, &mut page);
         passes -= 1;
     }
     now
 }
 
-fn say(c: Changes) {
+fn say(to: Streams, c: Changes) {
     let line = salvage_text::line_of(c.replaced, c.added, c.removed, c.cut);
     let text = line.text;
     let n = line.size;
-    if !io::write_all(STDOUT_FILENO, &text[..n]) {
-        os::fail(b"capture: standard output");
+    edge::write(to, &text[..n], b"capture: standard output");
+}
+
+// What was written is on its device, and the file is closed.
+fn make_safe<F: OpenFile + Drop>(file: F, to: Streams) -> bool {
+    match file.sync_all() {
+        Ok(()) => true,
+        Err(why) => {
+            edge::tell(to, b"capture: write", why);
+            false
+        }
     }
 }
 
-// What was written is on its device, and the descriptor is closed.
-fn make_safe(to: i32) -> bool {
-    let is_kept = libc::fsync(to) == 0;
-    if !is_kept {
-        os::fail(b"capture: write");
+fn remove<F: Files>(files: &F, to: Streams, part: &str) -> bool {
+    match fs::remove_file(files, part) {
+        Ok(()) => true,
+        Err(why) => {
+            tell(to, part, why);
+            false
+        }
     }
-    let is_closed = libc::close(to) == 0;
-    if is_kept & !is_closed {
-        os::fail(b"capture: write");
-    }
-    is_kept & is_closed
 }
 
-fn remove(part: &[u8]) -> bool {
-    let is_gone = os::unlink(part) == 0;
-    if !is_gone {
-        tell(part);
+// Whether there is no file of that name. Where there is, or that cannot be known, there is a message. The system is asked of the name alone:
+// nothing is opened, and no link is followed.
+fn find_free<F: Files>(files: &F, to: Streams, path: &str) -> bool {
+    match fs::symlink_metadata(files, path) {
+        Ok(_) => {
+            edge::note(to, b"capture: ");
+            edge::note(to, path.as_bytes());
+            edge::note(to, b": it exists, and is left as it is\n");
+            false
+        }
+        Err(why) => {
+            let is_free = why.kind() == ErrorKind::NotFound;
+            if !is_free {
+                tell(to, path, why);
+            }
+            is_free
+        }
     }
-    is_gone
-}
-
-// What `readlink` says of a name: of a link where it leads, of another file that it is none, and of no file that there is none. It opens nothing
-// and follows no link.
-fn asked(path: &[u8]) -> isize
-    requires { length path.now + 5 ≤ 4095 }
-{
-    let mut name = io::buffer();
-    page::put_text(&mut name, 0, path);
-    name[4095] = 0;
-    let mut to = [0u8; 1];
-    libc::readlink(&name, &mut to)
-}
-
-// Whether there is no file of that name. Where there is, or that cannot be known, there is a message.
-fn find_free(path: &[u8]) -> bool
-    requires { length path.now + 5 ≤ 4095 }
-{
-    let is_there = asked(path) >= 0;
-    let error = os::errno();
-    if !is_there & (error == libc::ENOENT) {
-        return true;
-    }
-    if !is_there & (error != libc::EINVAL) {
-        tell(path);
-        return false;
-    }
-    io::write_all(STDERR_FILENO, b"capture: ");
-    io::write_all(STDERR_FILENO, path);
-    io::write_all(STDERR_FILENO, b": it exists, and is left as it is\n");
-    false
 }
 
 // The file beside OUT becomes OUT.
-fn give_name(to: i32, part: &[u8], path: &[u8]) -> bool
-    requires { length path.now + 5 ≤ 4095 }
-{
-    if !make_safe(to) {
+fn give_name<F: Files>(files: &F, to: Streams, file: F::File, part: &str, path: &str) -> bool {
+    if !make_safe(file, to) {
         return false;
     }
-    if !find_free(path) {
+    if !find_free(files, to, path) {
         return false;
     }
-    if os::rename(part, path) == 0 {
-        return true;
+    match fs::rename(files, part, path) {
+        Ok(()) => true,
+        Err(why) => {
+            tell(to, path, why);
+            false
+        }
     }
-    tell(path);
-    false
 }
 
 // Where nothing was written OUT is not made.
-fn finish(t: Progress, to: i32, part: &[u8], path: &[u8])
-    requires { length path.now + 5 ≤ 4095 }
-{
+fn finish<F: Files>(files: &F, to: Streams, t: Progress, file: F::File, part: &str, path: &str) {
     let s = t.salvage;
-    let made = t.fine & t.some;
-    if made && give_name(to, part, path) {
-        say(salvage::end(s, t.fed));
+    if t.fine & t.some {
+        if give_name(files, to, file, part, path) {
+            say(to, salvage::end(s, t.fed));
+        } else {
+            remove(files, to, part);
+        }
         return;
     }
-    if !made {
-        libc::close(to);
-    }
-    let is_gone = remove(part);
+    drop(file);
+    let is_gone = remove(files, to, part);
     if t.fine & !t.some & is_gone {
-        say(salvage::end(s, t.fed));
+        say(to, salvage::end(s, t.fed));
     }
 }
 
-fn write_beside(fd: i32, part: &[u8], path: &[u8])
-    requires { length path.now + 5 ≤ 4095 }
-{
-    let to = os::create(part);
-    if to < 0 {
-        tell(part);
-        return;
+fn write_beside<F: Files, R: Read>(files: &F, from: &mut R, to: Streams, part: &str, path: &str) {
+    let mut options = OpenOptions::new();
+    options.write(true);
+    options.create_new(true);
+    match options.open(files, part) {
+        Ok(file) => {
+            let mut file = file;
+            let t = salvage_all(from, &mut file, to);
+            finish(files, to, t, file, part, path);
+        }
+        Err(why) => tell(to, part, why),
     }
-    finish(salvage_all(fd, to), to, part, path);
+}
+
+fn wants_text(to: Streams, path: &[u8]) {
+    edge::note(to, b"capture: ");
+    edge::wants_text(to, path);
 }
 
 // Beside OUT, under the name OUT.part.
-fn salvage_to(fd: i32, path: &[u8])
+fn salvage_to<F: Files, R: Read>(files: &F, from: &mut R, to: Streams, path: &str)
     requires { length path.now + 5 ≤ 4095 }
 {
-    let mut part = io::buffer();
-    let p = page::put_text(&mut part, 0, path);
+    let mut part = [0u8; 4096];
+    let p = page::put_text(&mut part, 0, path.as_bytes());
     let n = page::put_text(&mut part, p, b".part");
-    write_beside(fd, &part[..n], path);
+    match str::from_utf8(&part[..n]) {
+        Ok(name) => write_beside(files, from, to, name, path),
+        Err(_) => wants_text(to, &part[..n]),
+    }
 }
 
-fn wants_name() {
-    io::write_all(
-        STDERR_FILENO,
+fn wants_name(to: Streams) {
+    edge::note(
+        to,
         b"capture: the name of the file to write has 1 to 4090 bytes\n",
     );
 }
 
-pub fn run(fd: i32, path: &[u8]) {
+pub fn run<F: Files, R: Read>(files: &F, from: &mut R, to: Streams, path: &[u8]) {
     if path.len() == 0 {
-        wants_name();
+        wants_name(to);
         return;
     }
     if path.len() > 4090 {
-        wants_name();
+        wants_name(to);
         return;
     }
-    if find_free(path) {
-        salvage_to(fd, path);
+    match str::from_utf8(path) {
+        Ok(name) => {
+            if find_free(files, to, name) {
+                salvage_to(files, from, to, name);
+            }
+        }
+        Err(_) => wants_text(to, path),
     }
 }

@@ -1,8 +1,9 @@
 // `capture show`: a line for each record, as `show_text` puts it, and the malformed place if there is one.
 #![tactic(auto)]
 
-use libc::STDOUT_FILENO;
+use edge::Streams;
 use records::Frame;
+use std::io::Read;
 
 // The frame after the bytes so far, how many records there were, whether to read on, and whether there is nothing left to say.
 #[derive(Clone, Copy)]
@@ -13,24 +14,26 @@ struct Progress {
     said: bool,
 }
 
-fn print_record(frame: Frame, n: u64) -> bool {
+fn print_record(to: Streams, frame: Frame, n: u64) -> bool {
     let mut line = [0u8; 200];
     let size = show_text::put_record(&mut line, 0, frame, n);
-    io::write_all(STDOUT_FILENO, &line[..size])
+    edge::write(to, &line[..size], b"capture: standard output")
 }
 
-fn print_malformed(at: u64) -> bool {
-    io::write_all(STDOUT_FILENO, b"offset ")
-        && io::print_decimal(STDOUT_FILENO, at)
-        && io::write_all(STDOUT_FILENO, b" malformed\n")
+fn print_malformed(to: Streams, at: u64) -> bool {
+    let mut digits = [0u8; 20];
+    let n = io::decimal(at, &mut digits);
+    let what = b"capture: standard output";
+    edge::write(to, b"offset ", what)
+        && edge::write(to, &digits[..n], what)
+        && edge::write(to, b" malformed\n", what)
 }
 
-// Told once where writing fails.
+// Nothing more is read or said where writing failed.
 fn written(t: Progress, is_written: bool) -> Progress {
     if is_written {
         return t;
     }
-    os::fail(b"capture: standard output");
     let frame = t.frame;
     Progress {
         frame,
@@ -40,7 +43,7 @@ fn written(t: Progress, is_written: bool) -> Progress {
     }
 }
 
-fn byte(t: Progress, b: u8) -> Progress {
+fn byte(to: Streams, t: Progress, b: u8) -> Progress {
     let frame = t.frame;
     let next = records::push(frame, b);
     let stage = next.stage;
@@ -52,7 +55,7 @@ fn byte(t: Progress, b: u8) -> Progress {
             on: t.on,
             said: t.said,
         };
-        return written(after, print_record(next, n));
+        return written(after, print_record(to, next, n));
     }
     Progress {
         frame: next,
@@ -62,22 +65,19 @@ fn byte(t: Progress, b: u8) -> Progress {
     }
 }
 
-fn bytes(t: Progress, chunk: &[u8]) -> Progress {
+fn bytes(to: Streams, t: Progress, chunk: &[u8]) -> Progress {
     let mut now = t;
     let mut i: usize = 0;
     while i < chunk.len() && now.on {
-        now = byte(now, chunk[i]);
+        now = byte(to, now, chunk[i]);
         i += 1;
     }
     now
 }
 
-fn read_once(t: Progress, fd: i32, chunk: &mut [u8]) -> Progress {
+fn read_once<R: Read>(from: &mut R, to: Streams, t: Progress, chunk: &mut [u8]) -> Progress {
     let frame = t.frame;
-    let got = libc::read(fd, chunk);
-    if got < 0 {
-        os::fail(b"capture: read");
-    }
+    let got = edge::read(from, chunk, to, b"capture: read");
     if got <= 0 {
         return Progress {
             frame,
@@ -87,25 +87,20 @@ fn read_once(t: Progress, fd: i32, chunk: &mut [u8]) -> Progress {
         };
     }
     let n = io::count(got, chunk);
-    bytes(t, &chunk[..n])
+    bytes(to, t, &chunk[..n])
 }
 
 // The malformed place, if there is one and it can still be told.
-fn over(t: Progress) {
+fn over(to: Streams, t: Progress) {
     let frame = t.frame;
     let stage = frame.stage;
     if t.said | show_text::is_whole(stage) {
         return;
     }
-    if !print_malformed(frame.at) {
-        os::fail(b"capture: standard output");
-    }
+    print_malformed(to, frame.at);
 }
 
-pub fn run(fd: i32) {
-    if fd < 0 {
-        return;
-    }
+pub fn run<R: Read>(from: &mut R, to: Streams) {
     let mut chunk = [0u8; 65536];
     let mut now = Progress {
         frame: records::start(),
@@ -115,8 +110,8 @@ pub fn run(fd: i32) {
     };
     let mut passes = u64::MAX;
     while passes > 0 && now.on {
-        now = read_once(now, fd, &mut chunk);
+        now = read_once(from, to, now, &mut chunk);
         passes -= 1;
     }
-    over(now);
+    over(to, now);
 }

@@ -1,4 +1,4 @@
-// Lines from standard input, answers to standard output. Input comes in chunks, and a line may go on from one chunk to the next,
+// Lines from standard input, or another reader, answers to standard output. Input comes in chunks, and a line may go on from one chunk to the next,
 // so `line_buffer` gathers it. Answers are gathered in a page. A pass hears what was read, or as much of it as fills the page well,
 // and hands the page to `write`: a person at a terminal sees each answer at once, and a file of many lines costs few writes.
 #![tactic(auto)]
@@ -6,8 +6,9 @@
 ghost use Rattle.std.specs.Prelude.{◌≡◌, false, ◌≤◌, ◌<◌, length, take};
 ghost use Rattle.stream.specs.Stream.{streaming, last_line, Moves, Passes, Reads, took as Stream·took};
 
-use libc::{STDIN_FILENO, STDOUT_FILENO};
+use edge::Streams;
 use line_reply::Lab;
+use std::io::Read;
 use text::token;
 
 // What became of the lines so far, the place in the chunk up to which it is heard, how many bytes it holds, and whether the input has
@@ -29,15 +30,12 @@ struct Heard {
 
 // Hands what the page holds to `write`. That these bytes come out no contract can say; that they are the answers is what the
 // contracts below say.
-fn flush(lab: Lab, page: &[u8]) -> Lab
+fn flush(to: Streams, lab: Lab, page: &[u8]) -> Lab
     requires { lab.at ≤ length page.now }
     ensures { (result.desk ≡ lab.desk) × (result.part ≡ lab.part) × (result.at ≡ lab.at) }
 {
     let at = lab.at;
-    let is_written = io::write_all(STDOUT_FILENO, &page[..at]);
-    if !is_written {
-        os::fail(b"lab: standard output");
-    }
+    let is_written = edge::write(to, &page[..at], b"lab: standard output");
     let mut next = lab;
     next.on = lab.on && is_written;
     next
@@ -91,7 +89,7 @@ fn hear_end(lab: Lab, line: &[u8], page: &mut [u8]) -> Lab
 }
 
 // One pass: a page begun anew, and at its end handed out.
-fn answer(last: Progress, chunk: &[u8], line: &mut [u8], page: &mut [u8]) -> Progress
+fn answer(to: Streams, last: Progress, chunk: &[u8], line: &mut [u8], page: &mut [u8]) -> Progress
     requires page_len { length page.old ≡ 131072 }
     requires from_le_to { (last.from ≤ last.to) × (last.to ≤ length chunk.now) × (last.lab.part.held ≤ length line.old) }
     ensures from_le_to_2 { (result.from ≤ result.to) × (result.to ≡ last.to) × (result.ends ≡ last.ends) × (result.lab.part.held ≤ length line.old) }
@@ -101,23 +99,23 @@ fn answer(last: Progress, chunk: &[u8], line: &mut [u8], page: &mut [u8]) -> Pro
     let mut lab = last.lab;
     lab.at = 0;
     let from = last.from;
-    let to = last.to;
+    let till = last.to;
     if last.ends {
         let ended = hear_end(lab, line, page);
         return Progress {
-            lab: flush(ended, page),
+            lab: flush(to, ended, page),
             from,
-            to,
+            to: till,
             ends: true,
         };
     }
-    let heard = hear_chunk(lab, &chunk[from..to], line, page);
+    let heard = hear_chunk(lab, &chunk[from..till], line, page);
     let next = heard.lab;
-    let till = from + heard.count;
+    let passed = from + heard.count;
     Progress {
-        lab: flush(next, page),
-        from: till,
-        to,
+        lab: flush(to, next, page),
+        from: passed,
+        to: till,
         ends: false,
     }
 }
@@ -138,7 +136,7 @@ fn took(lab: Lab, got: isize, chunk: &[u8]) -> Progress
 }
 
 // Reads once, where all that was read before is heard.
-fn refill(last: Progress, chunk: &mut [u8]) -> Progress
+fn refill<R: Read>(input: &mut R, to: Streams, last: Progress, chunk: &mut [u8]) -> Progress
     requires { (last.from ≤ last.to) × (last.to ≤ length chunk.old) }
     ensures from_le_to { (result.from ≤ result.to) × (result.to ≤ length chunk.old) × (result.lab.desk ≡ last.lab.desk) × (result.lab.part ≡ last.lab.part) }
     ensures reads { Reads last chunk.old result chunk.new }
@@ -148,16 +146,19 @@ fn refill(last: Progress, chunk: &mut [u8]) -> Progress
         return last;
     }
     let lab = last.lab;
-    let got = libc::read(STDIN_FILENO, chunk);
-    if got < 0 {
-        os::fail(b"lab: standard input");
-    }
+    let got = edge::read(input, chunk, to, b"lab: standard input");
     took(lab, got, chunk)
 }
 
 // A proved loop has to end, and nothing says that the input does. So the passes are counted down, from 2^64 - 1, a number that no
 // run uses up.
-pub fn serve(chunk: &mut [u8], line: &mut [u8], page: &mut [u8])
+pub fn serve<R: Read>(
+    input: &mut R,
+    to: Streams,
+    chunk: &mut [u8],
+    line: &mut [u8],
+    page: &mut [u8],
+)
     requires { length page.old ≡ 131072 }
 {
     let lab = Lab {
@@ -174,8 +175,8 @@ pub fn serve(chunk: &mut [u8], line: &mut [u8], page: &mut [u8])
     };
     let mut passes = u64::MAX;
     while passes > 0 {
-        now = refill(now, chunk);
-        now = answer(now, chunk, line, page);
+        now = refill(input, to, now, chunk);
+        now = answer(to, now, chunk, line, page);
         if now.ends || !now.lab.on {
             return;
         }

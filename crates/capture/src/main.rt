@@ -4,10 +4,10 @@
 // those below them.
 #![tactic(auto)]
 
-mod compare;
+mod compare_verb;
 mod help;
 mod input;
-mod salvage;
+mod salvage_verb;
 
 use edge::Streams;
 use std::env::Env;
@@ -92,11 +92,11 @@ fn obey<R: Files + Env, I: Read>(rt: &R, input: &mut I, to: Streams) {
         return;
     }
     if is_word(rt, 1, b"compare") {
-        compare::run(rt, to);
+        compare_verb::run(rt, to);
         return;
     }
     if is_word(rt, 1, b"salvage") {
-        salvage::run(rt, to);
+        salvage_verb::run(rt, to);
         return;
     }
     if edge::is_given(rt, 3) {

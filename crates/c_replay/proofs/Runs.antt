@@ -2,7 +2,7 @@
 -- with no further line".
 --   run-keeps         the state of a run, and what it said
 --   lumps-said        THE THEOREM: a start, any lumps, the end: joined, what is said is the line of the verdict on all the bytes
---   lumps-said-freely the same of runs with refused ends and copied states (specs/Freely); freely: a run is such a run
+--   run-keeps-freely, lumps-said-freely   the same of runs with refused ends and copied states (specs/Freely); freely: a run is such a run
 --   ended-none        a state that has ended holds no replay: every later call answers 9
 --   feed-settled, end-settled, start-settled   any two results that a promise allows are equal
 use mathlib.Core.Path.{◌≡◌, refl, sym, ap, subst, ◌∙◌}
@@ -132,18 +132,18 @@ refused-end-stays line told {s} n f some =
 
 -- ---- a run
 
-pub run-keeps : (s : List ℕ) {t w : List ℕ} {xs : List (List ℕ)} (c : Course) → Keeps s c → FedFreely s xs w t → (w ≡ said_by c xs) × Keeps t (gone_all c xs)
+pub run-keeps-freely : (s : List ℕ) {t w : List ℕ} {xs : List (List ℕ)} (c : Course) → Keeps s c → FedFreely s xs w t → (w ≡ said_by c xs) × Keeps t (gone_all c xs)
 unfolding said_by gone_all
-run-keeps s c k none = (refl, k)
-run-keeps s c k (lump {t = t} {x = x} line told line' told' f r) =
+run-keeps-freely s c k none = (refl, k)
+run-keeps-freely s c k (lump {t = t} {x = x} line told line' told' f r) =
     let a = feed-said s line told c k f in
-    let b = run-keeps t (gone_on c x) a.1 r in
+    let b = run-keeps-freely t (gone_on c x) a.1 r in
     ((λ i. a.0 i ++ b.0 i), b.1)
-run-keeps s c k (refused {t = t} n line told line' told' f some r) =
-    run-keeps t c (subst (λ (q : List ℕ). Keeps q c) (sym (refused-stays line told n f some)) k) r
-run-keeps s c k (refused_end {t = t} n line told line' told' f some r) =
-    run-keeps t c (subst (λ (q : List ℕ). Keeps q c) (sym (refused-end-stays line told n f some)) k) r
-run-keeps s c k (copied {t = t} h e r) = run-keeps t c (h ∙ k.0, e ∙ k.1) r
+run-keeps-freely s c k (refused {t = t} n line told line' told' f some r) =
+    run-keeps-freely t c (subst (λ (q : List ℕ). Keeps q c) (sym (refused-stays line told n f some)) k) r
+run-keeps-freely s c k (refused_end {t = t} n line told line' told' f some r) =
+    run-keeps-freely t c (subst (λ (q : List ℕ). Keeps q c) (sym (refused-end-stays line told n f some)) k) r
+run-keeps-freely s c k (copied {t = t} h e r) = run-keeps-freely t c (h ∙ k.0, e ∙ k.1) r
 
 fresh-none : is_found (replay_of fresh_replay) ≡ false
 unfolding found
@@ -154,7 +154,7 @@ pub lumps-said-freely : (s₀ line told : List ℕ) {s t u w line' told' : List 
     → w ++ said_in told' line' ≡ line_of (capped_verdict (verdict_of (all_of xs)))
 lumps-said-freely s₀ line told {s = s} {t = t} {xs = xs} a r e =
     let c = replay_of fresh_replay in
-    let k = run-keeps s c (a.keeps refl) r in
+    let k = run-keeps-freely s c (a.keeps refl) r in
     (λ i. k.0 i ++ end-said t line told (gone_all c xs) k.1 e i) ∙ said-once c xs fresh-none ∙ ap line_of (ended_is (all_of xs))
 
 -- a run is a free one
@@ -162,6 +162,9 @@ pub freely : {s t w : List ℕ} {xs : List (List ℕ)} → Fed s xs w t → FedF
 freely run.none = none
 freely (run.lump line told line' told' f r) = lump line told line' told' f (freely r)
 freely (run.refused n line told line' told' f some r) = refused n line told line' told' f some (freely r)
+
+pub run-keeps : (s : List ℕ) {t w : List ℕ} {xs : List (List ℕ)} (c : Course) → Keeps s c → Fed s xs w t → (w ≡ said_by c xs) × Keeps t (gone_all c xs)
+run-keeps s c k f = run-keeps-freely s c k (freely f)
 
 pub lumps-said : (s₀ line told : List ℕ) {s t u w line' told' : List ℕ} {xs : List (List ℕ)} → Starts (start_call s₀) 0 s → Fed s xs w t → Ends (end_call t line told) 0 u line' told'
     → w ++ said_in told' line' ≡ line_of (capped_verdict (verdict_of (all_of xs)))

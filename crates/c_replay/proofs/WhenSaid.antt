@@ -21,7 +21,7 @@ use Rattle.c_replay.specs.Freely.{FedFreely}
 use Rattle.c_replay.specs.Settled.{Settled, Open}
 use Rattle.c_replay.proofs.Final.{gone_all, fresh, step_stays, stays-found, all_after, gone-before}
 use Rattle.c_replay.proofs.Settling.{begins, ended_is, found-settled, settled-found}
-use Rattle.c_replay.proofs.Runs.{run-keeps, feed-said}
+use Rattle.c_replay.proofs.Runs.{run-keeps-freely, feed-said}
 
 both : {b : Bool} → b ≡ true → b ≡ false → ⊥
 both e f = let z : ◌≡◌ {A = ℕ} 0 1 = cc in omega arith
@@ -63,7 +63,7 @@ module _ (s₀ line told : List ℕ) {s t u w line' told' x : List ℕ} {xs : Li
   bytes = all_of xs ++ x
 
   says : said_in told' line' ≡ fresh before (gone_on before x)
-  says = (feed-said t line told before (run-keeps s begins (starts.keeps refl) run).1 fed).0
+  says = (feed-said t line told before (run-keeps-freely s begins (starts.keeps refl) run).1 fed).0
 
   alike : Alike before (feedings begins (all_of xs))
   alike = alike-by begins xs

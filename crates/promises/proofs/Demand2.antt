@@ -14,11 +14,12 @@
 -- of time.
 --   least         after a finish that succeeded the words are those of the answer, and the answer is one
 --   any-cut       so neither the window nor the cut into calls matters
+--   sent-cleanly  a sender's run, heard 128 times, is heard exactly
 --   round_trip    what a sender sent comes back
 --   begins        with the first m symbols taken, the words written begin the words sent
 --   first_back    and with a finish that succeeds they are the first m
 --   as_floats     the sender's coordinates, each as an f32, are heard by the front end as the same coordinates, 128 times
-use mathlib.Core.Path.{◌≡◌, sym, subst, ◌∙◌}
+use mathlib.Core.Path.{◌≡◌, sym, ap, subst, ◌∙◌}
 use mathlib.Core.List.{List, reverse, IsPrefix}
 use Prim.Native.Nat.{ℕ}
 use native.Mathlib.Omega.{arith}
@@ -26,7 +27,7 @@ use lib.IntN.{ℤ}
 use lib.ListN.{length, take}
 use lib.Seq.{take_all}
 use Rattle.points.specs.declared.Accord.{Accord}
-use Rattle.wei.specs.Symbol.{Symbol}
+use Rattle.wei.specs.Symbol.{Symbol, symbols_from}
 use Rattle.trellis.specs.Code.{Path, symbols}
 use Rattle.trellis.specs.Best.{Answer}
 use Rattle.trellis.specs.Measure.{Two}
@@ -48,10 +49,10 @@ use Rattle.sender.specs.declared.Sender.{Sender}
 use Rattle.sender.specs.Run as sender
 use Rattle.sender.proofs.Run.{ran}
 use Rattle.promises.specs.Talk.{Talk, Ended}
-use Rattle.promises.specs.Clean.{all_on_line, floats_heard, samples_at, StartsAtZero}
+use Rattle.promises.specs.Clean.{all_on_line, cleanly, floats_heard, samples_at, StartsAtZero}
 use Rattle.promises.proofs.Follows.{ended-fine, answers}
 use Rattle.promises.proofs.Demand3.{whole}
-use Rattle.promises.proofs.Clean.{floats, agreed-sent}
+use Rattle.promises.proofs.Clean.{read_back, floats, agreed-sent}
 use Rattle.promises.proofs.Served.{clean-many, clean_back, clean-begins}
 use Rattle.promises.proofs.Noise as noise
 
@@ -99,3 +100,9 @@ pub as_floats : (ac : Accord) (sent : List ℕ) (ps : List ℤ) (s : Sender) →
 as_floats ac sent ps s k =
     let r = ran ac sent ps s k in
     subst (λ (l : List ℤ). floats_heard l ≡ samples_at (all_on_line l)) (sym r.written) (floats ac 0 r.symbols (agreed-sent ac sent ps s k) r.allowed)
+
+-- a sender's run, heard 128 times
+pub sent-cleanly : (ac : Accord) (sent : List ℕ) (ps : List ℤ) (s : Sender) → sender.Talk ac sent ps s → symbols_of (all_on_line ps) ≡ cleanly ac sent
+sent-cleanly ac sent ps s k =
+    let r = ran ac sent ps s k in
+    ap (λ (l : List ℤ). symbols_of (all_on_line l)) (r.written ∙ ap (sender.coordinates_of ac) r.are) ∙ read_back ac (symbols_from ac.u 0 0 sent)

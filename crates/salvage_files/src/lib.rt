@@ -153,7 +153,7 @@ fn say(to: Streams, c: Changes) {
     edge::write(to, &text[..n], b"capture: standard output");
 }
 
-// What was written is on its device, and the file is closed.
+// What was written is on its device. The file is closed after it; what the closing answers std does not say.
 fn make_safe<F: OpenFile + Drop>(file: F, to: Streams) -> bool {
     match file.sync_all() {
         Ok(()) => true,

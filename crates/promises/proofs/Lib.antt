@@ -27,3 +27,4 @@ pub mod EveryCall
 pub mod Floats
 pub mod AnyMap
 pub mod Listed
+pub mod CleanRun

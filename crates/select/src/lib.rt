@@ -49,7 +49,7 @@ fn steps_in(keys: &[u32; 16]) -> [u8; 16]
 // one. All states are reached but in the first two symbols after a named start, so one test spares the sixteen.
 pub fn advance(sums: &[u32; 16], costs: &[u32; 8]) -> Selected
     requires { Summable sums.now costs.now }
-    ensures { result ≡ record { sums = sixteen (lowered (sixteen (sum_at sums.entry.now costs.now))); steps = sixteen (step_at sums.entry.now costs.now) } }
+    ensures { result ≡ record { sums = sixteen (lowered (sixteen (sum_at sums.now costs.now))); steps = sixteen (step_at sums.now costs.now) } }
 {
     let keys = ways::select(sums, costs);
     let low = sums::lowest(&keys) / 128;

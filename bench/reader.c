@@ -1,5 +1,5 @@
 /*
- * The replay of a file as the program `capture replay` does it, for a machine on which programs run behind an emulator: reads the file in
+ * The replay of a file through the library, as the program `capture replay` does it: reads the file in
  * lumps of 65,536 bytes, feeds each to a replay, and prints the nanoseconds a symbol, the best of some rounds, by the processor time, with the
  * reading in it. Built and run by bench/run --replay, on the file that bench/replay.c wrote.
  *

@@ -49,11 +49,8 @@ pub fn sent(page: &mut [u8], at: usize, n: u32, out: &[i32]) -> usize
     requires { at + 109 ≤ length page.old }
     ensures { Puts page.old at (sent_line n out.now) result page.new }
 {
-    let p = page::put_number(page, at, n as u64);
-    if n != 0 {
-        return phrases::end(page, p);
-    }
-    if out.len() < 4 {
+    let p = page::put_number(page, at, u64::from(n));
+    if n != 0 || out.len() < 4 {
         return phrases::end(page, p);
     }
     let p = phrases::next_pair(page, p, out[0], out[1]);
@@ -68,8 +65,8 @@ pub fn list(page: &mut [u8], at: usize, sent: usize, n: u32, written: &[i32]) ->
 {
     let p = page::put_number(page, at, sent as u64);
     let p = page::put_byte(page, p, b' ');
-    let p = page::put_number(page, p, n as u64);
-    let p = phrases::said_wholes(page, p, written);
+    let p = page::put_number(page, p, u64::from(n));
+    let p = phrases::said(page, p, written);
     phrases::end(page, p)
 }
 
@@ -87,12 +84,18 @@ pub fn refused(page: &mut [u8], at: usize, k: u8) -> usize
     ensures { Puts page.old at (refused_line k) result page.new }
 {
     let p = page::put_byte(page, at, b'5');
-    let p = phrases::place(page, p, k as u64);
+    let p = phrases::place(page, p, u64::from(k));
     phrases::end(page, p)
 }
 
 // The answer to a piece or a finish that wrote these words.
-pub fn heard(page: &mut [u8], at: usize, taken: usize, why: Why, written: &[u32]) -> usize
+pub fn heard(
+    page: &mut [u8],
+    at: usize,
+    taken: usize,
+    why: Result<(), Why>,
+    written: &[u32],
+) -> usize
     requires { at + 92 + words_room (length written.now) ≤ length page.old }
     ensures { Puts page.old at (heard_line taken (given_of why) written.now) result page.new }
 {

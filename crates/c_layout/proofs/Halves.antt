@@ -4,14 +4,15 @@
 --   two-more, all-halves   that numbers fit 32 bits, two by two
 use mathlib.Core.Path.{◌≡◌, refl, ap, ◌∙◌}
 use mathlib.Core.Bool.{Bool, true, false, cond}
-use mathlib.Core.List.{List}
-use Prim.Native.Nat.{ℕ, ◌+◌, ◌*◌, ◌/◌, ◌%◌, ◌<◌}
+use mathlib.Core.List.{List, ◌++◌}
+use Prim.Native.Nat.{ℕ, suc, ◌+◌, ◌*◌, ◌/◌, ◌%◌, ◌<◌}
 use native.Mathlib.Omega.{arith}
 use native.Mathlib.Decide.{dec_lt, ℕ_discrete}
 use borrow.Author.Tests.{eqb-true, eqb-false}
 use lib.Dec.{eqb}
-use lib.ListN.{length, get_or, get_or-eq_default}
-use Rattle.lists.proofs.Filled.{tabled-length, tabled-at, tabled-same, all_listed}
+use lib.ListN.{length, drop, set, get_or, get_or-eq_default}
+use Rattle.lists.specs.Tabled.{tabled}
+use Rattle.lists.proofs.Filled.{tabled-length, tabled-at, tabled-more, tabled-same, all_listed}
 use Rattle.c_layout.specs.Halves.{half_at, unpacked, pair_at, packed, AllHalves}
 
 pub packed-length : (xs : List ℕ) → length (packed xs) ≡ 8
@@ -61,3 +62,27 @@ all-halves xs n f k = go (dec_lt k 16)
     go : Dec (k < 16) → get_or xs k 0 < 4294967296
     go (yes h) = f k h
     go (no h) = omega (arith, get_or-eq_default xs 0 {n = k} (omega arith))
+
+-- ── two halves of a word ──
+pub low-half : (ws : List ℕ) (i : ℕ) → half_at ws (2 * i) ≡ get_or ws i 0 % 4294967296
+low-half ws i =
+    let e : (2 * i) % 2 ≡ 0 = omega arith in
+    let d : 2 * i / 2 ≡ i = omega arith in
+    rw (e, d)
+
+pub high-half : (ws : List ℕ) (i : ℕ) → half_at ws (suc (2 * i)) ≡ get_or ws i 0 / 4294967296
+high-half ws i =
+    let e : suc (2 * i) % 2 ≡ 1 = omega arith in
+    let d : suc (2 * i) / 2 ≡ i = omega arith in
+    rw (e, d)
+
+pub two-filled : (ws : List ℕ) (i : ℕ) (l : List ℕ) → 2 * i + 1 < length l →
+    set (set (tabled (half_at ws) (2 * i) ++ drop (2 * i) l) (2 * i) (get_or ws i 0 % 4294967296)) (2 * i + 1) (get_or ws i 0 / 4294967296) ≡
+    tabled (half_at ws) (2 * (i + 1)) ++ drop (2 * (i + 1)) l
+two-filled ws i l h =
+    let f = half_at ws in
+    let n : 2 * i + 1 ≡ suc (2 * i) = omega arith in
+    let m : 2 * (i + 1) ≡ suc (suc (2 * i)) = omega arith in
+    let a : 2 * i < length l = omega arith in
+    let b : suc (2 * i) < length l = omega arith in
+    rw (n, m, ← low-half ws i, ← high-half ws i, tabled-more f (2 * i) l a) (tabled-more f (suc (2 * i)) l b)

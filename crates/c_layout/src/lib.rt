@@ -6,7 +6,7 @@
 // equation of the result with one definition, so any two results that it allows are equal.
 #![tactic(auto)]
 
-ghost use Rattle.std.specs.Prelude.{◌≡◌, cond, ◌++◌, ◌+◌, ◌*◌, ◌/◌, ◌%◌, ◌≤◌, ◌<◌, length, drop};
+ghost use Rattle.std.specs.Prelude.{◌≡◌, ◌+◌, ◌*◌, ◌/◌, ◌%◌, ◌^◌, ◌≤◌, ◌<◌, length};
 ghost use Rattle.c_layout.specs.Tagged.{tag_of, is_half, holds};
 ghost use Rattle.c_layout.specs.Halves.{unpacked, packed, AllHalves};
 ghost use Rattle.c_layout.specs.Accords.{accord_by, number_of, accord_in, accord_word};
@@ -51,73 +51,67 @@ pub const RECEIVER_WORDS: usize = 134;
 pub fn is_half(w: u64) -> bool
     ensures { result ≡ is_half w }
 {
-    w < 4294967296
+    w < 1 << 32
 }
 
 // Whether the words can hold a record of this size and tag: enough of them, and a turn that fits its field, which both ends have in
 // word 2.
+#[tactic(auto, unfolding(crate::specs::Tagged::holds))]
 pub fn holds_record(words: &[u64], size: usize, tag: u64) -> bool
     requires { 3 ≤ size }
     ensures { result ≡ holds size tag words.now }
 {
-    if words.len() < size {
-        return false;
-    }
-    if words[TAG] != tag {
-        return false;
-    }
-    is_half(words[2])
+    words.len() >= size && words[TAG] == tag && is_half(words[2])
 }
 
 // The first word of an end.
 pub fn tag_of(live: bool, tag: u64) -> u64
     ensures { result ≡ tag_of live tag }
 {
-    if live {
-        return tag;
-    }
-    0
+    if live { tag } else { 0 }
 }
 
-// A half of a word: the upper one, or the lower.
-fn half_of(w: u64, upper: bool) -> u32
-    ensures { result ≡ cond upper (w / 4294967296) (w % 4294967296) }
+// The lower half of a word.
+fn lower(w: u64) -> u32
+    ensures { result ≡ w % 2 ^ 32 }
 {
-    if upper {
-        return (w / 4294967296) as u32;
-    }
-    (w % 4294967296) as u32
+    (w & 0xffff_ffff) as u32
+}
+
+// The upper half of a word.
+fn upper(w: u64) -> u32
+    ensures { result ≡ w / 2 ^ 32 }
+{
+    (w >> 32) as u32
+}
+
+// Two numbers of 32 bits as one word.
+fn paired(low: u32, high: u32) -> u64
+    ensures value { result ≡ low + 2 ^ 32 * high }
+    ensures halves { (low < 2 ^ 32) × (high < 2 ^ 32) }
+{
+    u64::from(low) | u64::from(high) << 32
 }
 
 // Sixteen numbers of 32 bits from eight words, the lower half of each first.
 pub fn unpack(words: [u64; 8]) -> [u32; 16]
     ensures { result ≡ unpacked words }
 {
-    let mut all = [0u32; 16];
-    let mut j: usize = 0;
-    while j < 16 {
-        all[j] = half_of(words[j / 2], j % 2 == 1);
-        j += 1;
+    let mut all = [0; 16];
+    for (i, w) in words.iter().enumerate() {
+        all[2 * i] = lower(*w);
+        all[2 * i + 1] = upper(*w);
     }
     all
-}
-
-// Two numbers of 32 bits as one word, the first below.
-fn paired(low: u32, high: u32) -> u64
-    ensures { (result ≡ low + 4294967296 * high) × (low < 4294967296) × (high < 4294967296) }
-{
-    low as u64 + 4294967296 * (high as u64)
 }
 
 // Eight words from sixteen numbers of 32 bits.
 pub fn pack(numbers: [u32; 16]) -> [u64; 8]
     ensures { (result ≡ packed numbers) × AllHalves numbers }
 {
-    let mut all = [0u64; 8];
-    let mut i: usize = 0;
-    while i < 8 {
-        all[i] = paired(numbers[2 * i], numbers[2 * i + 1]);
-        i += 1;
+    let mut all = [0; 8];
+    for (i, w) in all.iter_mut().enumerate() {
+        *w = paired(numbers[2 * i], numbers[2 * i + 1]);
     }
     all
 }
@@ -126,25 +120,22 @@ pub fn pack(numbers: [u32; 16]) -> [u64; 8]
 pub fn accord_by(map: u32, u: u32) -> Accord
     ensures { result ≡ accord_by map u }
 {
-    if map == 0 {
-        return Accord {
-            map: Map::Round,
-            u: u,
-        };
-    }
-    if map == 1 {
-        return Accord {
+    match map {
+        0 => Accord { map: Map::Round, u },
+        1 => Accord {
             map: Map::Square,
-            u: u,
-        };
-    }
-    Accord {
-        map: Map::Round,
-        u: 9,
+            u,
+        },
+        // Not an Option: `accord_by` is promised, by which another number is a line that no map has.
+        _ => Accord {
+            map: Map::Round,
+            u: 9,
+        },
     }
 }
 
-fn number_of(map: Map) -> u64
+// No From: both types are of other crates.
+fn number_of(map: Map) -> u32
     ensures { result ≡ number_of map }
 {
     match map {
@@ -154,16 +145,17 @@ fn number_of(map: Map) -> u64
 }
 
 // Map and width of a word.
+#[tactic(auto, unfolding(crate::specs::Accords::accord_in))]
 pub fn accord_in(w: u64) -> Accord
     ensures { result ≡ accord_in w }
 {
-    accord_by((w / 4294967296) as u32, (w % 4294967296) as u32)
+    accord_by(upper(w), lower(w))
 }
 
 // The word of a map and a width: the map's number in the upper half, the width in the lower.
+#[tactic(auto, unfolding(crate::specs::Accords::accord_word))]
 pub fn accord_word(k: Accord) -> u64
     ensures { result ≡ accord_word k }
 {
-    let map = k.map;
-    number_of(map) * 4294967296 + k.u as u64
+    paired(k.u, number_of(k.map))
 }

@@ -11,6 +11,7 @@ use native.Mathlib.Omega.{arith}
 use borrow.Author.Tests.{lt-ltb, le-ltb, eq-eqb, ne_eqb}
 use lib.Dec.{eqb, ltb}
 use lib.ListN.{length, drop, take-append-drop}
+use Rattle.std.specs.Prelude.{Err}
 use Rattle.machine.specs.declared.Receiver.{Receiver}
 use Rattle.machine.specs.Machine.{shut, sound}
 use Rattle.reasons.specs.declared.Why.TheVariants.{Closed}
@@ -101,7 +102,7 @@ module _ (state : List ℕ) (piece : Piece) (out bytes told : List ℕ) where
       Records (hear_call state piece out bytes told) n state out bytes t
   unfolding receiver_in sound shut
   hear-none none enough t n number tells =
-      hear-kept enough (nothing rx Closed) n out bytes t (record { is = tape-closed rx out bytes piece (rw none); number = number; tells = tells }) refl
+      hear-kept enough (nothing rx (Err Closed)) n out bytes t (record { is = tape-closed rx out bytes piece (rw none); number = number; tells = tells }) refl
 
 -- a piece to a receiver whose picks were lent in their place in the state
 pub record Lent (state : List ℕ) (piece : Piece) (out bytes told : List ℕ) : Type 0 where

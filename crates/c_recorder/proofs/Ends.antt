@@ -7,12 +7,13 @@ use Prim.Native.Nat.{ℕ, ◌+◌, ◌-◌, ◌≤◌}
 use native.Mathlib.Omega.{arith}
 use lib.Dec.{ltb}
 use lib.ListN.{length}
+use Rattle.std.specs.Prelude.{Ok, Err}
 use Rattle.trellis.specs.Measure.{Two}
 use Rattle.nearest.specs.declared.Received.{Received}
 use Rattle.machine.specs.declared.Receiver.{Receiver}
 use Rattle.machine.specs.Machine.{Outcome, refused, taking, grown, shut, sound, agreed_of, kept_of, last_words}
 use Rattle.machine.proofs.Sound.{sound-live}
-use Rattle.reasons.specs.declared.Why.TheVariants.{Done, NoRoom, Closed}
+use Rattle.reasons.specs.declared.Why.TheVariants.{NoRoom, Closed}
 use Rattle.reasons.specs.Reason.{given_of, is_done}
 use Rattle.receiver_meaning.specs.Told.{fault_of}
 use Rattle.receiver_meaning.specs.Piece.{Piece}
@@ -43,7 +44,7 @@ module _ (rx : Receiver) (y : Two Received) (room : ℕ) where
   unfolding taped_at
   taped-live bytes =
       let o = symbol_at rx y room in
-      live_of (is_done o.why && ltb bytes (space_of (symbol_records y o.words))) (refused rx NoRoom) o rx.live refl symbol-live
+      live_of (is_done o.why && ltb bytes (space_of (symbol_records y o.words))) (refused rx (Err NoRoom)) o rx.live refl symbol-live
 
 module _ (p q : Ran) where
   pick-live : (b : Bool) (v : Bool) → p.receiver.live ≡ v → q.receiver.live ≡ v → (cond b p q).receiver.live ≡ v
@@ -111,19 +112,19 @@ module _ (rx : Receiver) (p : Piece) (room bytes : ℕ) where
 module _ (rx : Receiver) (room bytes : ℕ) where
   -- done; and closed, short of places, short of bytes, or done
   abbrev closes : Ran
-  closes = record { receiver = shut; taken = 0; words = last_words rx; records = finish_records (last_words rx); why = Done }
+  closes = record { receiver = shut; taken = 0; words = last_words rx; records = finish_records (last_words rx); why = Ok tt }
 
   abbrev outcome : Bool → Bool → Bool → Ran
-  outcome a b c = cond a (cond b (stopped rx NoRoom) (cond c (stopped rx NoRoom) closes)) (stopped rx Closed)
+  outcome a b c = cond a (cond b (stopped rx (Err NoRoom)) (cond c (stopped rx (Err NoRoom)) closes)) (stopped rx (Err Closed))
 
   -- the receiver's own answer, and what the recorder makes of it
   abbrev own : Bool → Bool → doors.Ran
-  own a b = cond a (cond b (doors.stopped rx NoRoom) (record { receiver = shut; taken = 0; words = last_words rx; why = Done })) (doors.stopped rx Closed)
+  own a b = cond a (cond b (doors.stopped rx (Err NoRoom)) (record { receiver = shut; taken = 0; words = last_words rx; why = Ok tt })) (doors.stopped rx (Err Closed))
 
   abbrev made : doors.Ran → Ran
   made h =
       cond (is_done h.why)
-      (cond (ltb bytes (space_of (finish_records h.words))) (stopped rx NoRoom) (record { receiver = h.receiver; taken = 0; words = h.words; records = finish_records h.words; why = Done }))
+      (cond (ltb bytes (space_of (finish_records h.words))) (stopped rx (Err NoRoom)) (record { receiver = h.receiver; taken = 0; words = h.words; records = finish_records h.words; why = Ok tt }))
       (stopped rx h.why)
 
   finish-is : taped_finishing rx room bytes ≡ outcome (sound rx) (ltb room rx.core.pending) (ltb bytes (space_of (finish_records (last_words rx))))

@@ -1,5 +1,5 @@
 -- The calls case by case, over what the callees gave.
---   short-told, short-line          the test of the lengths; long-enough what it leaves
+--   long-enough                     what the test of the lengths leaves
 --   start-short, start-done         a start
 --   feed-short, feed-none, feed-after, feed-on, feed-says   a lump: 8; 9; after a fault; no fault yet; the fault
 --   end_short, end_none, end_after, end-says   the end
@@ -12,37 +12,24 @@ use native.Mathlib.Omega.{arith}
 use borrow.Author.Tests.{lt-ltb, le-ltb, ltb-false}
 use lib.Dec.{ltb}
 use lib.ListN.{length, set}
+use Rattle.std.specs.Prelude.{Some, None, Ok, Err}
+use Rattle.std.proofs.lemmas.Bool.{or_parts}
 use Rattle.replay_judge.specs.declared.Verdict.{Verdict}
 use Rattle.replay.specs.declared.Replay.{Replay}
 use Rattle.replay.specs.Course.{Course, feedings, replay_of, fresh_replay}
 use Rattle.c_replay_state.specs.Table.{replay_length}
 use Rattle.c_replay_state.specs.Words.{holds_replay, course_in, CourseStored}
-use Rattle.c_replay.specs.declared.Said.{Said}
-use Rattle.c_replay.specs.declared.Said.TheVariants.{Nothing, Line}
+use Rattle.c_replay.specs.declared.Refusal.{Refusal}
+use Rattle.c_replay.specs.declared.Refusal.TheVariants.{Short, NoReplay}
 use Rattle.c_replay.specs.Calls.{Call, is_short, is_found, verdict_now, into, start_call, gone_on, feed_call, end_call}
 use Rattle.c_replay.specs.Promise.{Keeps, Starts, Feeds, Ends}
-use Rattle.c_replay.specs.Saying.{saying_of, Tells, Says, Heard}
+use Rattle.c_replay.specs.Saying.{Said, saying_of, Tells, Says, Heard}
 
 -- ---- the lengths
 
-pub short-told : (line told : ℕ) → told < 1 → true ≡ is_short line told
-unfolding is_short
-short-told line told h = rw (lt-ltb told 1 h)
-
-pub short-line : (line told : ℕ) (b : Bool) → 1 ≤ told → b ≡ ltb line 64 → b ≡ is_short line told
-unfolding is_short
-short-line line told b h e = rw (le-ltb told 1 h) e
-
-or-false : (a b : Bool) → (a || b) ≡ false → (a ≡ false) × (b ≡ false)
-or-false true b e = absurd (no e)
-  where
-    no : true ≡ false → ⊥
-    no z = let y : ◌≡◌ {A = ℕ} 0 1 = cc in omega arith
-or-false false b e = (refl, e)
-
 pub long-enough : (line told : ℕ) → is_short line told ≡ false → (64 ≤ line) × (1 ≤ told)
 unfolding is_short
-long-enough line told e = let p = or-false (ltb told 1) (ltb line 64) e in (ltb-false line 64 p.1, ltb-false told 1 p.0)
+long-enough line told e = let p = or_parts (ltb told 1) (ltb line 64) e in (ltb-false line 64 p.1, ltb-false told 1 p.0)
 
 -- ---- a start
 
@@ -65,13 +52,17 @@ start-done state r h e s =
 -- ---- what is to be said
 
 -- where nothing is said no room is wanted
-silent : (call : List ℕ → List ℕ → Call) (short : Bool) (n : ℕ) (state : List ℕ) →
-    ((line told : List ℕ) → is_short (length line) (length told) ≡ short → call line told ≡ saying_of (Nothing n) state line told) → Says call short (Nothing n) state
-silent call short n state f = record { is = f; room = λ line told e. tt }
+silent : (call : List ℕ → List ℕ → Call) (short : Bool) (state : List ℕ) →
+    ((line told : List ℕ) → is_short (length line) (length told) ≡ short → call line told ≡ saying_of (Ok None) state line told) → Says call short (Ok None) state
+silent call short state f = record { is = f; room = λ line told e. tt }
+
+refused : (call : List ℕ → List ℕ → Call) (short : Bool) (why : Refusal) (state : List ℕ) →
+    ((line told : List ℕ) → is_short (length line) (length told) ≡ short → call line told ≡ saying_of (Err why) state line told) → Says call short (Err why) state
+refused call short why state f = record { is = f; room = λ line told e. tt }
 
 -- and a line has it, where the call is not short
 spoken : (call : List ℕ → List ℕ → Call) (short : Bool) (v : Verdict) (state : List ℕ) → short ≡ false →
-    ((line told : List ℕ) → is_short (length line) (length told) ≡ short → call line told ≡ saying_of (Line v) state line told) → Says call short (Line v) state
+    ((line told : List ℕ) → is_short (length line) (length told) ≡ short → call line told ≡ saying_of (Ok (Some v)) state line told) → Says call short (Ok (Some v)) state
 spoken call short v state s f = record { is = f; room = λ line told e. long-enough line told (e ∙ s) }
 
 -- ---- a lump
@@ -80,22 +71,22 @@ module _ (state lump : List ℕ) (short : Bool) where
   abbrev call : List ℕ → List ℕ → Call
   call = feed_call state lump
 
-  pub feed-short : short ≡ true → Heard state lump short (Nothing 8) state
+  pub feed-short : short ≡ true → Heard state lump short (Err Short) state
   unfolding feed_call
-  feed-short s = record { says = silent call short 8 state (λ line told e. rw (e ∙ s)); keeps = λ k. absurd (eight k) }
+  feed-short s = record { says = refused call short Short state (λ line told e. rw (e ∙ s)); keeps = λ k. absurd (eight k) }
 
   module _ (s : short ≡ false) where
-    pub feed-none : holds_replay state ≡ false → Heard state lump short (Nothing 9) state
+    pub feed-none : holds_replay state ≡ false → Heard state lump short (Err NoReplay) state
     unfolding feed_call
-    feed-none h = record { says = silent call short 9 state (λ line told e. rw (e ∙ s, h)); keeps = λ k. absurd (nine k) }
+    feed-none h = record { says = refused call short NoReplay state (λ line told e. rw (e ∙ s, h)); keeps = λ k. absurd (nine k) }
 
     module _ (h : holds_replay state ≡ true) (c : Course) (is : c ≡ course_in state) where
       there : (b : Bool) → is_found c ≡ b → is_found (course_in state) ≡ b
       there b e = ap is_found (sym is) ∙ e
 
-      pub feed-after : is_found c ≡ true → Heard state lump short (Nothing 0) state
+      pub feed-after : is_found c ≡ true → Heard state lump short (Ok None) state
       unfolding feed_call gone_on
-      feed-after f = record { says = silent call short 0 state (λ line told e. rw (e ∙ s, h, there true f)); keeps = λ k. (h, rw (there true f)) }
+      feed-after f = record { says = silent call short state (λ line told e. rw (e ∙ s, h, there true f)); keeps = λ k. (h, rw (there true f)) }
 
       module _ (f : is_found c ≡ false) (d : Course) (on : d ≡ feedings c lump) {st : List ℕ} (stored : CourseStored d state st) where
         so : d ≡ feedings (course_in state) lump
@@ -111,19 +102,19 @@ module _ (state lump : List ℕ) (short : Bool) where
         written : into (feedings (course_in state) lump) state ≡ st
         written = ap (λ (x : Course). into x state) (sym so) ∙ sym stored.words
 
-        pub feed-on : is_found d ≡ false → Heard state lump short (Nothing 0) st
+        pub feed-on : is_found d ≡ false → Heard state lump short (Ok None) st
         unfolding feed_call
         feed-on g =
             record {
-              says = silent call short 0 st (λ line told e. rw (e ∙ s, h, there false f, now-found false g) (ap (λ (x : List ℕ). saying_of (Nothing 0) x line told) written));
+              says = silent call short st (λ line told e. rw (e ∙ s, h, there false f, now-found false g) (ap (λ (x : List ℕ). saying_of (Ok None) x line told) written));
               keeps = λ k. kept;
             }
 
-        pub feed-says : (v : Verdict) → is_found d ≡ true → v ≡ verdict_now d → Heard state lump short (Line v) st
+        pub feed-says : (v : Verdict) → is_found d ≡ true → v ≡ verdict_now d → Heard state lump short (Ok (Some v)) st
         unfolding feed_call
         feed-says v g w =
             record {
-              says = spoken call short v st s (λ line told e. rw (e ∙ s, h, there false f, now-found true g) (λ i. saying_of (Line (now-told i)) (written i) line told));
+              says = spoken call short v st s (λ line told e. rw (e ∙ s, h, there false f, now-found true g) (λ i. saying_of (Ok (Some (now-told i))) (written i) line told));
               keeps = λ k. kept;
             }
           where
@@ -133,25 +124,25 @@ module _ (state lump : List ℕ) (short : Bool) where
 -- ---- the end
 
 module _ (state : List ℕ) (short : Bool) where
-  pub end_short : short ≡ true → Says (end_call state) short (Nothing 8) state
+  pub end_short : short ≡ true → Says (end_call state) short (Err Short) state
   unfolding end_call
-  end_short s = silent (end_call state) short 8 state (λ line told e. rw (e ∙ s))
+  end_short s = refused (end_call state) short Short state (λ line told e. rw (e ∙ s))
 
   module _ (s : short ≡ false) where
-    pub end_none : holds_replay state ≡ false → Says (end_call state) short (Nothing 9) state
+    pub end_none : holds_replay state ≡ false → Says (end_call state) short (Err NoReplay) state
     unfolding end_call
-    end_none h = silent (end_call state) short 9 state (λ line told e. rw (e ∙ s, h))
+    end_none h = refused (end_call state) short NoReplay state (λ line told e. rw (e ∙ s, h))
 
     module _ (h : holds_replay state ≡ true) (c : Course) (is : c ≡ course_in state) where
-      pub end_after : is_found c ≡ true → Says (end_call state) short (Nothing 0) (set state 0 0)
+      pub end_after : is_found c ≡ true → Says (end_call state) short (Ok None) (set state 0 0)
       unfolding end_call
-      end_after f = silent (end_call state) short 0 (set state 0 0) (λ line told e. rw (e ∙ s, h, ap is_found (sym is) ∙ f))
+      end_after f = silent (end_call state) short (set state 0 0) (λ line told e. rw (e ∙ s, h, ap is_found (sym is) ∙ f))
 
-      pub end-says : (v : Verdict) → is_found c ≡ false → v ≡ verdict_now c → Says (end_call state) short (Line v) (set state 0 0)
+      pub end-says : (v : Verdict) → is_found c ≡ false → v ≡ verdict_now c → Says (end_call state) short (Ok (Some v)) (set state 0 0)
       unfolding end_call
       end-says v f w =
           spoken (end_call state) short v (set state 0 0) s (λ line told e.
-          rw (e ∙ s, h, ap is_found (sym is) ∙ f) (ap (λ (x : Verdict). saying_of (Line x) (set state 0 0) line told) (ap verdict_now (sym is) ∙ sym w)))
+          rw (e ∙ s, h, ap is_found (sym is) ∙ f) (ap (λ (x : Verdict). saying_of (Ok (Some x)) (set state 0 0) line told) (ap verdict_now (sym is) ∙ sym w)))
 
 -- ---- what was to be said is said
 

@@ -5,47 +5,47 @@
 // by no later one: once it is found the state stays as it is, whatever comes.
 #![tactic(auto)]
 
-ghost use Rattle.std.specs.Prelude.{◌≡◌, ◌≤◌, ◌++◌, length, take, drop, set};
-ghost use Rattle.page.specs.Page.{Puts};
+ghost use Rattle.std.specs.Prelude.{◌≡◌, ◌≤◌, ◌++◌, length, drop, set};
 ghost use Rattle.replay_text.specs.Says.{line_of};
 ghost use Rattle.c_replay.specs.Calls.{is_short, start_call, feed_call, end_call};
 ghost use Rattle.c_replay.specs.Promise.{Starts, Feeds, Ends};
-ghost use Rattle.c_replay.specs.Saying.{Room, Tells, Says, Heard};
+ghost use Rattle.c_replay.specs.Saying.{refusal_number, Room, Tells, Says, Heard};
 
 use replay_judge::Verdict;
 
-// What a call is to say: nothing, and which number it gives; or the line of a verdict.
+// Why a call is refused: the caller lent too little to say anything in, or the state holds no replay.
 #[derive(Clone, Copy)]
-enum Said {
-    Nothing(u32),
-    Line(Verdict),
+enum Refusal {
+    Short,
+    NoReplay,
 }
 
+// The number of a refusal.
+fn number_of(why: Refusal) -> u32
+    ensures { result ≡ refusal_number why }
+{
+    match why {
+        Refusal::Short => 8,
+        Refusal::NoReplay => 9,
+    }
+}
+
+#[tactic(auto, unfolding(crate::specs::Calls::is_short))]
 fn is_short(line: usize, told: usize) -> bool
     ensures { result ≡ is_short line told }
 {
-    if told < 1 {
-        return true;
-    }
-    line < 64
+    told < 1 || line < 64
 }
 
 // Nothing is said.
+#[tactic(auto, using(crate::proofs::Empty::empty_set))]
 fn quiet(told: &mut [u64], number: u32) -> u32
     ensures { (result ≡ number) × (told.new ≡ set told.old 0 0) }
 {
-    if told.len() > 0 {
-        told[0] = 0;
+    if let Some(first) = told.first_mut() {
+        *first = 0;
     }
     number
-}
-
-// The first bytes of a text, at the front of a line. Gives how many.
-fn put_front(text: [u8; 64], size: usize, line: &mut [u8]) -> usize
-    requires { (size ≤ 64) × (64 ≤ length line.old) }
-    ensures { Puts line.old 0 (take size text) result line.new }
-{
-    page::put_text(line, 0, &text[..size])
 }
 
 // The line of a verdict, and its length.
@@ -54,20 +54,19 @@ fn say(v: Verdict, line: &mut [u8], told: &mut [u64]) -> u32
     ensures { (result ≡ 0) × (line.new ≡ line_of v ++ drop (length (line_of v)) line.old) × (told.new ≡ set told.old 0 (length (line_of v))) }
 {
     let l = replay_text::line_of(v);
-    let text = l.text;
-    let n = put_front(text, l.size, line);
-    told[0] = n as u64;
+    told[0] = page::put_text(line, 0, &l.text[..l.size]) as u64;
     0
 }
 
-// What was to be said goes into the line and `told`.
-fn tell(said: Said, line: &mut [u8], told: &mut [u64]) -> u32
+// What was to be said goes into the line and `told`: a verdict, where there is one.
+fn tell(said: Result<Option<Verdict>, Refusal>, line: &mut [u8], told: &mut [u64]) -> u32
     requires { Room said (length line.old) (length told.old) }
     ensures { Tells said line.old told.old result line.new told.new }
 {
     match said {
-        Said::Nothing(number) => quiet(told, number),
-        Said::Line(v) => say(v, line, told),
+        Ok(Some(v)) => say(v, line, told),
+        Ok(None) => quiet(told, 0),
+        Err(why) => quiet(told, number_of(why)),
     }
 }
 
@@ -83,29 +82,25 @@ pub fn start(state: &mut [u64]) -> u32
 }
 
 // The state after a lump, and what is to be said of it. `short`: the caller lent too little to say it in.
-fn heard(state: &mut [u64], lump: &[u8], short: bool) -> Said
+fn heard(state: &mut [u64], lump: &[u8], short: bool) -> Result<Option<Verdict>, Refusal>
     ensures { Heard state.old lump.now short result state.new }
 {
     if short {
-        return Said::Nothing(8);
+        return Err(Refusal::Short);
     }
     if !c_replay_state::holds_replay(state) {
-        return Said::Nothing(9);
+        return Err(Refusal::NoReplay);
     }
     let r = c_replay_state::load(state);
-    let frame = r.frame;
-    let judge = r.judge;
-    if replay::found(frame, judge) {
-        return Said::Nothing(0);
+    if replay::found(r.frame, r.judge) {
+        return Ok(None);
     }
     let fed = replay::feed(r, lump);
     c_replay_state::store(fed, state);
-    let after = fed.frame;
-    let judged = fed.judge;
-    if !replay::found(after, judged) {
-        return Said::Nothing(0);
+    if !replay::found(fed.frame, fed.judge) {
+        return Ok(None);
     }
-    Said::Line(replay::end(fed))
+    Ok(Some(replay::end(fed)))
 }
 
 // A lump of bytes, which may be empty.
@@ -118,23 +113,21 @@ pub fn feed(state: &mut [u64], lump: &[u8], line: &mut [u8], told: &mut [u64]) -
 }
 
 // The state after the end of input, which holds no replay, and what is to be said of it.
-fn closed(state: &mut [u64], short: bool) -> Said
+fn closed(state: &mut [u64], short: bool) -> Result<Option<Verdict>, Refusal>
     ensures { Says (end_call state.old) short result state.new }
 {
     if short {
-        return Said::Nothing(8);
+        return Err(Refusal::Short);
     }
     if !c_replay_state::holds_replay(state) {
-        return Said::Nothing(9);
+        return Err(Refusal::NoReplay);
     }
     let r = c_replay_state::load(state);
     state[c_replay_state::table::TAG] = 0;
-    let frame = r.frame;
-    let judge = r.judge;
-    if replay::found(frame, judge) {
-        return Said::Nothing(0);
+    if replay::found(r.frame, r.judge) {
+        return Ok(None);
     }
-    Said::Line(replay::end(r))
+    Ok(Some(replay::end(r)))
 }
 
 // The end of input.

@@ -1,57 +1,67 @@
 -- Words and their limits.
---   step_fits, step-over, all-tried   one word more of the loop, and its end
+--   within-by                         the test of each word beside its limit
 --   within-at                         what is known of words within their limits
+--   kind_fits, turn_fits, got_fits, wanted_fits, body_fits   the numbers that a frame and a judge need
 --   few                               as many words, each at most its limit
 --   small_all, all_small              small at each place
-use mathlib.Core.Path.{◌≡◌, refl}
-use mathlib.Core.Bool.{Bool, true, false, ◌&&◌}
+use mathlib.Core.Path.{◌≡◌, refl, ap}
+use mathlib.Core.Bool.{Bool, true, ◌&&◌}
 use mathlib.Core.List.{List, [], ◌∷◌}
 use Prim.Native.Nat.{ℕ, zero, suc, ◌+◌, ◌≤◌, ◌<◌}
 use native.Mathlib.Omega.{arith}
-use native.Mathlib.Numerals.{add-one}
-use borrow.Author.Tests.{le-leb, lt-leb, leb-true}
+use borrow.Author.Tests.{le-leb, leb-true}
 use lib.Dec.{leb}
-use lib.ListN.{get_or, length, drop, replicate, drop_of_length-le, length-replicate, get_or-replicate}
-use lib.Seq.{drop-cons}
-use Rattle.c_replay_state.specs.Table.{half, within, Small}
+use lib.ListN.{get_or, length, replicate, length-replicate, get_or-replicate}
+use Rattle.std.specs.List.{list_all, zip}
+use Rattle.std.proofs.lemmas.Bool.{and_parts}
+use Rattle.c_replay_state.specs.Table.{half, limits, within, Small}
 
-and-false : (b : Bool) → (b && false) ≡ false
-and-false true = refl
-and-false false = refl
-
-module _ (ls ws : List ℕ) (i : ℕ) (ok : Bool) where
-  pub all-tried : length ls ≤ i → (ok && within (drop i ls) (drop i ws)) ≡ ok
-  unfolding within
-  all-tried h = rw (drop_of_length-le ls {i = i} h) (go ok)
-    where
-      go : (b : Bool) → (b && true) ≡ b
-      go true = refl
-      go false = refl
-
-  module _ (h : i < length ls) (k : i < length ws) where
-    one : within (drop i ls) (drop i ws) ≡ (leb (get_or ws i 0) (get_or ls i 0) && within (drop (i + 1) ls) (drop (i + 1) ws))
-    unfolding within
-    one = rw (add-one, drop-cons ls i 0 h, drop-cons ws i 0 k)
-
-    pub step_fits : get_or ws i 0 ≤ get_or ls i 0 → (ok && within (drop i ls) (drop i ws)) ≡ (ok && within (drop (i + 1) ls) (drop (i + 1) ws))
-    step_fits e = rw (one, le-leb (get_or ws i 0) (get_or ls i 0) e)
-
-    pub step-over : get_or ls i 0 < get_or ws i 0 → (ok && within (drop i ls) (drop i ws)) ≡ false
-    step-over e = rw (one, lt-leb (get_or ws i 0) (get_or ls i 0) e) (and-false ok)
-
-no : false ≡ true → ⊥
-no e = let z : ◌≡◌ {A = ℕ} 0 1 = cc in omega arith
-
-split : (a b : Bool) → (a && b) ≡ true → (a ≡ true) × (b ≡ true)
-split true b e = (refl, e)
-split false b e = absurd (no e)
+-- the test of each word beside its limit
+pub within-by : (ls ws : List ℕ) → length ls ≤ length ws → list_all (λ (p : ℕ × ℕ). leb p.0 p.1) (zip ws ls) ≡ within ls ws
+unfolding within
+within-by [] [] h = refl
+within-by [] (w ∷ ws) h = refl
+within-by (l ∷ ls) [] h = absurd (omega arith)
+within-by (l ∷ ls) (w ∷ ws) h = ap (λ (b : Bool). leb w l && b) (within-by ls ws (omega arith))
 
 pub within-at : (ls ws : List ℕ) → within ls ws ≡ true → (i : ℕ) → i < length ls → get_or ws i 0 ≤ get_or ls i 0
 unfolding within
 within-at [] ws e i h = omega arith
-within-at (l ∷ ls) [] e i h = absurd (no e)
-within-at (l ∷ ls) (w ∷ ws) e zero h = leb-true w l (split (leb w l) (within ls ws) e).0
-within-at (l ∷ ls) (w ∷ ws) e (suc i) h = within-at ls ws (split (leb w l) (within ls ws) e).1 i (omega arith)
+within-at (l ∷ ls) [] e i h = cc
+within-at (l ∷ ls) (w ∷ ws) e zero h = leb-true w l (and_parts (leb w l) (within ls ws) e).0
+within-at (l ∷ ls) (w ∷ ws) e (suc i) h = within-at ls ws (and_parts (leb w l) (within ls ws) e).1 i (omega arith)
+
+-- what a frame and a judge need of their numbers
+module _ (ns : List ℕ) (e : within limits ns ≡ true) where
+  pub kind_fits : get_or ns 2 0 ≤ 255
+  kind_fits = within-at limits ns e 2 (omega arith)
+
+  pub turn_fits : get_or ns 14 0 ≤ half
+  turn_fits = within-at limits ns e 14 (omega arith)
+
+  pub got_fits : get_or ns 16 0 ≤ half
+  got_fits = within-at limits ns e 16 (omega arith)
+
+  pub wanted_fits : get_or ns 17 0 ≤ half
+  wanted_fits = within-at limits ns e 17 (omega arith)
+
+  byte_fits : (i : ℕ) → i < 9 → get_or ns (suc (suc (suc i))) 0 ≤ 255
+  byte_fits i h = at i h (within-at limits ns e (suc (suc (suc i))) (omega arith))
+    where
+      at : (i : ℕ) → i < 9 → get_or ns (suc (suc (suc i))) 0 ≤ get_or limits (suc (suc (suc i))) 0 → get_or ns (suc (suc (suc i))) 0 ≤ 255
+      at zero h k = k
+      at (suc zero) h k = k
+      at (suc (suc zero)) h k = k
+      at (suc (suc (suc zero))) h k = k
+      at (suc (suc (suc (suc zero)))) h k = k
+      at (suc (suc (suc (suc (suc zero))))) h k = k
+      at (suc (suc (suc (suc (suc (suc zero)))))) h k = k
+      at (suc (suc (suc (suc (suc (suc (suc zero))))))) h k = k
+      at (suc (suc (suc (suc (suc (suc (suc (suc zero)))))))) h k = k
+      at (suc (suc (suc (suc (suc (suc (suc (suc (suc i))))))))) h k = absurd (omega arith)
+
+  pub body_fits : (i : ℕ) → i < 9 → get_or ns (3 + i) 0 ≤ 255
+  body_fits i h = let e : 3 + i ≡ suc (suc (suc i)) = omega arith in rw e (byte_fits i h)
 
 pub few : (n : ℕ) (ws : List ℕ) → n ≤ length ws → Small ws → within (replicate n half) ws ≡ true
 unfolding within

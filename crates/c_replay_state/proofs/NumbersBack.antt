@@ -1,5 +1,6 @@
 -- The numbers of a frame and a judge read as them.
 --   frame_back, judge-back    the laws; a frame's body has nine bytes, and a width 32 bits
+--   live-from                 whether it is live, as the code makes a number of it
 --   fit                       the first eighteen numbers within their limits
 use mathlib.Core.Path.{◌≡◌, refl}
 use mathlib.Core.Bool.{Bool, true, false}
@@ -9,6 +10,7 @@ use native.Mathlib.Omega.{arith}
 use borrow.Author.Tests.{le-leb}
 use lib.Dec.{eqb}
 use lib.ListN.{get_or, length}
+use Rattle.std.specs.Int.{from_bool}
 use Rattle.points.specs.declared.Map.{Map}
 use Rattle.points.specs.declared.Map.TheVariants.{Round, Square}
 use Rattle.points.specs.declared.Accord.{Accord}
@@ -36,6 +38,10 @@ phase-back Start = refl
 phase-back Opened = refl
 phase-back Running = refl
 phase-back Over = refl
+
+pub live-from : (b : Bool) → from_bool b ≡ live_number b
+live-from true = refl
+live-from false = refl
 
 live_back : (b : Bool) → eqb (live_number b) 1 ≡ b
 live_back true = refl

@@ -1,15 +1,15 @@
 -- Words that hold a replay give it back: reading undoes writing, whatever stands behind it.
---   holds-short, holds-other, holds-over, holds_by   the tests in the order of the code
---   Holding, holding             what is known of words that pass them
---   grown, put_back, filled, got      parts put one after the other, and read
+--   Holding, holding, holds_long      what is known of words that hold one
+--   grown, filled                     parts put one after the other, and a list that was filled
 --   lists-put, all-put                the parts of a replay
 --   CourseFits, course-stored    a replay's numbers and words fit, and its lists have their lengths: then its words read as it
 use mathlib.Core.Path.{◌≡◌, refl, sym, ap, ◌∙◌}
-use mathlib.Core.Bool.{Bool, true, false, ◌&&◌}
+use mathlib.Core.Bool.{true}
+use Rattle.std.proofs.lemmas.Bool.{and_parts}
 use mathlib.Core.List.{List, [], ◌∷◌, ◌++◌, append_assoc, append-nil}
-use Prim.Native.Nat.{ℕ, ◌+◌, ◌-◌, ◌≤◌, ◌<◌}
+use Prim.Native.Nat.{ℕ, ◌+◌, ◌≤◌}
 use native.Mathlib.Omega.{arith}
-use borrow.Author.Tests.{le-leb, lt-leb, eq-eqb, ne_eqb, leb-true}
+use borrow.Author.Tests.{le-leb, eq-eqb, leb-true}
 use lib.Dec.{eqb, leb}
 use lib.ListN.{get_or, length, take, drop, length-append, length-drop, drop_of_length-le, take-append-drop}
 use lib.Seq.{take_at, drop_at, drop-drop, length-take-le}
@@ -20,37 +20,10 @@ use Rattle.c_replay_state.specs.Table.{replay_tag, replay_length, sums_at, regis
 use Rattle.c_layout.specs.Halves.{unpacked, packed, AllHalves}
 use Rattle.c_layout.proofs.Halves.{packed-length}
 use Rattle.c_layout.proofs.Halves as halves
-use Rattle.lists.proofs.Lent.{lent, back}
 use Rattle.c_replay_state.proofs.Limits.{few}
 use Rattle.c_replay_state.specs.Numbers.{frame_in, judge_in, numbers_of}
 use Rattle.c_replay_state.proofs.NumbersBack.{frame_back, judge-back}
 use Rattle.c_replay_state.specs.Words.{numbers_in, due_in, holds_replay, course_in, judge_of, words_of, CourseStored}
-
-module _ (ws : List ℕ) where
-  pub holds-short : length ws < replay_length → false ≡ holds_replay ws
-  unfolding holds_replay
-  holds-short h = rw (lt-leb replay_length (length ws) h)
-
-  module _ (h : replay_length ≤ length ws) where
-    pub holds-other : (get_or ws 0 0 ≡ replay_tag → ⊥) → false ≡ holds_replay ws
-    unfolding holds_replay
-    holds-other e = rw (le-leb replay_length (length ws) h, ne_eqb (get_or ws 0 0) replay_tag e)
-
-    module _ (e : get_or ws 0 0 ≡ replay_tag) where
-      pub holds-over : within limits (numbers_in ws) ≡ false → false ≡ holds_replay ws
-      unfolding holds_replay
-      holds-over k = rw (le-leb replay_length (length ws) h, eq-eqb (get_or ws 0 0) replay_tag e, k)
-
-      pub holds_by : within limits (numbers_in ws) ≡ true → within due_limits (due_in ws) ≡ holds_replay ws
-      unfolding holds_replay
-      holds_by k = rw (le-leb replay_length (length ws) h, eq-eqb (get_or ws 0 0) replay_tag e, k)
-
-no : false ≡ true → ⊥
-no e = let z : ◌≡◌ {A = ℕ} 0 1 = cc in omega arith
-
-split : (a b : Bool) → (a && b) ≡ true → (a ≡ true) × (b ≡ true)
-split true b e = (refl, e)
-split false b e = absurd (no e)
 
 pub record Holding (ws : List ℕ) : Type 0 where
   pub long : replay_length ≤ length ws
@@ -60,10 +33,16 @@ pub record Holding (ws : List ℕ) : Type 0 where
 pub holding : (ws : List ℕ) → holds_replay ws ≡ true → Holding ws
 unfolding holds_replay
 holding ws e =
-    let a = split (leb replay_length (length ws)) _ e in
-    let b = split (eqb (get_or ws 0 0) replay_tag) _ a.1 in
-    let c = split (within limits (numbers_in ws)) _ b.1 in
+    let a = and_parts (leb replay_length (length ws)) _ e in
+    let b = and_parts (eqb (get_or ws 0 0) replay_tag) _ a.1 in
+    let c = and_parts (within limits (numbers_in ws)) _ b.1 in
     record { long = leb-true replay_length (length ws) a.0; numbers = c.0; due = c.1 }
+
+pub holds_long : (ws : List ℕ) → holds_replay ws ≡ true → replay_length ≤ length ws
+holds_long ws e = (holding ws e).long
+
+pub due-long : (ws : List ℕ) → holds_replay ws ≡ true → length (due_in ws) ≡ 65
+due-long ws e = let h = holds_long ws e in length-take-le 65 (drop 157 ws) (rw length-drop (omega arith))
 
 -- ---- there and back
 
@@ -145,7 +124,8 @@ module _ (c : Course) (rest : List ℕ) (f : CourseFits c) where
   all_fit = ap (λ (l : List ℕ). within limits l) numbers-in ∙ f.numbers
 
   pub holds-back : holds_replay words ≡ true
-  holds-back = sym (holds_by words long tagged all_fit) ∙ due-few
+  unfolding holds_replay
+  holds-back = rw (le-leb replay_length (length words) long, eq-eqb (get_or words 0 0) replay_tag tagged, all_fit) due-few
 
   pub course-back : course_in words ≡ c
   unfolding course_in
@@ -166,55 +146,42 @@ course-stored c l f e =
 -- ---- one part after the other
 
 -- a list that begins with p and ends as l₀ did, with f put behind p
-pub grown : (l₀ p f : List ℕ) {l o : List ℕ} (a n : ℕ) → length p ≡ a → length f ≡ n → l ≡ p ++ drop a l₀ → o ≡ take a l ++ (f ++ drop (a + length f) l) → o ≡ (p ++ f) ++ drop (a + n) l₀
-grown l₀ p f {l} {o} a n h k e is =
+pub grown : (l₀ p f : List ℕ) {l o : List ℕ} (a n : ℕ) → length p ≡ a → l ≡ p ++ drop a l₀ → o ≡ take a l ++ (f ++ drop n (drop a l)) → o ≡ (p ++ f) ++ drop (a + n) l₀
+grown l₀ p f {l} {o} a n h e is =
     let front : take a l ≡ p = ap (λ (m : List ℕ). take a m) e ∙ take_at p (drop a l₀) a h in
     let rest : drop a l ≡ drop a l₀ = ap (λ (m : List ℕ). drop a m) e ∙ drop_at p (drop a l₀) a h in
-    let behind : drop (a + length f) l ≡ drop (a + n) l₀ =
-    ap (λ (m : ℕ). drop (a + m) l) k ∙ sym (drop-drop n a l) ∙ ap (λ (m : List ℕ). drop n m) rest ∙ drop-drop n a l₀ in
+    let behind : drop n (drop a l) ≡ drop (a + n) l₀ = ap (λ (m : List ℕ). drop n m) rest ∙ drop-drop n a l₀ in
     is ∙ (λ i. front i ++ (f ++ behind i)) ∙ sym (append_assoc p f (drop (a + n) l₀))
-
--- a part that was lent from a on, and came back with f at its front
-pub put_back : (l f : List ℕ) {ys : List ℕ} (a : ℕ) → a ≤ length l → ys ≡ f ++ drop (length f) (take (length l - a) (drop a l))
-    → take a l ++ (ys ++ drop (length l - a) (drop a l)) ≡ take a l ++ (f ++ drop (a + length f) l)
-put_back l f a h e =
-    back l (length l) a refl e ∙ (λ i. take a l ++ (f ++ (ap (λ (m : List ℕ). drop (length f) m) (lent l (length l) a refl) ∙ drop-drop (length f) a l) i))
 
 -- a list that was filled with words from a place
 pub filled : (f z : List ℕ) {r : List ℕ} → length f ≡ length z → r ≡ f ++ drop (length f) z → r ≡ f
 filled f z h e = e ∙ rw (drop_of_length-le z {i = length f} (omega arith)) (append-nil f)
 
-pub got : (ws z : List ℕ) {r : List ℕ} (a e : ℕ) → e ≡ a + length z → e ≤ length ws → r ≡ take (e - a) (drop a ws) ++ drop (length (take (e - a) (drop a ws))) z → r ≡ take (length z) (drop a ws)
-got ws z a e k h is =
-    let n : e - a ≡ length z = omega arith in
-    let m : length (take (e - a) (drop a ws)) ≡ length z = length-take-le (e - a) (drop a ws) (rw length-drop (omega arith)) ∙ n in
-    filled (take (e - a) (drop a ws)) z m is ∙ ap (λ (x : ℕ). take x (drop a ws)) n
-
 -- the parts of a replay, put one after the other
 pub lists-put : (l sums registers picks : List ℕ) {o₁ o₂ o₃ : List ℕ} → sums_at ≤ length l → length sums ≡ 8 → length registers ≡ 48 → length picks ≡ 72
-    → o₁ ≡ take 29 l ++ (sums ++ drop (29 + length sums) l) → o₂ ≡ take 37 o₁ ++ (registers ++ drop (37 + length registers) o₁) → o₃ ≡ take 85 o₂ ++ (picks ++ drop (85 + length picks) o₂)
+    → o₁ ≡ take 29 l ++ (sums ++ drop 8 (drop 29 l)) → o₂ ≡ take 37 o₁ ++ (registers ++ drop 48 (drop 37 o₁)) → o₃ ≡ take 85 o₂ ++ (picks ++ drop 72 (drop 85 o₂))
     → o₃ ≡ take sums_at l ++ (sums ++ (registers ++ (picks ++ drop due_at l)))
 lists-put l sums registers picks {o₁} {o₂} {o₃} h a b c e₁ e₂ e₃ =
     let p : length (take 29 l) ≡ 29 = length-take-le 29 l h in
     let q : length (take 29 l ++ sums) ≡ 37 = length-append (take 29 l) sums ∙ omega arith in
     let r : length ((take 29 l ++ sums) ++ registers) ≡ 85 = length-append (take 29 l ++ sums) registers ∙ omega arith in
-    let f₁ : o₁ ≡ (take 29 l ++ sums) ++ drop 37 l = grown l (take 29 l) sums 29 8 p a (sym (take-append-drop 29 l)) e₁ in
-    let f₂ : o₂ ≡ ((take 29 l ++ sums) ++ registers) ++ drop 85 l = grown l (take 29 l ++ sums) registers 37 48 q b f₁ e₂ in
-    let f₃ : o₃ ≡ (((take 29 l ++ sums) ++ registers) ++ picks) ++ drop 157 l = grown l ((take 29 l ++ sums) ++ registers) picks 85 72 r c f₂ e₃ in
+    let f₁ : o₁ ≡ (take 29 l ++ sums) ++ drop 37 l = grown l (take 29 l) sums 29 8 p (sym (take-append-drop 29 l)) e₁ in
+    let f₂ : o₂ ≡ ((take 29 l ++ sums) ++ registers) ++ drop 85 l = grown l (take 29 l ++ sums) registers 37 48 q f₁ e₂ in
+    let f₃ : o₃ ≡ (((take 29 l ++ sums) ++ registers) ++ picks) ++ drop 157 l = grown l ((take 29 l ++ sums) ++ registers) picks 85 72 r f₂ e₃ in
     f₃ ∙ simp append_assoc
 
 pub all-put : (c : Course) (l : List ℕ) {ns o₁ o₂ o₃ o₄ : List ℕ} → replay_length ≤ length l → CourseFits c
-    → o₁ ≡ take 0 l ++ ((replay_tag ∷ []) ++ drop 1 l)
-    → ns ≡ numbers_of c.frame (judge_of c.state) → o₂ ≡ take 1 o₁ ++ (ns ++ drop (1 + length ns) o₁)
+    → o₁ ≡ (replay_tag ∷ []) ++ drop 1 l
+    → ns ≡ numbers_of c.frame (judge_of c.state) → o₂ ≡ take 1 o₁ ++ (ns ++ drop 28 (drop 1 o₁))
     → o₃ ≡ take 29 o₂ ++ (packed c.state.receiver.sums ++ (c.state.receiver.registers ++ (c.state.receiver.picks ++ drop 157 o₂)))
-    → o₄ ≡ take 157 o₃ ++ (c.state.due ++ drop (157 + length c.state.due) o₃)
+    → o₄ ≡ take 157 o₃ ++ (c.state.due ++ drop 65 (drop 157 o₃))
     → CourseStored c l o₄
 unfolding words_of
 all-put c l {ns} {o₁} {o₂} {o₃} {o₄} h f e₁ e e₂ e₃ e₄ =
     let s = c.state in
     let rx = s.receiver in
     let n : length ns ≡ 28 = ap length e ∙ sized c [] f in
-    let g₁ : o₂ ≡ (replay_tag ∷ ns) ++ drop 29 l = grown l (replay_tag ∷ []) ns 1 28 refl n e₁ e₂ in
+    let g₁ : o₂ ≡ (replay_tag ∷ ns) ++ drop 29 l = grown l (replay_tag ∷ []) ns 1 28 refl e₁ e₂ in
     let m : length (replay_tag ∷ ns) ≡ 29 = omega arith in
     let sums = packed rx.sums in
     let lists = sums ++ (rx.registers ++ rx.picks) in
@@ -224,6 +191,6 @@ all-put c l {ns} {o₁} {o₂} {o₃} {o₄} h f e₁ e e₂ e₃ e₄ =
     sym (drop-drop 128 29 o₂) ∙ ap (λ (x : List ℕ). drop 128 (drop 29 x)) g₁ ∙ ap (λ (x : List ℕ). drop 128 x) (drop_at (replay_tag ∷ ns) (drop 29 l) 29 m) ∙ drop-drop 128 29 l in
     let g₂ : o₃ ≡ ((replay_tag ∷ ns) ++ lists) ++ drop 157 l = e₃ ∙ (λ i. front i ++ (sums ++ (rx.registers ++ (rx.picks ++ behind i)))) ∙ simp append_assoc in
     let q : length ((replay_tag ∷ ns) ++ lists) ≡ 157 = length-append (replay_tag ∷ ns) lists ∙ omega arith in
-    let g₃ : o₄ ≡ (((replay_tag ∷ ns) ++ lists) ++ s.due) ++ drop 222 l = grown l ((replay_tag ∷ ns) ++ lists) s.due 157 65 q f.due g₂ e₄ in
+    let g₃ : o₄ ≡ (((replay_tag ∷ ns) ++ lists) ++ s.due) ++ drop 222 l = grown l ((replay_tag ∷ ns) ++ lists) s.due 157 65 q g₂ e₄ in
     let whole : o₄ ≡ (replay_tag ∷ (ns ++ (sums ++ (rx.registers ++ (rx.picks ++ s.due))))) ++ drop 222 l = g₃ ∙ simp append_assoc in
     course-stored c l f (whole ∙ ap (λ (m : List ℕ). (replay_tag ∷ (m ++ (sums ++ (rx.registers ++ (rx.picks ++ s.due))))) ++ drop 222 l) e)

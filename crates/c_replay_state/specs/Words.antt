@@ -3,9 +3,9 @@
 --   holds_replay ws     whether the words hold a replay: enough of them, the tag, and no number above its limit
 --   course_in ws        the replay that they hold
 --   words_of c          the words that hold a replay
---   PutAt, ListsPut    inside: some words, the receiver's lists put in their place
+--   ListsPut           inside: the receiver's lists put in their place
 --   CourseStored       a replay was put into words, and they read as it
-use Rattle.std.specs.Prelude.{ℕ, ◌+◌, ◌≡◌, Bool, true, ◌&&◌, List, ◌∷◌, ◌++◌, eqb, leb, get_or, length, take, drop}
+use Rattle.std.specs.Prelude.{ℕ, ◌≡◌, Bool, true, ◌&&◌, List, ◌∷◌, ◌++◌, eqb, leb, get_or, length, take, drop}
 use Rattle.replay_judge.specs.declared.Judge.{Judge}
 use Rattle.replay_judge.specs.Judging.{State}
 use Rattle.replay.specs.Course.{Course, course_of}
@@ -36,11 +36,6 @@ unfoldable pub words_of : Course → List ℕ
 words_of c =
     let s = c.state in
     replay_tag ∷ (numbers_of c.frame (judge_of s) ++ (packed s.receiver.sums ++ (s.receiver.registers ++ (s.receiver.picks ++ s.due))))
-
--- inside: words f at the place a of l
-pub record PutAt (f : List ℕ) (a : ℕ) (l o : List ℕ) : Type 0 where
-  pub is : o ≡ take a l ++ (f ++ drop (a + length f) l)
-  pub same : length o ≡ length l
 
 -- inside: the receiver's lists, each of its length, in their places
 pub record ListsPut (sums registers picks l o : List ℕ) : Type 0 where

@@ -9,75 +9,44 @@ pub mod table;
 ghost use Rattle.std.specs.Prelude.{◌≡◌, true, ◌+◌, ◌≤◌, length, take, drop};
 ghost use Rattle.c_replay_state.specs.Table.{replay_length, due_at, Small};
 ghost use Rattle.replay.specs.Course.{replay_of};
-ghost use Rattle.c_replay_state.specs.Words.{holds_replay, course_in, PutAt, ListsPut, CourseStored};
+ghost use Rattle.c_replay_state.specs.Words.{holds_replay, course_in, ListsPut, CourseStored};
 
 use replay::Replay;
 
+#[tactic(auto, unfolding(crate::specs::Words::holds_replay))]
 pub fn holds_replay(words: &[u64]) -> bool
     ensures { result ≡ holds_replay words.now }
 {
-    if words.len() < table::WORDS {
-        return false;
-    }
-    if words[table::TAG] != table::REPLAY {
-        return false;
-    }
-    let limits = table::LIMITS;
-    if !table::fits(&words[table::NUMBERS..table::SUMS], &limits[0..]) {
-        return false;
-    }
-    let most = [4294967295u64; 65];
-    table::fits(&words[table::DUE..table::WORDS], &most[0..])
-}
-
-// Fills `to` with the words from the place `at` on.
-fn get(words: &[u64], at: usize, to: &mut [u64])
-    requires { at + length to.old ≤ length words.now }
-    ensures { to.new ≡ take (length to.old) (drop at words.now) }
-{
-    let end = at + to.len();
-    lists::copy(&words[at..end], to);
+    words.len() >= table::WORDS
+        && words[table::TAG] == table::REPLAY
+        && table::fits(&words[table::NUMBERS..table::SUMS], &table::LIMITS)
+        && table::fits(&words[table::DUE..table::WORDS], &[u64::from(u32::MAX); 65])
 }
 
 // The replay that the words hold.
+#[tactic(auto, using(crate::proofs::WordsBack::holds_long))]
 pub fn load(words: &[u64]) -> Replay
     requires { holds_replay words.now ≡ true }
     ensures { replay_of result ≡ course_in words.now }
 {
-    let mut numbers = [0u64; 28];
-    let mut halves = [0u64; 8];
-    let mut registers = [0u64; 48];
-    let mut picks = [0u64; 72];
-    let mut due = [0u32; 65];
-    get(words, table::NUMBERS, &mut numbers);
-    get(words, table::SUMS, &mut halves);
-    get(words, table::REGISTERS, &mut registers);
-    get(words, table::PICKS, &mut picks);
+    let mut numbers = [0; 28];
+    let mut halves = [0; 8];
+    let mut registers = [0; 48];
+    let mut picks = [0; 72];
+    let mut due = [0; 65];
+    numbers.copy_from_slice(&words[table::NUMBERS..table::SUMS]);
+    halves.copy_from_slice(&words[table::SUMS..table::REGISTERS]);
+    registers.copy_from_slice(&words[table::REGISTERS..table::PICKS]);
+    picks.copy_from_slice(&words[table::PICKS..table::DUE]);
     table::narrow(&words[table::DUE..table::WORDS], &mut due);
     Replay {
         frame: numbers::frame_of(numbers),
         judge: numbers::judge_of(numbers),
         sums: c_layout::unpack(halves),
-        registers: registers,
-        picks: picks,
-        due: due,
+        registers,
+        picks,
+        due,
     }
-}
-
-// Puts words at the place `at`.
-fn put(from: &[u64], words: &mut [u64], at: usize)
-    requires { at + length from.now ≤ length words.old }
-    ensures { PutAt from.now at words.old words.new }
-{
-    lists::copy(from, &mut words[at..]);
-}
-
-// The same of words of 32 bits.
-fn put_due(from: &[u32], words: &mut [u64], at: usize)
-    requires { at + length from.now ≤ length words.old }
-    ensures { PutAt from.now at words.old words.new × Small from.now }
-{
-    table::widen(from, &mut words[at..]);
 }
 
 // The receiver's lists, one behind the other.
@@ -85,10 +54,9 @@ fn put_lists(sums: [u32; 16], registers: [u64; 48], picks: [u64; 72], words: &mu
     requires { due_at ≤ length words.old }
     ensures { ListsPut sums registers picks words.old words.new }
 {
-    let halves = c_layout::pack(sums);
-    put(&halves, words, table::SUMS);
-    put(&registers, words, table::REGISTERS);
-    put(&picks, words, table::PICKS);
+    words[table::SUMS..table::REGISTERS].copy_from_slice(&c_layout::pack(sums));
+    words[table::REGISTERS..table::PICKS].copy_from_slice(&registers);
+    words[table::PICKS..table::DUE].copy_from_slice(&picks);
 }
 
 // Puts a replay into its words.
@@ -96,16 +64,8 @@ pub fn store(r: Replay, words: &mut [u64])
     requires { replay_length ≤ length words.old }
     ensures { CourseStored (replay_of r) words.old words.new }
 {
-    let frame = r.frame;
-    let judge = r.judge;
-    let sums = r.sums;
-    let registers = r.registers;
-    let picks = r.picks;
-    let due = r.due;
-    let numbers = numbers::numbers_of(frame, judge);
-    let tag = [table::REPLAY];
-    put(&tag, words, table::TAG);
-    put(&numbers, words, table::NUMBERS);
-    put_lists(sums, registers, picks, words);
-    put_due(&due, words, table::DUE);
+    words[table::TAG] = table::REPLAY;
+    words[table::NUMBERS..table::SUMS].copy_from_slice(&numbers::numbers_of(r.frame, r.judge));
+    put_lists(r.sums, r.registers, r.picks, words);
+    table::widen(&r.due, &mut words[table::DUE..table::WORDS]);
 }

@@ -28,7 +28,8 @@ pub const PHASE: usize = 1;
 
 pub const KIND: usize = 2;
 
-// The nine bytes of the body stand from 3 to 11.
+// The nine bytes of the body stand from here on.
+pub const BODY: usize = 3;
 
 pub const LIVE: usize = 12;
 
@@ -74,26 +75,16 @@ pub fn fits(words: &[u64], limits: &[u64]) -> bool
     requires { length limits.now ≤ length words.now }
     ensures { result ≡ within limits.now words.now }
 {
-    let mut ok = true;
-    let mut i: usize = 0;
-    while i < limits.len() {
-        if words[i] > limits[i] {
-            ok = false;
-        }
-        i += 1;
-    }
-    ok
+    words.iter().zip(limits).all(|(w, most)| *w <= *most)
 }
 
-// Copies all of `from` to the front of `to`.
+// Copies all of `from` to the front of `to`. No generic copy for this and `widen`: one requires what the other ensures.
 pub fn narrow(from: &[u64], to: &mut [u32])
     requires { Small from.now × (length from.now ≤ length to.old) }
     ensures { to.new ≡ from.now ++ drop (length from.now) to.old }
 {
-    let mut i: usize = 0;
-    while i < from.len() {
-        to[i] = from[i] as u32;
-        i += 1;
+    for (i, w) in from.iter().enumerate() {
+        to[i] = *w as u32;
     }
 }
 
@@ -102,9 +93,7 @@ pub fn widen(from: &[u32], to: &mut [u64])
     requires { length from.now ≤ length to.old }
     ensures { (to.new ≡ from.now ++ drop (length from.now) to.old) × Small from.now }
 {
-    let mut i: usize = 0;
-    while i < from.len() {
-        to[i] = from[i] as u64;
-        i += 1;
+    for (i, w) in from.iter().enumerate() {
+        to[i] = u64::from(*w);
     }
 }

@@ -6,9 +6,9 @@
 // back into them; where the picks need not stay in their place, they are copied too.
 #![tactic(auto)]
 
-ghost use Rattle.std.specs.Prelude.{◌≡◌, true, ◌≤◌, length};
-ghost use Rattle.c_layout.specs.Layout.{receiver_tag, receiver_length, picks_at, sender_length};
-ghost use Rattle.c_layout.specs.Tagged.{holds};
+ghost use Rattle.std.specs.Prelude.{◌≡◌, true, ◌&&◌, ◌≤◌, length, slice_index};
+ghost use Rattle.c_layout.specs.Layout.{sender_tag, sender_length, receiver_tag, receiver_length, picks_at};
+ghost use Rattle.c_layout.specs.Tagged.{is_half, holds};
 ghost use Rattle.c_states.specs.Front.{core_in, copied_in, CoreStored, FrontStored};
 ghost use Rattle.c_states.specs.State.{sender_in, SenderStored, receiver_in, ReceiverStored};
 
@@ -31,43 +31,34 @@ pub struct Copied {
 }
 
 // The five numbers of a receiver.
+#[tactic(auto, using(crate::proofs::Holding::receiver_long, crate::proofs::Holding::receiver_turn))]
 fn core_in(words: &[u64]) -> Core
     requires { holds receiver_length receiver_tag words.now ≡ true }
     ensures { result ≡ core_in words.now }
 {
-    let accord = c_layout::accord_in(words[c_layout::ACCORD]);
-    let window = words[c_layout::WINDOW] as usize;
-    let turn = words[c_layout::TURN] as u32;
-    let slot = words[c_layout::SLOT] as usize;
-    let pending = words[c_layout::PENDING] as usize;
     Core {
-        accord: accord,
-        window: window,
-        turn: turn,
-        slot: slot,
-        pending: pending,
+        accord: c_layout::accord_in(words[c_layout::ACCORD]),
+        window: words[c_layout::WINDOW] as usize,
+        turn: words[c_layout::TURN] as u32,
+        slot: words[c_layout::SLOT] as usize,
+        pending: words[c_layout::PENDING] as usize,
     }
 }
 
 // All but the picks of the receiver that the words hold.
+#[tactic(auto, using(crate::proofs::Holding::receiver_long))]
 pub fn load_front(words: &[u64]) -> Copied
     requires { holds receiver_length receiver_tag words.now ≡ true }
     ensures { result ≡ copied_in words.now }
 {
-    let mut halves = [0u64; 8];
-    let mut registers = [0u64; 48];
-    lists::copy(
-        &words[c_layout::SUMS..c_layout::REGISTERS],
-        &mut halves[0..],
-    );
-    lists::copy(
-        &words[c_layout::REGISTERS..c_layout::PICKS],
-        &mut registers[0..],
-    );
+    let mut halves = [0; 8];
+    let mut registers = [0; 48];
+    halves.copy_from_slice(&words[c_layout::SUMS..c_layout::REGISTERS]);
+    registers.copy_from_slice(&words[c_layout::REGISTERS..c_layout::PICKS]);
     Copied {
         core: core_in(words),
         sums: c_layout::unpack(halves),
-        registers: registers,
+        registers,
     }
 }
 
@@ -76,43 +67,45 @@ fn store_core(live: bool, c: Core, words: &mut [u64])
     ensures { CoreStored live c words.old words.new }
 {
     words[c_layout::TAG] = c_layout::tag_of(live, c_layout::RECEIVER);
-    let accord = c.accord;
-    words[c_layout::ACCORD] = c_layout::accord_word(accord);
-    words[c_layout::TURN] = c.turn as u64;
+    words[c_layout::ACCORD] = c_layout::accord_word(c.accord);
+    words[c_layout::TURN] = u64::from(c.turn);
     words[c_layout::WINDOW] = c.window as u64;
     words[c_layout::SLOT] = c.slot as u64;
     words[c_layout::PENDING] = c.pending as u64;
 }
 
 // Puts all but its picks of a receiver into its words.
-pub fn store_front(live: bool, c: Core, sums: [u32; 16], registers: [u64; 48], words: &mut [u64])
+pub fn store_front(live: bool, front: Copied, words: &mut [u64])
     requires { picks_at ≤ length words.old }
-    ensures { FrontStored live c sums registers words.old words.new }
+    ensures { FrontStored live front.core front.sums front.registers words.old words.new }
 {
-    store_core(live, c, words);
-    let halves = c_layout::pack(sums);
-    lists::copy(&halves[0..], &mut words[c_layout::SUMS..]);
-    lists::copy(&registers[0..], &mut words[c_layout::REGISTERS..]);
+    store_core(live, front.core, words);
+    words[c_layout::SUMS..c_layout::REGISTERS].copy_from_slice(&c_layout::pack(front.sums));
+    words[c_layout::REGISTERS..c_layout::PICKS].copy_from_slice(&front.registers);
+}
+
+// Whether the words can hold a sender.
+#[tactic(auto, using(crate::proofs::Holding::sender_words))]
+fn holds_sender(words: &[u64]) -> bool
+    ensures { result ≡ (holds sender_length sender_tag words.now && is_half (slice_index words.now 3)) }
+{
+    c_layout::holds_record(words, c_layout::SENDER_WORDS, c_layout::SENDER)
+        && c_layout::is_half(words[c_layout::SENDER_STATE])
 }
 
 // The sender that the words hold.
+#[tactic(auto, using(crate::proofs::Holding::sender_long, crate::proofs::Holding::sender_turn, crate::proofs::Holding::sender_state), unfolding(crate::specs::State::sender_in))]
 pub fn load_sender(words: &[u64]) -> Sender
     ensures { result ≡ sender_in words.now }
 {
-    if !c_layout::holds_record(words, c_layout::SENDER_WORDS, c_layout::SENDER) {
+    if !holds_sender(words) {
         return sender::closed_sender();
     }
-    if !c_layout::is_half(words[c_layout::SENDER_STATE]) {
-        return sender::closed_sender();
-    }
-    let accord = c_layout::accord_in(words[c_layout::ACCORD]);
-    let turn = words[c_layout::SENDER_TURN] as u32;
-    let state = words[c_layout::SENDER_STATE] as u32;
     Sender {
         live: true,
-        accord: accord,
-        turn: turn,
-        state: state,
+        accord: c_layout::accord_in(words[c_layout::ACCORD]),
+        turn: words[c_layout::SENDER_TURN] as u32,
+        state: words[c_layout::SENDER_STATE] as u32,
     }
 }
 
@@ -122,34 +115,32 @@ pub fn store_sender(s: Sender, words: &mut [u64])
     ensures { SenderStored s words.old words.new }
 {
     words[c_layout::TAG] = c_layout::tag_of(s.live, c_layout::SENDER);
-    let accord = s.accord;
-    words[c_layout::ACCORD] = c_layout::accord_word(accord);
-    words[c_layout::SENDER_TURN] = s.turn as u64;
-    words[c_layout::SENDER_STATE] = s.state as u64;
+    words[c_layout::ACCORD] = c_layout::accord_word(s.accord);
+    words[c_layout::SENDER_TURN] = u64::from(s.turn);
+    words[c_layout::SENDER_STATE] = u64::from(s.state);
 }
 
 // The receiver that the words hold.
+#[tactic(auto, using(crate::proofs::Holding::receiver_long), unfolding(crate::specs::State::receiver_in))]
 pub fn load_receiver(words: &[u64]) -> Receiver
     ensures { result ≡ receiver_in words.now }
 {
     if !holds_receiver(words) {
         return openings::closed_receiver();
     }
-    let copied = load_front(words);
-    let core = copied.core;
-    let sums = copied.sums;
-    let registers = copied.registers;
-    let mut picks = [0u64; 72];
-    lists::copy(
-        &words[c_layout::PICKS..c_layout::RECEIVER_WORDS],
-        &mut picks[0..],
-    );
+    let Copied {
+        core,
+        sums,
+        registers,
+    } = load_front(words);
+    let mut picks = [0; 72];
+    picks.copy_from_slice(&words[c_layout::PICKS..c_layout::RECEIVER_WORDS]);
     Receiver {
         live: true,
-        core: core,
-        sums: sums,
-        registers: registers,
-        picks: picks,
+        core,
+        sums,
+        registers,
+        picks,
     }
 }
 
@@ -158,10 +149,11 @@ pub fn store_receiver(rx: Receiver, words: &mut [u64])
     requires { receiver_length ≤ length words.old }
     ensures { ReceiverStored rx words.old words.new }
 {
-    let c = rx.core;
-    let sums = rx.sums;
-    let registers = rx.registers;
-    let picks = rx.picks;
-    lists::copy(&picks[0..], &mut words[c_layout::PICKS..]);
-    store_front(rx.live, c, sums, registers, words);
+    words[c_layout::PICKS..c_layout::RECEIVER_WORDS].copy_from_slice(&rx.picks);
+    let front = Copied {
+        core: rx.core,
+        sums: rx.sums,
+        registers: rx.registers,
+    };
+    store_front(rx.live, front, words);
 }

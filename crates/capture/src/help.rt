@@ -56,9 +56,8 @@ A capture is a row of records: a byte of kind, then its body.
 
 pub fn print(to: Streams) {
     let out = to.out;
-    match show(&out) {
-        Ok(()) => {}
-        Err(why) => edge::tell(to, b"capture: standard output", why),
+    if let Err(why) = show(&out) {
+        edge::tell(to, b"capture: standard output", why);
     }
 }
 

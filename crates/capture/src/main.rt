@@ -15,12 +15,36 @@ use std::fs::Files;
 use std::io::Read;
 use text::token;
 
-// Whether argument i is this word. One that has no room is none of ours.
-fn is_word<E: Env>(env: &E, i: usize, word: &[u8]) -> bool {
+// What the first word can ask for.
+#[derive(Clone, Copy)]
+enum Verb {
+    Record,
+    Replay,
+    Show,
+    Compare,
+    Salvage,
+    Help,
+}
+
+// What the first word asks for. One that has no room is none of ours. No match on byte strings: its check did not end.
+fn asked_verb<E: Env>(env: &E) -> Option<Verb> {
     let mut given = [0u8; 4096];
-    match env.arg(i, &mut given) {
-        Ok(n) => token::same(&given[..n], word),
-        Err(_) => false,
+    let n = env.arg(1, &mut given).ok()?;
+    let word = &given[..n];
+    if token::same(word, b"record") {
+        Some(Verb::Record)
+    } else if token::same(word, b"replay") {
+        Some(Verb::Replay)
+    } else if token::same(word, b"show") {
+        Some(Verb::Show)
+    } else if token::same(word, b"compare") {
+        Some(Verb::Compare)
+    } else if token::same(word, b"salvage") {
+        Some(Verb::Salvage)
+    } else if token::same(word, b"help") {
+        Some(Verb::Help)
+    } else {
+        None
     }
 }
 
@@ -29,14 +53,14 @@ fn unknown<E: Env>(env: &E, to: Streams, i: usize) {
     let mut word = [0u8; 4096];
     let filled = env.arg(i, &mut word);
     edge::note(to, b"capture: not known here: ");
-    match filled {
-        Ok(n) => edge::note(to, &word[..n]),
-        Err(_) => {}
+    if let Ok(n) = filled {
+        edge::note(to, &word[..n]);
     }
     edge::note(to, b"\n\n");
     help::note(to);
 }
 
+// Each verb says what it wants itself, so `salvage_verb::wants_two` has this form.
 fn nothing_asked(to: Streams) {
     edge::note(
         to,
@@ -45,22 +69,7 @@ fn nothing_asked(to: Streams) {
     help::note(to);
 }
 
-fn asked_help<E: Env>(env: &E, to: Streams) {
-    if edge::is_given(env, 2) {
-        unknown(env, to, 2);
-        return;
-    }
-    help::print(to);
-}
-
-fn asked_record<E: Env, I: Read>(env: &E, input: &mut I, to: Streams) {
-    if edge::is_given(env, 2) {
-        unknown(env, to, 2);
-        return;
-    }
-    record_files::run(input, to);
-}
-
+// This and the next differ in a function over any reader, which runs on a file or on the input: no closure stands for both.
 fn asked_replay<R: Files + Env, I: Read>(rt: &R, input: &mut I, to: Streams) {
     if !edge::is_given(rt, 2) {
         replay_files::run(input, to);
@@ -81,7 +90,8 @@ fn asked_show<R: Files + Env, I: Read>(rt: &R, input: &mut I, to: Streams) {
     }
 }
 
-// What the first word asks for, of the program's arguments, its input and the streams that it prints on.
+// What the words ask for, of the program's arguments, its input and the streams that it prints on. Of a word too many the last that can be
+// named is.
 fn obey<R: Files + Env, I: Read>(rt: &R, input: &mut I, to: Streams) {
     if !edge::is_given(rt, 1) {
         nothing_asked(to);
@@ -91,35 +101,17 @@ fn obey<R: Files + Env, I: Read>(rt: &R, input: &mut I, to: Streams) {
         unknown(rt, to, 4);
         return;
     }
-    if is_word(rt, 1, b"compare") {
-        compare_verb::run(rt, to);
-        return;
+    match asked_verb(rt) {
+        Some(Verb::Compare) => compare_verb::run(rt, to),
+        Some(Verb::Salvage) => salvage_verb::run(rt, to),
+        _ if edge::is_given(rt, 3) => unknown(rt, to, 3),
+        Some(Verb::Replay) => asked_replay(rt, input, to),
+        Some(Verb::Show) => asked_show(rt, input, to),
+        Some(Verb::Record | Verb::Help) if edge::is_given(rt, 2) => unknown(rt, to, 2),
+        Some(Verb::Record) => record_files::run(input, to),
+        Some(Verb::Help) => help::print(to),
+        None => unknown(rt, to, 1),
     }
-    if is_word(rt, 1, b"salvage") {
-        salvage_verb::run(rt, to);
-        return;
-    }
-    if edge::is_given(rt, 3) {
-        unknown(rt, to, 3);
-        return;
-    }
-    if is_word(rt, 1, b"replay") {
-        asked_replay(rt, input, to);
-        return;
-    }
-    if is_word(rt, 1, b"record") {
-        asked_record(rt, input, to);
-        return;
-    }
-    if is_word(rt, 1, b"show") {
-        asked_show(rt, input, to);
-        return;
-    }
-    if is_word(rt, 1, b"help") {
-        asked_help(rt, to);
-        return;
-    }
-    unknown(rt, to, 1);
 }
 
 fn main(rt: HostRuntime) {

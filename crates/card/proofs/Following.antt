@@ -14,7 +14,7 @@ use Rattle.nearest.proofs.Laws.{far-most}
 use Rattle.card_sums.specs.Every.{every_below}
 use Rattle.card_sums.specs.Rows.{none_below}
 use Rattle.card_sums.proofs.Every.{every-none, every_more, every-fails, every-ends}
-use Rattle.card.specs.declared.Step.TheVariants.{Counts, Fails}
+use Rattle.std.specs.Prelude.{Some, None}
 use Rattle.card.specs.Card.{Card, heard_at, symbol_at}
 use Rattle.card.specs.Check.{step_holds, far_at, step_of, sum_to, follows}
 
@@ -28,29 +28,29 @@ module _ (k : Accord) (c : Card) where
   begun = record { steps = every-none (step_holds k c); sum = refl }
 
   -- what a step came to says whether it holds
-  by-step : (i : ℕ) (b : Bool) → step_holds k c i ≡ b → step_of k c i ≡ cond b (Counts (far_at k c i)) Fails
+  by-step : (i : ℕ) (b : Bool) → step_holds k c i ≡ b → step_of k c i ≡ cond b (Some (far_at k c i)) None
   unfolding step_of
   by-step i b e = rw e
 
-  holds-if : (i far : ℕ) → Counts far ≡ step_of k c i → (step_holds k c i ≡ true) × (far ≡ far_at k c i)
+  holds-if : (i far : ℕ) → Some far ≡ step_of k c i → (step_holds k c i ≡ true) × (far ≡ far_at k c i)
   holds-if i far e = go (step_holds k c i) refl
     where
       go : (b : Bool) → step_holds k c i ≡ b → (step_holds k c i ≡ true) × (far ≡ far_at k c i)
-      go true p = (p, let z : Counts far ≡ Counts (far_at k c i) = e ∙ by-step i true p in cc)
-      go false p = let z : Counts far ≡ Fails = e ∙ by-step i false p in let y : ◌≡◌ {A = ℕ} 0 1 = cc in absurd (omega arith)
+      go true p = (p, let z : Some far ≡ Some (far_at k c i) = e ∙ by-step i true p in cc)
+      go false p = let z : Some far ≡ None = e ∙ by-step i false p in let y : ◌≡◌ {A = ℕ} 0 1 = cc in absurd (omega arith)
 
-  fails-if : (i : ℕ) → Fails ≡ step_of k c i → step_holds k c i ≡ false
+  fails-if : (i : ℕ) → None ≡ step_of k c i → step_holds k c i ≡ false
   fails-if i e = go (step_holds k c i) refl
     where
       go : (b : Bool) → step_holds k c i ≡ b → step_holds k c i ≡ false
-      go true p = let z : Fails ≡ Counts (far_at k c i) = e ∙ by-step i true p in let y : ◌≡◌ {A = ℕ} 0 1 = cc in absurd (omega arith)
+      go true p = let z : None ≡ Some (far_at k c i) = e ∙ by-step i true p in let y : ◌≡◌ {A = ℕ} 0 1 = cc in absurd (omega arith)
       go false p = p
 
-  pub fails : (n i : ℕ) → i < n → Fails ≡ step_of k c i → false ≡ follows k c n
+  pub fails : (n i : ℕ) → i < n → None ≡ step_of k c i → false ≡ follows k c n
   unfolding follows
   fails n i h e = sym (ap (λ (b : Bool). b && none_below c.numbers (16 * n) (sum_to k c n)) (every-fails (step_holds k c) n i h (fails-if i e)))
 
-  pub goes : (i w far : ℕ) → Followed i w → Counts far ≡ step_of k c i → Followed (i + 1) (w + far)
+  pub goes : (i w far : ℕ) → Followed i w → Some far ≡ step_of k c i → Followed (i + 1) (w + far)
   unfolding sum_to
   goes i w far f e =
       let (p, q) = holds-if i far e in
@@ -61,7 +61,7 @@ module _ (k : Accord) (c : Card) where
   sum-most zero = omega arith
   sum-most (suc i) = omega (arith, sum-most i, far-most k (heard_at c i) (symbol_at c i))
 
-  pub sum_fits : (i w far : ℕ) → Followed i w → Counts far ≡ step_of k c i → i < 64 → w + far < 33554433
+  pub sum_fits : (i w far : ℕ) → Followed i w → Some far ≡ step_of k c i → i < 64 → w + far < 33554433
   sum_fits i w far f e h = omega (arith, f.sum, sum-most i, (holds-if i far e).1, far-most k (heard_at c i) (symbol_at c i))
 
   pub ends : (n i w : ℕ) (r : Bool) → Followed i w → i ≡ n → r ≡ none_below c.numbers (16 * n) w → r ≡ follows k c n

@@ -3,5 +3,4 @@ pub mod Ours
 pub mod Bounds
 pub mod Tests
 pub mod Steps
-pub mod Taking
 pub mod Following

@@ -1,5 +1,6 @@
 -- What the tests of a card's lists and coordinates say, both ways.
 --   fits-is, is-fit        the lengths of the lists
+--   spots_in               two points whose four coordinates are in range
 --   range-is, is-range     the four coordinates of a symbol
 --   has                    the lists reach as far as each symbol needs
 use mathlib.Core.Path.{◌≡◌}
@@ -8,11 +9,11 @@ use Prim.Native.Nat.{ℕ, ◌+◌, ◌*◌, ◌≤◌, ◌<◌}
 use native.Mathlib.Omega.{arith}
 use borrow.Author.Tests.{le-leb, leb-true, eq-eqb, eqb-true}
 use lib.Dec.{eqb, leb}
-use lib.IntN.{pos}
-use lib.ListN.{get_or}
 use Rattle.lists.proofs.UpTo.{and_both}
+use Rattle.distance.specs.Distance.{SpotInRange}
 use Rattle.nearest.specs.Line.{is_coordinate, BothInRange}
 use Rattle.card_symbol.proofs.Tests.{joined}
+use Rattle.card.specs.declared.Pair.{Pair}
 use Rattle.card.specs.Card.{Card, count_of, heard_at}
 use Rattle.card.specs.Check.{lengths_fit, fits, Has, pair_at, in_range}
 
@@ -43,12 +44,23 @@ module _ (n xs ss cs ns : ℕ) where
         numbers-long = eqb-true _ _ f;
       }
 
+  pub row_there : lengths_fit n xs ss cs ns ≡ true → 16 ≤ ns
+  row_there e = omega (arith, (long-is e).numbers-long)
+
   pub is-long : Long n xs ss cs ns → lengths_fit n xs ss cs ns ≡ true
   unfolding lengths_fit
   is-long l =
       joined (le-leb _ _ l.some)
       (joined (le-leb _ _ l.few)
       (joined (joined (joined (eq-eqb _ _ l.coordinates-long) (eq-eqb _ _ l.states-long)) (eq-eqb _ _ l.symbols-long)) (eq-eqb _ _ l.numbers-long)))
+
+pub spots_in : (h : Pair) → in_range h ≡ true → SpotInRange h.first × SpotInRange h.second
+unfolding in_range
+spots_in h e =
+    let (e₁, w) = and_both _ (is_coordinate h.second.y) e in
+    let (e₂, z) = and_both _ (is_coordinate h.second.x) e₁ in
+    let (x, y) = and_both (is_coordinate h.first.x) (is_coordinate h.first.y) e₂ in
+    (record { x-in = leb-true _ _ x; y-in = leb-true _ _ y }, record { x-in = leb-true _ _ z; y-in = leb-true _ _ w })
 
 module _ (c : Card) (i : ℕ) where
   pub has : fits c ≡ true → i < count_of c → Has c i
@@ -62,15 +74,7 @@ module _ (c : Card) (i : ℕ) where
       }
 
   pub range-is : in_range (pair_at c.coordinates (4 * i)) ≡ true → BothInRange (heard_at c i)
-  unfolding in_range
-  range-is e =
-      let (e₁, w) = and_both _ (is_coordinate (get_or c.coordinates (4 * i + 3) (pos 0))) e in
-      let (e₂, z) = and_both _ (is_coordinate (get_or c.coordinates (4 * i + 2) (pos 0))) e₁ in
-      let (x, y) = and_both (is_coordinate (get_or c.coordinates (4 * i) (pos 0))) (is_coordinate (get_or c.coordinates (4 * i + 1) (pos 0))) e₂ in
-      record {
-        first-in = record { x-in = leb-true _ _ x; y-in = leb-true _ _ y };
-        second-in = record { x-in = leb-true _ _ z; y-in = leb-true _ _ w };
-      }
+  range-is e = let (p, q) = spots_in (pair_at c.coordinates (4 * i)) e in record { first-in = p; second-in = q }
 
   pub is-range : BothInRange (heard_at c i) → in_range (pair_at c.coordinates (4 * i)) ≡ true
   unfolding in_range

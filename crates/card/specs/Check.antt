@@ -10,7 +10,7 @@
 --   step_of k c i        that, or that the step does not hold
 --   sum_to k c i         the sum of the card's sequence up to the i-th symbol
 --   accepts k c         all of it: each step holds, the numbers start at 0, and none of the last row is below the sum
-use Rattle.std.specs.Prelude.{Bool, cond, ◌&&◌, List, ℕ, zero, suc, ◌+◌, ◌*◌, ◌≤◌, eqb, leb, ℤ, pos, length, get_or}
+use Rattle.std.specs.Prelude.{Bool, cond, Option, Some, None, ◌&&◌, List, ℕ, zero, suc, ◌+◌, ◌*◌, ◌≤◌, eqb, leb, ℤ, pos, length, get_or}
 use Rattle.points.specs.declared.Accord.{Accord}
 use Rattle.points.specs.Agreed.{is_accord}
 use Rattle.nearest.specs.Line.{is_coordinate, line_measure}
@@ -19,8 +19,6 @@ use Rattle.card_sums.specs.Every.{every_below}
 use Rattle.card_sums.specs.Rows.{holds, starts_at_zero, none_below}
 use Rattle.card_symbol.specs.Chosen.{carries}
 use Rattle.card.specs.declared.Pair.{Pair}
-use Rattle.card.specs.declared.Step.{Step}
-use Rattle.card.specs.declared.Step.TheVariants.{Counts, Fails}
 use Rattle.card.specs.Card.{Card, count_of, heard_at, state_at, symbol_at}
 
 unfoldable pub lengths_fit : ℕ → ℕ → ℕ → ℕ → ℕ → Bool
@@ -53,8 +51,8 @@ step_holds k c i =
 abbrev pub far_at : Accord → Card → ℕ → ℕ
 far_at k c i = (line_measure k).far (heard_at c i) (symbol_at c i)
 
-unfoldable pub step_of : Accord → Card → ℕ → Step
-step_of k c i = cond (step_holds k c i) (Counts (far_at k c i)) Fails
+unfoldable pub step_of : Accord → Card → ℕ → Option ℕ
+step_of k c i = cond (step_holds k c i) (Some (far_at k c i)) None
 
 unfoldable pub sum_to : Accord → Card → ℕ → ℕ
 sum_to k c zero = 0

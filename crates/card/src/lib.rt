@@ -13,30 +13,32 @@ ghost use Rattle.points.specs.Points.{coordinates as a_coordinates};
 ghost use Rattle.nearest.specs.Found.{chart_of};
 ghost use Rattle.card.specs.Card.{count_of};
 ghost use Rattle.card.specs.Check.{lengths_fit, fits, Has, pair_at, in_range, step_of, follows};
-ghost use Rattle.card.specs.Promise.{card_of, Checks};
+ghost use Rattle.card.specs.Promise.{card_of, card_in, Checks};
 
 use distance::Spot;
 use nearest::{Chart, Received};
 use points::Accord;
 
-// What a symbol of the card's sequence counts for, or that something about it does not hold.
+// What a card was given and what it hands over, lent from call to call.
 #[derive(Clone, Copy)]
-pub enum Step {
-    Counts(u32),
-    Fails,
+struct Card<'a> {
+    coordinates: &'a [i32],
+    states: &'a [u32],
+    symbols: &'a [u32],
+    numbers: &'a [u64],
 }
 
 // Whether these are the lengths of the lists of n symbols, 1 to 64.
+#[tactic(auto, unfolding(crate::specs::Check::lengths_fit))]
 fn lengths_fit(n: usize, coordinates: usize, states: usize, symbols: usize, numbers: usize) -> bool
     ensures { result ≡ lengths_fit n coordinates states symbols numbers }
 {
-    if n < 1 {
-        return false;
-    }
-    if 64 < n {
-        return false;
-    }
-    (coordinates == 4 * n) & (states == n + 1) & (symbols == 6 * n) & (numbers == 16 * (n + 1))
+    1 <= n
+        && n <= 64
+        && coordinates == 4 * n
+        && states == n + 1
+        && symbols == 6 * n
+        && numbers == 16 * (n + 1)
 }
 
 // A symbol as it was heard: its two points.
@@ -64,88 +66,64 @@ fn pair_at(coordinates: &[i32], at: usize) -> Pair
 }
 
 // Whether all four coordinates are in range.
+#[tactic(auto, unfolding(crate::specs::Check::in_range))]
 fn in_range(h: Pair) -> bool
     ensures { result ≡ in_range h }
 {
-    let p = h.first;
-    let q = h.second;
-    nearest::is_coordinate(p.x)
-        & nearest::is_coordinate(p.y)
-        & nearest::is_coordinate(q.x)
-        & nearest::is_coordinate(q.y)
+    nearest::is_coordinate(h.first.x)
+        && nearest::is_coordinate(h.first.y)
+        && nearest::is_coordinate(h.second.x)
+        && nearest::is_coordinate(h.second.y)
 }
 
 // The i-th symbol: what was heard is in range, what the card chose carries its state to the next, and no number of the row after it is more
 // than a number of the row before and what the step between counts for at least.
-fn take_step(
-    chart: &Chart,
-    table: &[i8; 512],
-    k: Accord,
-    i: usize,
-    coordinates: &[i32],
-    states: &[u32],
-    symbols: &[u32],
-    numbers: &[u64],
-) -> Step
+#[tactic(auto, unfolding(crate::specs::Check::step_of, crate::specs::Check::step_holds))]
+fn take_step(chart: &Chart, table: &[i8; 512], k: Accord, c: Card<'_>, i: usize) -> Option<u32>
     requires chart_value { (chart.now ≡ chart_of k) × (table.now ≡ a_coordinates) × (is_accord k ≡ true) }
-    requires has { Has (card_of coordinates.now states.now symbols.now numbers.now) i }
-    ensures { result ≡ step_of k (card_of coordinates.now states.now symbols.now numbers.now) i }
+    requires has { Has (card_in c) i }
+    ensures { result ≡ step_of k (card_in c.entry) i }
 {
-    let heard = pair_at(coordinates, 4 * i);
+    let heard = pair_at(c.coordinates, 4 * i);
     if !in_range(heard) {
-        return Step::Fails;
+        return None;
     }
-    let first = heard.first;
-    let second = heard.second;
-    let chosen = card_symbol::chosen_at(symbols, 6 * i);
-    if !card_symbol::carries(k.u, states[i], states[i + 1], chosen) {
-        return Step::Fails;
+    let chosen = card_symbol::chosen_at(c.symbols, 6 * i);
+    if !card_symbol::carries(k.u, c.states[i], c.states[i + 1], chosen) {
+        return None;
     }
-    let weighed = nearest::weigh(chart, k, Received::Heard(first), Received::Heard(second));
-    let costs = weighed.costs;
-    if !card_sums::holds(numbers, 16 * i, &costs) {
-        return Step::Fails;
+    let weighed = nearest::weigh(
+        chart,
+        k,
+        Received::Heard(heard.first),
+        Received::Heard(heard.second),
+    );
+    if !card_sums::holds(c.numbers, 16 * i, &weighed.costs) {
+        return None;
     }
-    Step::Counts(card_symbol::far(table, k, first, second, chosen))
+    Some(card_symbol::far(table, k, heard.first, heard.second, chosen))
 }
 
 // All n symbols, one after another, and the end: no number of the last row is below the sum.
-fn follow(
-    k: Accord,
-    n: usize,
-    coordinates: &[i32],
-    states: &[u32],
-    symbols: &[u32],
-    numbers: &[u64],
-) -> bool
-    requires { (is_accord k ≡ true) × (fits (card_of coordinates.now states.now symbols.now numbers.now) ≡ true)
-        × (n ≡ count_of (card_of coordinates.now states.now symbols.now numbers.now)) }
-    ensures { result ≡ follows k (card_of coordinates.now states.now symbols.now numbers.now) n }
+#[tactic(auto, using(crate::proofs::Following::fails))]
+fn follow(k: Accord, c: Card<'_>, n: usize) -> bool
+    requires { (is_accord k ≡ true) × (fits (card_in c) ≡ true) × (n ≡ count_of (card_in c)) }
+    ensures { result ≡ follows k (card_in c.entry) n }
 {
     let chart = nearest::chart(k);
     let table = points::table::a_points();
-    let mut sum: u64 = 0;
-    let mut i: usize = 0;
-    while i < n {
-        let Step::Counts(far) = take_step(
-            &chart,
-            &table,
-            k,
-            i,
-            coordinates,
-            states,
-            symbols,
-            numbers,
-        ) else {
+    let mut sum = 0;
+    for i in 0..n {
+        let Some(far) = take_step(&chart, &table, k, c, i) else {
             return false;
         };
-        sum += far as u64;
-        i += 1;
+        sum += u64::from(far);
     }
-    card_sums::none_below(numbers, 16 * n, sum)
+    card_sums::none_below(c.numbers, 16 * n, sum)
 }
 
 // Whether the card's sequence is accepted.
+#[tactic(auto, using(crate::proofs::Tests::row_there))]
 pub fn check(
     k: Accord,
     coordinates: &[i32],
@@ -165,11 +143,17 @@ pub fn check(
     ) {
         return false;
     }
-    if !points::is_accord(k) {
+    if !points::is_accord(k) || !card_sums::starts_at_zero(numbers) {
         return false;
     }
-    if !card_sums::starts_at_zero(numbers) {
-        return false;
-    }
-    follow(k, n, coordinates, states, symbols, numbers)
+    follow(
+        k,
+        Card {
+            coordinates,
+            states,
+            symbols,
+            numbers,
+        },
+        n,
+    )
 }

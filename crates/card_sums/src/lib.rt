@@ -3,7 +3,7 @@
 //
 // If those of the start are 0, and none is more than a number of the row before and what the step between costs, then no sequence has a
 // smaller sum than the number of the state that it ends in, whoever made the numbers and however large they are. Nothing is ever added
-// to a number of the card's, so nothing can pass 64 bits. Each contract is an equation of the result with one definition of specs/Rows,
+// to a number of the card's, so nothing can pass 64 bits. A row is compared whole, with no branch at a number that fails. Each contract is an equation of the result with one definition of specs/Rows,
 // so any two results that it allows are equal.
 #![tactic(auto)]
 
@@ -17,11 +17,8 @@ pub const ROW: usize = 16;
 fn within(v: u64, w: u64, d: u32) -> bool
     ensures { result ≡ leb v (w + d) }
 {
-    let by = d as u64;
-    if v < by {
-        return true;
-    }
-    v - by <= w
+    let by = u64::from(d);
+    v < by || v - by <= w
 }
 
 // Whether the number of t in the row after that at `at` is at most that of the k-th state before it and what the step between costs.
@@ -43,10 +40,8 @@ pub fn holds(numbers: &[u64], at: usize, costs: &[u32; 8]) -> bool
     ensures { result ≡ holds numbers.now at costs.now }
 {
     let mut all = true;
-    let mut way: u32 = 0;
-    while way < 64 {
-        all = all & way_holds(numbers, at, costs, way / 4, way % 4);
-        way += 1;
+    for way in 0..64 {
+        all &= way_holds(numbers, at, costs, way / 4, way % 4);
     }
     all
 }
@@ -57,10 +52,8 @@ pub fn starts_at_zero(numbers: &[u64]) -> bool
     ensures { result ≡ starts_at_zero numbers.now }
 {
     let mut all = true;
-    let mut s: usize = 0;
-    while s < ROW {
-        all = all & (numbers[s] == 0);
-        s += 1;
+    for s in 0..ROW {
+        all &= numbers[s] == 0;
     }
     all
 }
@@ -71,10 +64,8 @@ pub fn none_below(numbers: &[u64], at: usize, sum: u64) -> bool
     ensures { result ≡ none_below numbers.now at sum }
 {
     let mut all = true;
-    let mut t: usize = 0;
-    while t < ROW {
-        all = all & (sum <= numbers[at + t]);
-        t += 1;
+    for t in 0..ROW {
+        all &= sum <= numbers[at + t];
     }
     all
 }

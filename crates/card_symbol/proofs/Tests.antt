@@ -1,6 +1,8 @@
 -- The tests of a symbol are what 01 asks of it.
 --   valid-is, is-valid         the test of a symbol that can be sent, both ways
+--   bits_in                    of a symbol that can be sent, the two bits that lead on
 --   carries-is, is_carried     the test of a symbol between two states, both ways
+--   valid_by                   a symbol between two states can be sent
 --   joined                     two tests that both hold
 use mathlib.Core.Path.{◌≡◌, ap₂}
 use mathlib.Core.Bool.{Bool, true, ◌&&◌}
@@ -33,6 +35,9 @@ module _ (u : ℕ) (c : Symbol) where
         w2-below = ltb-true _ _ w₂;
       }
 
+  pub bits_in : is_valid u c ≡ true → (c.i1 < 2) × (c.i2 < 2)
+  bits_in e = let v = valid-is e in (v.i1-below, v.i2-below)
+
   pub is-valid : Valid u c → is_valid u c ≡ true
   unfolding is_valid
   is-valid v =
@@ -48,6 +53,9 @@ module _ (u : ℕ) (c : Symbol) where
         let (v, h) = and_both (is_valid u c) (ltb s 16) front in
         let (p, l) = and_both (eqb c.y0 (bit_w4 s)) (eqb (next_state s c.i1 c.i2) t) back in
         (ltb-true s 16 h, record { valid = valid-is v; parity = eqb-true _ _ p; leads = eqb-true _ _ l })
+
+    pub valid_by : carries u s t c ≡ true → Valid u c
+    valid_by e = (carries-is e).1.valid
 
     pub is_carried : s < 16 → Carries u s t c → carries u s t c ≡ true
     unfolding carries

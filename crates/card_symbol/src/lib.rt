@@ -47,44 +47,39 @@ pub fn chosen_at(symbols: &[u32], at: usize) -> Chosen
 }
 
 // Whether the symbol can be sent at the width u: four bits, and two numbers of u bits.
+#[tactic(auto, using(wei::proofs::Words::none_above), unfolding(crate::specs::Chosen::is_valid))]
 pub fn is_valid(u: u32, c: Chosen) -> bool
     requires { u ≤ 8 }
     ensures { result ≡ is_valid u (symbol_of c) }
 {
-    (c.y0 < 2) & (c.i1 < 2) & (c.i2 < 2) & (c.i3 < 2) & (c.w1 >> u == 0) & (c.w2 >> u == 0)
+    c.y0 < 2 && c.i1 < 2 && c.i2 < 2 && c.i3 < 2 && c.w1 >> u == 0 && c.w2 >> u == 0
 }
 
 // Whether the symbol can be sent and carries the state s to the state t.
+#[tactic(auto, using(crate::proofs::Tests::bits_in), unfolding(crate::specs::Chosen::carries))]
 pub fn carries(u: u32, s: u32, t: u32, c: Chosen) -> bool
     requires { u ≤ 8 }
     ensures { result ≡ carries u s t (symbol_of c) }
 {
-    if !is_valid(u, c) {
-        return false;
-    }
-    if 16 <= s {
-        return false;
-    }
-    (c.y0 == s & 1) & (wei::state::next(s, c.i1, c.i2) == t)
+    is_valid(u, c) && s < 16 && c.y0 == s & 1 && wei::state::next(s, c.i1, c.i2) == t
 }
 
 // What a heard point counts for, where the point with the label l and the number w was sent.
+#[tactic(auto, using(maps::proofs::Apart::small_at), unfolding(nearest::specs::Line::line_distance))]
 fn point_far(table: &[i8; 512], k: Accord, l: u32, w: u32, h: Spot) -> u32
     requires { (table.now ≡ coordinates) × (is_accord k ≡ true) × (l < 4) × (w < 2 ^ k.u) × SpotInRange h }
     ensures { result ≡ counted (line_distance k (received.Heard h) l w) }
 {
-    let map = k.map;
-    let p = maps::point_on(table, map, k.u, l, w);
+    let p = maps::point_on(table, k.map, k.u, l, w);
     nearest::counted_of(round_search::line::distance_from(h, p))
 }
 
 // What a heard symbol counts for, where the symbol c was sent.
+#[tactic(auto, using(wei::proofs::Labels::second_below), unfolding(trellis::specs::Measure::counted, trellis::specs::Measure::far_of, trellis::specs::Measure::first_far, trellis::specs::Measure::second_far, wei::specs::Symbol::last_label))]
 pub fn far(table: &[i8; 512], k: Accord, first: Spot, second: Spot, c: Chosen) -> u32
     requires { (table.now ≡ coordinates) × (is_accord k ≡ true) × SpotInRange first × SpotInRange second × Valid k.u (symbol_of c) }
     ensures { result ≡ (line_measure k).far (heard_as (received.Heard first) (received.Heard second)) (symbol_of c) }
 {
     let l = wei::label::labels(2 * c.i3 + c.i2, c.y0, c.i1);
-    let a = point_far(table, k, l.first, c.w1, first);
-    let b = point_far(table, k, l.second, c.w2, second);
-    a + b
+    point_far(table, k, l.first, c.w1, first) + point_far(table, k, l.second, c.w2, second)
 }

@@ -1,10 +1,9 @@
--- Places in a lump: what is passed lies in it, and an offset grows or stays at its end.
-use mathlib.Core.Path.{◌≡◌, sym, ap, subst, ◌∙◌}
+-- One pair of records further: what the code computes is `pair_step`.
+use mathlib.Core.Path.{◌≡◌, refl, sym, ap, subst, ◌∙◌}
 use mathlib.Core.Bool.{Bool, true, false, cond}
 use mathlib.Core.List.{List}
-use Prim.Native.Nat.{ℕ, ◌+◌, ◌-◌, ◌≤◌}
+use Prim.Native.Nat.{ℕ, ◌+◌, ◌-◌}
 use native.Mathlib.Omega.{arith}
-use borrow.Author.Tests.{le-ltb}
 use lib.ListN.{length, take, drop, length-drop}
 use lib.Seq.{take_all}
 use Rattle.text.specs.Token.{same_bytes}
@@ -12,19 +11,12 @@ use Rattle.records.specs.declared.Phase.{Phase}
 use Rattle.record_front.specs.declared.Front.{Front}
 use Rattle.records.specs.Frames.{capped}
 use Rattle.record_front.specs.Fronts.{front_of}
-use Rattle.record_front.proofs.Fronts.{front-within}
-use Rattle.compare.specs.declared.Formed.{Formed}
+use Rattle.compare_events.specs.declared.Line.{Line}
 use Rattle.compare_events.specs.declared.Event.{Event}
+use Rattle.compare_events.specs.declared.Event.TheVariants.{Same, Said, Last, Wait, Broken}
 use Rattle.compare.specs.declared.Pass.{Pass}
 use Rattle.compare_events.specs.Events.{judge}
-use Rattle.compare.specs.Passing.{form_step, takes, line_more, moved, halted, event_of, moved_by, pair_step}
-
-pub within : (w : Front) (p : Phase) (i : ℕ) (bs : List ℕ) (ends : Bool) → w ≡ front_of p (drop i bs) ends → i ≤ length bs → i + w.length ≤ length bs
-within w p i bs ends e h = rw e (omega (arith, front-within p (drop i bs) ends, length-drop i bs))
-
-pub capped-large : (n : ℕ) → 18446744073709551615 ≤ n → 18446744073709551615 ≡ capped n
-unfolding capped
-capped-large n h = rw (le-ltb n 18446744073709551615 h)
+use Rattle.compare.specs.Passing.{takes, line_more, moved, halted, event_of, moved_by, pair_step}
 
 -- the part of a lump from a place on
 pub rest_part : (i : ℕ) (bs : List ℕ) → take (length bs - i) (drop i bs) ≡ drop i bs
@@ -36,17 +28,6 @@ mid-part i m bs = let e : i + m - i ≡ m = omega arith in rw e
 
 pub looked : (w : Front) (p : Phase) (i : ℕ) (bs : List ℕ) (ends : Bool) → w ≡ front_of p (take (length bs - i) (drop i bs)) ends → w ≡ front_of p (drop i bs) ends
 looked w p i bs ends e = e ∙ ap (λ (l : List ℕ). front_of p l ends) (rest_part i bs)
-
-pub looked-within : (w : Front) (p : Phase) (i : ℕ) (bs : List ℕ) (ends : Bool) → w ≡ front_of p (take (length bs - i) (drop i bs)) ends → i ≤ length bs → i + w.length ≤ length bs
-looked-within w p i bs ends e h = within w p i bs ends (looked w p i bs ends e) h
-
-pub form-stepped : (f : Formed) (bs : List ℕ) (ends : Bool) (w : Front) (at : ℕ) → w ≡ front_of f.phase (take (length bs - f.used) (drop f.used bs)) ends
-    → at ≡ capped (f.at + w.length) → f.used ≤ length bs
-    → (record { sign = w.sign; phase = w.phase; at = at; used = f.used + w.length } ≡ form_step f bs ends) × (f.used + w.length ≤ length bs)
-unfolding form_step
-form-stepped f bs ends w at e a h =
-    let l : w ≡ front_of f.phase (drop f.used bs) ends = looked w f.phase f.used bs ends e in
-    (rw (sym l, a), within w f.phase f.used bs ends l h)
 
 -- one pair of records further, as the code has it
 module _ (p : Pass) (xs ys : List ℕ) (ends closes : Bool) (a b : Front) (t : Bool) (e : Event) where
@@ -69,15 +50,18 @@ module _ (p : Pass) (xs ys : List ℕ) (ends closes : Bool) (a b : Front) (t : B
   unfolding pair_step
   pair_is l k s j = rw (sym (looked a p.first p.here xs ends l), sym (looked b p.second p.there ys closes k), sym (pair-event s j))
 
-  pub pair-halts : Looks → LooksToo → Tells → Judges → takes e ≡ false → p.here ≤ length xs → p.there ≤ length ys
-      → (halted p e ≡ pair_step p xs ys ends closes) × ((p.here ≤ length xs) × (p.there ≤ length ys))
-  pair-halts l k s j h m n = (subst (λ (z : Bool). cond z (moved p e a b) (halted p e) ≡ pair_step p xs ys ends closes) h (pair_is l k s j), (m, n))
+  pub pair-halts : Looks → LooksToo → Tells → Judges → takes e ≡ false → halted p e ≡ pair_step p xs ys ends closes
+  pair-halts l k s j h = subst (λ (z : Bool). cond z (moved p e a b) (halted p e) ≡ pair_step p xs ys ends closes) h (pair_is l k s j)
 
-  pub pair-moves : Looks → LooksToo → Tells → Judges → takes e ≡ true → p.here ≤ length xs → p.there ≤ length ys →
-      (number lines : ℕ) → number ≡ capped (p.number + 1) → lines ≡ line_more e p.lines
-      → (record { event = e; first = a.phase; second = b.phase; number = number; lines = lines; here = p.here + a.length; there = p.there + b.length } ≡ pair_step p xs ys ends closes)
-      × ((p.here + a.length ≤ length xs) × (p.there + b.length ≤ length ys))
-  pair-moves l k s j h m n number lines u v = (
-    rw (u, v) (subst (λ (z : Bool). cond z (moved p e a b) (halted p e) ≡ pair_step p xs ys ends closes) h (pair_is l k s j)),
-    (looked-within a p.first p.here xs ends l m, looked-within b p.second p.there ys closes k n),
-  )
+  pub pair-moves : Looks → LooksToo → Tells → Judges → takes e ≡ true → (number lines : ℕ) → number ≡ capped (p.number + 1) → lines ≡ line_more e p.lines
+      → record { event = e; first = a.phase; second = b.phase; number = number; lines = lines; here = p.here + a.length; there = p.there + b.length } ≡ pair_step p xs ys ends closes
+  pair-moves l k s j h number lines u v =
+      rw (u, v) (subst (λ (z : Bool). cond z (moved p e a b) (halted p e) ≡ pair_step p xs ys ends closes) h (pair_is l k s j))
+
+-- an event by which nothing is passed
+pub not_taken : (e : Event) → (e ≡ Same → ⊥) → ((l : Line) → e ≡ Said l → ⊥) → takes e ≡ false
+not_taken Same n m = absurd (n refl)
+not_taken (Said l) n m = absurd (m l refl)
+not_taken (Last l) n m = refl
+not_taken Wait n m = refl
+not_taken Broken n m = refl

@@ -32,29 +32,13 @@ pub enum Event {
 pub fn judge(a: Sign, b: Sign, same: bool, number: u64, lines: u64) -> Event
     ensures { result ≡ Events·judge a b same number lines }
 {
-    match a {
-        Sign::Record => match b {
-            Sign::Record => if same {
-                Event::Same
-            } else {
-                Event::Said(Line::Differs(number))
-            },
-            Sign::Gone => Event::Said(Line::OnlyFirst(number)),
-            Sign::More => Event::Wait,
-            Sign::Bad => Event::Broken,
-        },
-        Sign::Gone => match b {
-            Sign::Record => Event::Said(Line::OnlySecond(number)),
-            Sign::Gone => Event::Last(Line::Differences(lines)),
-            Sign::More => Event::Wait,
-            Sign::Bad => Event::Broken,
-        },
-        Sign::More => match b {
-            Sign::Record => Event::Wait,
-            Sign::Gone => Event::Wait,
-            Sign::More => Event::Wait,
-            Sign::Bad => Event::Broken,
-        },
-        Sign::Bad => Event::Broken,
+    match (a, b) {
+        (Sign::Bad, _) | (_, Sign::Bad) => Event::Broken,
+        (Sign::More, _) | (_, Sign::More) => Event::Wait,
+        (Sign::Record, Sign::Record) if same => Event::Same,
+        (Sign::Record, Sign::Record) => Event::Said(Line::Differs(number)),
+        (Sign::Record, Sign::Gone) => Event::Said(Line::OnlyFirst(number)),
+        (Sign::Gone, Sign::Record) => Event::Said(Line::OnlySecond(number)),
+        (Sign::Gone, Sign::Gone) => Event::Last(Line::Differences(lines)),
     }
 }

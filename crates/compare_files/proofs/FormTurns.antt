@@ -6,10 +6,10 @@
 --   turns-tell          THE THEOREM
 --   only-tells          the only line is that of 02, Wish 12, where a file is malformed, and there is none where both are well formed
 use mathlib.Core.Path.{◌≡◌, refl, sym, ap, subst, ◌∙◌}
-use mathlib.Core.Bool.{Bool, true, false}
+use mathlib.Core.Bool.{true}
 use mathlib.Core.List.{List, [], ◌∷◌, map}
 use Prim.Native.Nat.{ℕ}
-use native.Mathlib.Omega.{arith}
+use Rattle.std.specs.Prelude.{Some, None}
 use lib.ListN.{take, drop}
 use Rattle.records.specs.declared.Phase.{Phase}
 use Rattle.records.specs.declared.Phase.TheVariants.{Start}
@@ -27,7 +27,7 @@ use Rattle.compare_meaning.proofs.Forms.{FormCall, FormRun, formed-by, unless_to
 use Rattle.compare_files.specs.declared.Shape.{Shape}
 use Rattle.compare_files.specs.declared.Shape.TheVariants.{Clean, Malformed}
 use Rattle.compare_files.specs.declared.Reading.{Reading}
-use Rattle.compare_files.specs.Steps.{shape_of, is_unread, told_by, FormTurn, only_line}
+use Rattle.compare_files.specs.Steps.{shape_of, told_by, FormTurn, only_line}
 
 abbrev pub form_shape : Ending → Shape
 form_shape clean = Clean
@@ -39,8 +39,8 @@ pub record Honest (q : Reading) (chunk us : List ℕ) : Type 0 where
   pub ends : q.side.ends ≡ true → drop q.side.to us ≡ []
 
 pub data FormTurns : Reading → List ℕ → List ℕ → Shape → Type 0 where
-  last : {r q : Reading} {before after us : List ℕ} → FormTurn r before q after → Honest q after us → is_unread q.shape ≡ false → FormTurns r before us q.shape
-  more : {r q : Reading} {before after us : List ℕ} {sh : Shape} → FormTurn r before q after → Honest q after us → is_unread q.shape ≡ true →
+  last : {r q : Reading} {before after us : List ℕ} {sh : Shape} → FormTurn r before q after → Honest q after us → q.shape ≡ Some sh → FormTurns r before us sh
+  more : {r q : Reading} {before after us : List ℕ} {sh : Shape} → FormTurn r before q after → Honest q after us → q.shape ≡ None →
       FormTurns q after (drop q.side.from us) sh → FormTurns r before us sh
 
 pub record FormsTo (p : Phase) (at : ℕ) (us : List ℕ) (sh : Shape) : Type 0 where
@@ -63,26 +63,26 @@ module _ (r q : Reading) (before after us : List ℕ) (t : FormTurn r before q a
   shape_is = t.shape ∙ ap (λ (x : Formed). shape_of x.sign x.at) told_is
 
   -- a turn that says what the file is
-  ended : is_unread q.shape ≡ false → FormsTo r.phase r.at us q.shape
-  ended e = go f.sign refl (sym (ap is_unread shape_is) ∙ e)
+  ended : (sh : Shape) → q.shape ≡ Some sh → FormsTo r.phase r.at us sh
+  ended sh e = go f.sign refl (sym shape_is ∙ e)
     where
-      made : (e : Ending) → unless_told f.sign f.at [] e (FormRun [] f.phase f.at (drop f.used us) e) → shape_of f.sign f.at ≡ form_shape e → FormsTo r.phase r.at us q.shape
-      made e u w = record { calls = c ∷ []; ending = e; run = (h.ends, u); is = shape_is ∙ w }
+      made : (e : Ending) → unless_told f.sign f.at [] e (FormRun [] f.phase f.at (drop f.used us) e) → shape_of f.sign f.at ≡ Some (form_shape e) → FormsTo r.phase r.at us sh
+      made d u w = let z : Some sh ≡ Some (form_shape d) = sym e ∙ shape_is ∙ w in record { calls = c ∷ []; ending = d; run = (h.ends, u); is = cc }
 
-      go : (s : Sign) → f.sign ≡ s → is_unread (shape_of f.sign f.at) ≡ false → FormsTo r.phase r.at us q.shape
-      go sign.Record w z = absurd (let y : ◌≡◌ {A = Bool} true false = sym (ap (λ (x : Sign). is_unread (shape_of x f.at)) w) ∙ z in let v : ◌≡◌ {A = ℕ} 0 1 = cc in omega arith)
+      go : (s : Sign) → f.sign ≡ s → shape_of f.sign f.at ≡ Some sh → FormsTo r.phase r.at us sh
+      go sign.Record w z = absurd (let y : None ≡ Some sh = sym (ap (λ (x : Sign). shape_of x f.at) w) ∙ z in cc)
       go sign.Gone w z =
           made clean (subst (λ (x : Sign). unless_told x f.at [] clean (FormRun [] f.phase f.at (drop f.used us) clean)) (sym w) (refl, refl)) (ap (λ (x : Sign). shape_of x f.at) w)
-      go sign.More w z = absurd (let y : ◌≡◌ {A = Bool} true false = sym (ap (λ (x : Sign). is_unread (shape_of x f.at)) w) ∙ z in let v : ◌≡◌ {A = ℕ} 0 1 = cc in omega arith)
+      go sign.More w z = absurd (let y : None ≡ Some sh = sym (ap (λ (x : Sign). shape_of x f.at) w) ∙ z in cc)
       go sign.Bad w z =
           made (malformed f.at)
           (subst (λ (x : Sign). unless_told x f.at [] (malformed f.at) (FormRun [] f.phase f.at (drop f.used us) (malformed f.at))) (sym w) (refl, refl))
           (ap (λ (x : Sign). shape_of x f.at) w)
 
   -- a turn after which the reading goes on
-  goes_on : is_unread q.shape ≡ true → (sh : Shape) → FormsTo q.phase q.at (drop q.side.from us) sh → FormsTo r.phase r.at us sh
+  goes_on : q.shape ≡ None → (sh : Shape) → FormsTo q.phase q.at (drop q.side.from us) sh → FormsTo r.phase r.at us sh
   goes_on e sh k =
-      record { calls = c ∷ k.calls; ending = k.ending; run = (h.ends, go f.sign refl (sym (ap is_unread shape_is) ∙ e)); is = k.is }
+      record { calls = c ∷ k.calls; ending = k.ending; run = (h.ends, go f.sign refl (sym shape_is ∙ e)); is = k.is }
     where
       later : FormRun k.calls f.phase f.at (drop f.used us) k.ending
       later =
@@ -91,10 +91,10 @@ module _ (r q : Reading) (before after us : List ℕ) (t : FormTurn r before q a
           (subst (λ (x : ℕ). FormRun k.calls (told_by r q after).phase x (drop q.side.from us) k.ending) t.at
           (subst (λ (x : Phase). FormRun k.calls x q.at (drop q.side.from us) k.ending) t.phase k.run)))
 
-      no : {s : Sign} → f.sign ≡ s → is_unread (shape_of s f.at) ≡ false → is_unread (shape_of f.sign f.at) ≡ true → ⊥
-      no w y z = let x : ◌≡◌ {A = Bool} true false = sym z ∙ ap (λ (s : Sign). is_unread (shape_of s f.at)) w ∙ y in let v : ◌≡◌ {A = ℕ} 0 1 = cc in omega arith
+      no : {s : Sign} {x : Shape} → f.sign ≡ s → shape_of s f.at ≡ Some x → shape_of f.sign f.at ≡ None → ⊥
+      no {s} {x} w y z = let v : None ≡ Some x = sym z ∙ ap (λ (t : Sign). shape_of t f.at) w ∙ y in cc
 
-      go : (s : Sign) → f.sign ≡ s → is_unread (shape_of f.sign f.at) ≡ true →
+      go : (s : Sign) → f.sign ≡ s → shape_of f.sign f.at ≡ None →
           unless_told f.sign f.at k.calls k.ending (FormRun k.calls f.phase f.at (drop f.used us) k.ending)
       go sign.Record w z = subst (λ (s : Sign). unless_told s f.at k.calls k.ending (FormRun k.calls f.phase f.at (drop f.used us) k.ending)) (sym w) later
       go sign.Gone w z = absurd (no w refl z)
@@ -102,7 +102,7 @@ module _ (r q : Reading) (before after us : List ℕ) (t : FormTurn r before q a
       go sign.Bad w z = absurd (no w refl z)
 
 pub turns-run : {r : Reading} {chunk us : List ℕ} {sh : Shape} → FormTurns r chunk us sh → FormsTo r.phase r.at us sh
-turns-run (last {r = r} {q = q} {before = before} {after = after} {us = us} t h e) = ended r q before after us t h e
+turns-run (last {r = r} {q = q} {before = before} {after = after} {us = us} {sh = sh} t h e) = ended r q before after us t h sh e
 turns-run (more {r = r} {q = q} {before = before} {after = after} {us = us} {sh = sh} t h e m) = goes_on r q before after us t h e sh (turns-run m)
 
 pub turns-tell : {r : Reading} {chunk us : List ℕ} {sh : Shape} → r.phase ≡ Start → r.at ≡ 0 → FormTurns r chunk us sh → sh ≡ form_shape (capped_ending (reading_of us).ending)

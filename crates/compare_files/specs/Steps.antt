@@ -1,14 +1,14 @@
 -- The steps that the program takes over two files, by what `compare` tells of the bytes that wait. Which bytes a read gave no contract can say; all
 -- else of a step is here. That such steps, from the first to the last, say the comparison of 02, Wish 12, of the bytes of two files is proved in
 -- proofs/SideTurns.
---   shape_of s at      what a file is, by the sign at which its reading for form stopped; unread as long as it goes on. is_unread: so it is
+--   shape_of s at      what a file is, by the sign at which its reading for form stopped; none as long as it goes on
 --   FormTurn r before q after   one turn of the first reading: from r to q, and the chunk before and after it
 --   waiting s chunk   the bytes of a side that wait
 --   Kept s before r after   the side s is read on, or not, and is r: what waited waits still
 --   LineSaid, Heeded  a line is put on the page, at its place; what is put where two lumps told so
 --   SideTurn b one two r    one turn of the second reading, after the reads
 --   only_line a b      the only line, where a file is malformed, the first checked first; `Same` where both are to be read side by side
-use Rattle.std.specs.Prelude.{ℕ, ◌+◌, ◌-◌, ◌≤◌, ◌≡◌, Bool, true, false, ◌&&◌, ◌⊎◌, List, take, drop}
+use Rattle.std.specs.Prelude.{ℕ, ◌+◌, ◌-◌, ◌≤◌, ◌≡◌, ◌⊎◌, Option, Some, None, List, take, drop}
 use Rattle.record_front.specs.declared.Sign.{Sign}
 use Rattle.record_front.specs.declared.Sign.TheVariants as sign
 use Rattle.compare_events.specs.declared.Event.{Event}
@@ -23,19 +23,14 @@ use Rattle.compare_files.specs.declared.Side.{Side}
 use Rattle.compare_files.specs.declared.Out.{Out}
 use Rattle.compare_files.specs.declared.Both.{Both}
 use Rattle.compare_files.specs.declared.Shape.{Shape}
-use Rattle.compare_files.specs.declared.Shape.TheVariants.{Clean, Malformed, Unread}
+use Rattle.compare_files.specs.declared.Shape.TheVariants.{Clean, Malformed}
 use Rattle.compare_files.specs.declared.Reading.{Reading}
 
-abbrev pub shape_of : Sign → ℕ → Shape
-shape_of sign.Record at = Unread
-shape_of sign.Gone at = Clean
-shape_of sign.More at = Unread
-shape_of sign.Bad at = Malformed at
-
-abbrev pub is_unread : Shape → Bool
-is_unread Clean = false
-is_unread (Malformed p) = false
-is_unread Unread = true
+abbrev pub shape_of : Sign → ℕ → Option Shape
+shape_of sign.Record at = None
+shape_of sign.Gone at = Some Clean
+shape_of sign.More at = None
+shape_of sign.Bad at = Some (Malformed at)
 
 -- what `form` tells of the bytes that wait after the read
 abbrev pub told_by : Reading → Reading → List ℕ → Formed
@@ -50,7 +45,6 @@ pub record FormTurn (r : Reading) (before : List ℕ) (q : Reading) (after : Lis
   pub at : q.at ≡ (told_by r q after).at
   pub used : q.side.from ≡ (told_by r q after).used
   pub shape : q.shape ≡ shape_of (told_by r q after).sign (told_by r q after).at
-  pub on : q.on ≡ (q.side.fine && is_unread q.shape)
 
 abbrev pub waiting : Side → List ℕ → List ℕ
 waiting s chunk = take (s.to - s.from) (drop s.from chunk)
@@ -82,9 +76,7 @@ pub record SideTurn (b : Both) (one two page : List ℕ) (r : Both) (page' : Lis
 abbrev pub second_line : Shape → Event
 second_line Clean = Same
 second_line (Malformed p) = Last (SecondMalformed p)
-second_line Unread = Same
 
 abbrev pub only_line : Shape → Shape → Event
 only_line Clean b = second_line b
 only_line (Malformed p) b = Last (FirstMalformed p)
-only_line Unread b = second_line b

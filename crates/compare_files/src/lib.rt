@@ -5,9 +5,9 @@
 // A file that cannot be read or rewound, as a pipe, is told on the error stream before any line is printed.
 #![tactic(auto)]
 
-ghost use Rattle.std.specs.Prelude.{◌≡◌, ◌+◌, ◌-◌, ◌≤◌, length, take, drop};
+ghost use Rattle.std.specs.Prelude.{◌≡◌, ◌+◌, ◌-◌, ◌≤◌, length, take, drop, IfOk};
 ghost use Rattle.compare.specs.Passing.{pass_of};
-ghost use Rattle.compare_files.specs.Steps.{shape_of, is_unread, FormTurn, waiting, Kept, LineSaid, Heeded, SideTurn, second_line, only_line};
+ghost use Rattle.compare_files.specs.Steps.{shape_of, FormTurn, waiting, Kept, LineSaid, Heeded, SideTurn, second_line, only_line};
 
 use compare::Pass;
 use compare_events::{Event, Line};
@@ -16,24 +16,23 @@ use record_front::Sign;
 use records::Phase;
 use std::io::{Error, Read, Seek};
 
-// One file: the place in its chunk from which bytes wait and the one up to which they do, whether it has ended, and whether all went well.
+// One file: the place in its chunk from which bytes wait and the one up to which they do, and whether it has ended.
 #[derive(Clone, Copy)]
 struct Side {
     from: usize,
     to: usize,
     ends: bool,
-    fine: bool,
 }
 
-// What a file read for its form is: well formed, or malformed at an offset; or it could not be read.
+// What a file read for its form is: well formed, or malformed at an offset.
 #[derive(Clone, Copy)]
 enum Shape {
     Clean,
     Malformed(u64),
-    Unread,
 }
 
-// How far the page is filled, whether more bytes are wanted, and whether to go on.
+// How far the page is filled, whether more bytes are wanted, and whether to go on: flags, since `SideTurn` speaks of the page after the last
+// line too.
 #[derive(Clone, Copy)]
 struct Out {
     at: usize,
@@ -55,48 +54,23 @@ fn to_front(chunk: &mut [u8], from: usize, to: usize) -> usize
     requires { (from ≤ to) × (to ≤ length chunk.old) }
     ensures { (result ≡ to - from) × (take result chunk.new ≡ take result (drop from chunk.old)) }
 {
-    let n = to - from;
-    let mut i = 0;
-    while i < n {
-        chunk[i] = chunk[from + i];
-        i += 1;
-    }
-    i
+    chunk.copy_within(from..to, 0);
+    to - from
 }
 
-// No error yet.
-fn unknown() -> Error {
-    Error::from_raw_os_error(0)
-}
-
-// Reads once, behind the bytes that wait. A read that answers 0 is the file's end. Why a read failed stands in `why`.
-fn refill<R: Read>(file: &mut R, why: &mut Error, s: Side, chunk: &mut [u8]) -> Side
+// Reads once, behind the bytes that wait. A read that answers 0 is the file's end.
+fn refill<R: Read>(file: &mut R, s: Side, chunk: &mut [u8]) -> Result<Side, Error>
     requires { (s.from ≤ s.to) × (s.to ≤ length chunk.old) }
-    ensures from_le_to { (result.from ≤ result.to) × (result.to ≤ length chunk.old) }
-    ensures from_bound { (s.to - s.from ≤ result.to) × (take (s.to - s.from) chunk.new ≡ take (s.to - s.from) (drop s.from chunk.old)) }
-    ensures from_value { result.from ≡ 0 }
+    ensures from_le_to { IfOk result (λ r. (r.from ≡ 0) × (s.to - s.from ≤ r.to) × (r.to ≤ length chunk.old)) }
+    ensures kept { take (s.to - s.from) chunk.new ≡ take (s.to - s.from) (drop s.from chunk.old) }
 {
-    let from = s.from;
-    let to = s.to;
-    let held = to_front(chunk, from, to);
-    let rest = &mut chunk[held..];
-    match file.read(rest) {
-        Ok(n) => Side {
-            from: 0,
-            to: held + n,
-            ends: n == 0,
-            fine: true,
-        },
-        Err(e) => {
-            *why = e;
-            Side {
-                from: 0,
-                to: held,
-                ends: false,
-                fine: false,
-            }
-        }
-    }
+    let held = to_front(chunk, s.from, s.to);
+    let n = file.read(&mut chunk[held..])?;
+    Ok(Side {
+        from: 0,
+        to: held + n,
+        ends: n == 0,
+    })
 }
 
 fn fresh() -> Side
@@ -106,7 +80,6 @@ fn fresh() -> Side
         from: 0,
         to: 0,
         ends: false,
-        fine: true,
     }
 }
 
@@ -114,92 +87,66 @@ fn fresh() -> Side
 fn passed(s: Side, n: usize) -> Side
     requires { s.from + n ≤ s.to }
     ensures from_le_to { (result.from ≤ result.to) × (result.to ≡ s.to) }
-    ensures from_value { (result.from ≡ s.from + n) × (result.ends ≡ s.ends) × (result.fine ≡ s.fine) }
+    ensures from_value { (result.from ≡ s.from + n) × (result.ends ≡ s.ends) }
 {
     Side {
         from: s.from + n,
-        to: s.to,
-        ends: s.ends,
-        fine: s.fine,
+        ..s
     }
 }
 
-// How far a file is read for its form, what it is if that is known, and whether to go on.
+// How far a file is read for its form, and what it is once that is known.
 #[derive(Clone, Copy)]
 struct Reading {
     side: Side,
     phase: Phase,
     at: u64,
-    shape: Shape,
-    on: bool,
+    shape: Option<Shape>,
 }
 
-fn told(sign: Sign, at: u64) -> Shape
+fn told(sign: Sign, at: u64) -> Option<Shape>
     ensures { result ≡ shape_of sign at }
 {
     match sign {
-        Sign::Record => Shape::Unread,
-        Sign::Gone => Shape::Clean,
-        Sign::More => Shape::Unread,
-        Sign::Bad => Shape::Malformed(at),
-    }
-}
-
-fn is_unread(shape: Shape) -> bool
-    ensures { result ≡ is_unread shape }
-{
-    match shape {
-        Shape::Clean => false,
-        Shape::Malformed(_) => false,
-        Shape::Unread => true,
+        Sign::Record | Sign::More => None,
+        Sign::Gone => Some(Shape::Clean),
+        Sign::Bad => Some(Shape::Malformed(at)),
     }
 }
 
 // One read of the first reading.
-fn read_form<R: Read>(file: &mut R, why: &mut Error, r: Reading, chunk: &mut [u8]) -> Reading
+fn read_form<R: Read>(file: &mut R, r: Reading, chunk: &mut [u8]) -> Result<Reading, Error>
     requires { (r.side.from ≤ r.side.to) × (r.side.to ≤ length chunk.old) }
-    ensures from_le_to { (result.side.from ≤ result.side.to) × (result.side.to ≤ length chunk.old) }
-    ensures form_turn { FormTurn r chunk.old result chunk.new }
+    ensures from_le_to { IfOk result (λ q. (q.side.from ≤ q.side.to) × (q.side.to ≤ length chunk.old)) }
+    ensures form_turn { IfOk result (λ q. FormTurn r chunk.old q chunk.new) }
 {
-    let old = r.side;
-    let phase = r.phase;
-    let s = refill(file, why, old, chunk);
-    let from = s.from;
-    let to = s.to;
-    let f = compare::form(phase, r.at, &chunk[from..to], s.ends);
-    let sign = f.sign;
-    let after = f.phase;
-    let shape = told(sign, f.at);
-    Reading {
+    let s = refill(file, r.side, chunk)?;
+    let f = compare::form(r.phase, r.at, &chunk[s.from..s.to], s.ends);
+    Ok(Reading {
         side: passed(s, f.used),
-        phase: after,
+        phase: f.phase,
         at: f.at,
-        shape: shape,
-        on: s.fine & is_unread(shape),
-    }
+        shape: told(f.sign, f.at),
+    })
 }
 
-// The first reading of a file, to its end or its malformed place. A proved loop has to end, and nothing says that a file does: the turns are
-// counted down from a number that no run uses up.
-fn form_of<R: Read>(file: &mut R, why: &mut Error) -> Shape {
+// The first reading of a file, to its end or its malformed place. A proved loop has to end, and nothing says that a file does: no run
+// uses up so many reads.
+fn form_of<R: Read>(file: &mut R) -> Result<Shape, Error> {
     let mut chunk = [0u8; 65536];
     let mut now = Reading {
         side: fresh(),
         phase: Phase::Start,
         at: 0,
-        shape: Shape::Unread,
-        on: true,
+        shape: None,
     };
-    let mut turns = u64::MAX;
-    while turns > 0 && now.on {
-        now = read_form(file, why, now, &mut chunk);
-        turns -= 1;
+    for _ in 0..u64::MAX {
+        now = read_form(file, now, &mut chunk)?;
+        if let Some(shape) = now.shape {
+            return Ok(shape);
+        }
     }
-    let side = now.side;
-    if !side.fine {
-        return Shape::Unread;
-    }
-    now.shape
+    Err(Error::from_raw_os_error(0))
 }
 
 // Hands what the page holds to `write`.
@@ -216,7 +163,7 @@ fn say(to: Streams, at: usize, line: Line, ends: bool, page: &mut [u8]) -> Out
     ensures line_said { LineSaid line page.old at result page.new }
 {
     let end = compare_text::put_line(page, at, line);
-    if !ends & (end + 40 <= page.len()) {
+    if !ends && end + 40 <= page.len() {
         return Out {
             at: end,
             waits: false,
@@ -227,21 +174,21 @@ fn say(to: Streams, at: usize, line: Line, ends: bool, page: &mut [u8]) -> Out
     Out {
         at: 0,
         waits: false,
-        on: is_written & !ends,
+        on: is_written && !ends,
     }
 }
 
 // A side of which less than half a chunk waits is read on, where more bytes are wanted.
-fn fed<R: Read>(file: &mut R, why: &mut Error, s: Side, is_wanted: bool, chunk: &mut [u8]) -> Side
+fn fed<R: Read>(file: &mut R, s: Side, is_wanted: bool, chunk: &mut [u8]) -> Result<Side, Error>
     requires { (s.from ≤ s.to) × (s.to ≤ length chunk.old) }
-    ensures from_le_to { (result.from ≤ result.to) × (result.to ≤ length chunk.old) }
-    ensures kept { Kept s chunk.old result chunk.new }
+    ensures from_le_to { IfOk result (λ r. (r.from ≤ r.to) × (r.to ≤ length chunk.old)) }
+    ensures kept { IfOk result (λ r. Kept s chunk.old r chunk.new) }
 {
     let waits = s.to - s.from;
-    if !is_wanted | s.ends | (chunk.len() - waits < waits) {
-        return s;
+    if !is_wanted || s.ends || chunk.len() - waits < waits {
+        return Ok(s);
     }
-    refill(file, why, s, chunk)
+    refill(file, s, chunk)
 }
 
 // A file that was well formed a moment ago.
@@ -250,7 +197,7 @@ fn changed(to: Streams, at: usize) -> Out
 {
     edge::note(to, b"capture: a file was changed while it was read\n");
     Out {
-        at: at,
+        at,
         waits: false,
         on: false,
     }
@@ -264,14 +211,14 @@ fn heed(to: Streams, event: Event, at: usize, page: &mut [u8]) -> Out
 {
     match event {
         Event::Same => Out {
-            at: at,
+            at,
             waits: false,
             on: true,
         },
         Event::Said(line) => say(to, at, line, false, page),
         Event::Last(line) => say(to, at, line, true, page),
         Event::Wait => Out {
-            at: at,
+            at,
             waits: true,
             on: true,
         },
@@ -286,14 +233,13 @@ fn told_by(b: Both, one: &[u8], two: &[u8]) -> Pass
     ensures here_bound { (b.first.from + result.here ≤ b.first.to) × (b.second.from + result.there ≤ b.second.to) }
     ensures value { result ≡ pass_of b.pass (waiting b.first one.now) (waiting b.second two.now) b.first.ends b.second.ends }
 {
-    let pass = b.pass;
-    let first = b.first;
-    let second = b.second;
-    let i = first.from;
-    let m = first.to;
-    let j = second.from;
-    let n = second.to;
-    compare::next(pass, &one[i..m], &two[j..n], first.ends, second.ends)
+    compare::next(
+        b.pass,
+        &one[b.first.from..b.first.to],
+        &two[b.second.from..b.second.to],
+        b.first.ends,
+        b.second.ends,
+    )
 }
 
 // And the line to the page.
@@ -307,16 +253,11 @@ fn look_on(to: Streams, b: Both, one: &[u8], two: &[u8], page: &mut [u8]) -> Bot
     ensures side_turn { SideTurn b one.now two.now page.old result page.new }
 {
     let pass = told_by(b, one, two);
-    let first = b.first;
-    let second = b.second;
-    let out = b.out;
-    let event = pass.event;
-    let next = heed(to, event, out.at, page);
     Both {
-        pass: pass,
-        first: passed(first, pass.here),
-        second: passed(second, pass.there),
-        out: next,
+        pass,
+        first: passed(b.first, pass.here),
+        second: passed(b.second, pass.there),
+        out: heed(to, pass.event, b.out.at, page),
     }
 }
 
@@ -324,35 +265,31 @@ fn look_on(to: Streams, b: Both, one: &[u8], two: &[u8], page: &mut [u8]) -> Bot
 fn read_on<R: Read>(
     first_file: &mut R,
     second_file: &mut R,
-    why: &mut Error,
     b: Both,
     one: &mut [u8],
     two: &mut [u8],
-) -> Both
+) -> Result<Both, Error>
     requires from_le_to { (b.first.from ≤ b.first.to) × (b.first.to ≤ length one.old) }
     requires from_le_to_2 { (b.second.from ≤ b.second.to) × (b.second.to ≤ length two.old) }
-    ensures from_le_to_3 { (result.first.from ≤ result.first.to) × (result.first.to ≤ length one.old) }
-    ensures from_le_to_4 { (result.second.from ≤ result.second.to) × (result.second.to ≤ length two.old) }
-    ensures at_value { result.out.at ≡ b.out.at }
-    ensures pass_value { (result.pass ≡ b.pass) × Kept b.first one.old result.first one.new × Kept b.second two.old result.second two.new }
+    ensures from_le_to_3 { IfOk result (λ r. (r.first.from ≤ r.first.to) × (r.first.to ≤ length one.old)) }
+    ensures from_le_to_4 { IfOk result (λ r. (r.second.from ≤ r.second.to) × (r.second.to ≤ length two.old)) }
+    ensures at_value { IfOk result (λ r. r.out.at ≡ b.out.at) }
+    ensures pass_value { IfOk result (λ r. (r.pass ≡ b.pass) × Kept b.first one.old r.first one.new × Kept b.second two.old r.second two.new) }
 {
-    let pass = b.pass;
-    let old_first = b.first;
-    let old_second = b.second;
-    let out = b.out;
-    let first = fed(first_file, why, old_first, out.waits, one);
-    let second = fed(second_file, why, old_second, out.waits, two);
-    let next = Out {
-        at: out.at,
-        waits: false,
-        on: first.fine & second.fine,
-    };
-    Both {
-        pass: pass,
-        first: first,
-        second: second,
-        out: next,
-    }
+    let first = fed(first_file, b.first, b.out.waits, one);
+    // Where both reads fail, the second one's error is told.
+    let second = fed(second_file, b.second, b.out.waits, two)?;
+    let first = first?;
+    Ok(Both {
+        pass: b.pass,
+        first,
+        second,
+        out: Out {
+            at: b.out.at,
+            waits: false,
+            on: true,
+        },
+    })
 }
 
 // One turn of the second reading.
@@ -372,13 +309,16 @@ fn turn<R: Read>(
     ensures from_le_to_4 { (result.second.from ≤ result.second.to) × (result.second.to ≤ length two.old) }
     ensures at_in_bounds_2 { result.out.at + 40 ≤ length page.old }
 {
-    let mut why = unknown();
-    let next = read_on(first_file, second_file, &mut why, b, one, two);
-    if !next.out.on {
-        edge::tell(to, b"capture: read", why);
-        return next;
+    match read_on(first_file, second_file, b, one, two) {
+        Ok(next) => look_on(to, next, one, two, page),
+        Err(why) => {
+            edge::tell(to, b"capture: read", why);
+            Both {
+                out: Out { on: false, ..b.out },
+                ..b
+            }
+        }
     }
-    look_on(to, next, one, two, page)
 }
 
 // The second reading: both files side by side.
@@ -396,10 +336,11 @@ fn side_by_side<R: Read>(first: &mut R, second: &mut R, to: Streams) {
             on: true,
         },
     };
-    let mut turns = u64::MAX;
-    while turns > 0 && now.out.on {
+    for _ in 0..u64::MAX {
+        if !now.out.on {
+            return;
+        }
         now = turn(first, second, to, now, &mut one, &mut two, &mut page);
-        turns -= 1;
     }
 }
 
@@ -415,17 +356,15 @@ fn rewind<R: Seek>(file: &mut R, to: Streams) -> bool {
 }
 
 // What a file is, with the file rewound; a failure is told.
-fn shape_of<R: Read + Seek>(file: &mut R, to: Streams) -> Shape {
-    let mut why = unknown();
-    let shape = form_of(file, &mut why);
-    if is_unread(shape) {
-        edge::tell(to, b"capture: read", why);
-        return shape;
+fn shape_of<R: Read + Seek>(file: &mut R, to: Streams) -> Option<Shape> {
+    match form_of(file) {
+        Ok(shape) if rewind(file, to) => Some(shape),
+        Ok(_) => None,
+        Err(why) => {
+            edge::tell(to, b"capture: read", why);
+            None
+        }
     }
-    if !rewind(file, to) {
-        return Shape::Unread;
-    }
-    shape
 }
 
 // The only line.
@@ -441,7 +380,6 @@ fn second_line(b: Shape) -> Event
     match b {
         Shape::Clean => Event::Same,
         Shape::Malformed(p) => Event::Last(Line::SecondMalformed(p)),
-        Shape::Unread => Event::Same,
     }
 }
 
@@ -452,29 +390,24 @@ fn only_line(a: Shape, b: Shape) -> Event
     match a {
         Shape::Clean => second_line(b),
         Shape::Malformed(p) => Event::Last(Line::FirstMalformed(p)),
-        Shape::Unread => second_line(b),
     }
 }
 
 // The only line, or the second reading.
 fn judged<R: Read>(a: Shape, b: Shape, first: &mut R, second: &mut R, to: Streams) {
-    let only = only_line(a, b);
-    if let Event::Last(line) = only {
-        say_alone(to, line);
-        return;
+    match only_line(a, b) {
+        Event::Last(line) => say_alone(to, line),
+        _ => side_by_side(first, second, to),
     }
-    side_by_side(first, second, to);
 }
 
 // Compares the captures of two files. Nothing is printed before both are read for their form and rewound.
 pub fn run<R: Read + Seek>(first: &mut R, second: &mut R, to: Streams) {
-    let a = shape_of(first, to);
-    if is_unread(a) {
+    let Some(a) = shape_of(first, to) else {
         return;
-    }
-    let b = shape_of(second, to);
-    if is_unread(b) {
+    };
+    let Some(b) = shape_of(second, to) else {
         return;
-    }
+    };
     judged(a, b, first, second, to);
 }

@@ -9,6 +9,7 @@ use borrow.Author.Tests.{lt-ltb, le-ltb, eq-eqb, ne_eqb}
 use lib.Dec.{eqb, ltb}
 use lib.IntN.{ℤ}
 use lib.ListN.{length, drop, take-append-drop}
+use Rattle.std.specs.Prelude.{Err}
 use Rattle.points.specs.declared.Accord.{Accord}
 use Rattle.machine.proofs.Sound.{sound-core}
 use Rattle.sender.specs.declared.Sender.{Sender}
@@ -224,7 +225,7 @@ module _ (state : List ℕ) (piece : Piece) (out told : List ℕ) where
   pub hear-none : holds receiver_length receiver_tag state ≡ false → 3 ≤ length told → (t : List ℕ) (n : ℕ) → n ≡ 9 → t ≡ told_of 0 0 0 told → Answers (hear_call state piece out told) n state out t
   unfolding receiver_in sound shut
   hear-none none enough t n number tells =
-      hear-kept enough (record { receiver = receiver_in state; taken = 0; written = 0; why = Closed }) out t n (hear-closed (receiver_in state) out piece (rw none)) number tells refl
+      hear-kept enough (record { receiver = receiver_in state; taken = 0; written = 0; why = Err Closed }) out t n (hear-closed (receiver_in state) out piece (rw none)) number tells refl
 
 -- a piece to a receiver whose picks were lent in their place in the state
 module _ (state : List ℕ) (piece : Piece) (out told : List ℕ) (yes : holds receiver_length receiver_tag state ≡ true) where

@@ -1,14 +1,16 @@
 // The library for C and Rust: both ends over numbers and slices only, their states in words that the caller lends.
 //
 // Each function reads the state, calls the door that it wraps, and writes the state back where it changed. A state is read as closed
-// where it is too short, its tag is another, or the record in it is not sound (crate c_states).
+// where it is too short, its tag is another, or the record in it is not sound (crate c_states). Where two functions differ in a map or in marks
+// alone, both stay: C has no default for an argument, and calls each by its name.
 #![tactic(auto)]
 
 ghost use Rattle.std.specs.Prelude.{◌≡◌, ◌≤◌, length};
 ghost use Rattle.points.specs.Agreed.{of_width};
 ghost use Rattle.c_layout.specs.Accords.{accord_by};
 ghost use Rattle.reasons.specs.Reason.{given_of};
-ghost use Rattle.receiver_meaning.specs.Piece.{piece_with, marked_piece, piece_of};
+ghost use Rattle.receiver_meaning.specs.Piece.{marked_piece, piece_of};
+ghost use Rattle.piece_input.specs.Marks.{piece_by};
 ghost use Rattle.openings.specs.Given.{plain_window, start_at};
 ghost use Rattle.c_samples.specs.Counts.{told_of};
 ghost use Rattle.c_samples.specs.Calls.{sample_call, samples_call, marked_call};
@@ -27,7 +29,7 @@ ghost use Rattle.card.specs.Promise.{card_of};
 
 use c_samples::tell;
 use c_states::{
-    holds_receiver, load_front, load_receiver, load_sender, store_front, store_receiver,
+    Copied, holds_receiver, load_front, load_receiver, load_sender, store_front, store_receiver,
     store_sender,
 };
 use openings::{Opened, Start};
@@ -65,10 +67,8 @@ pub fn demfizagu_sender_open_map(state: &mut [u64], map: u32, u: u32) -> u32
         return 8;
     }
     let o = sender::open_sender(c_layout::accord_by(map, u));
-    let s = o.sender;
-    let why = o.why;
-    store_sender(s, state);
-    sender::number(why)
+    store_sender(o.sender, state);
+    sender::number(o.why)
 }
 
 // Refused, in this order: a closed sender, a bit at or above 3 + 2u, an output shorter than four places.
@@ -76,13 +76,11 @@ pub fn demfizagu_send(state: &mut [u64], word: u32, out: &mut [i32]) -> u32
     ensures { Sends (send_call state.old word out.old) result state.new out.new }
 {
     let a = sender::send(load_sender(state), word, out);
-    let why = a.why;
-    let n = sender::number(why);
+    let n = sender::number(a.why);
     if n != 0 {
         return n;
     }
-    let s = a.sender;
-    store_sender(s, state);
+    store_sender(a.sender, state);
     n
 }
 
@@ -99,14 +97,12 @@ pub fn demfizagu_send_list(
         return 8;
     }
     let a = sender::send_list(load_sender(state), words, out);
-    let why = a.why;
     tell(told, a.sent, 4 * a.sent, 0);
-    let n = sender::number(why);
+    let n = sender::number(a.why);
     if a.sent == 0 {
         return n;
     }
-    let s = a.sender;
-    store_sender(s, state);
+    store_sender(a.sender, state);
     n
 }
 
@@ -117,10 +113,8 @@ fn opened(state: &mut [u64], o: Opened) -> u32
     if state.len() < c_layout::RECEIVER_WORDS {
         return 8;
     }
-    let rx = o.receiver;
-    let why = o.why;
-    store_receiver(rx, state);
-    reasons::number(why)
+    store_receiver(o.receiver, state);
+    reasons::number(o.why)
 }
 
 pub fn demfizagu_receiver_open(state: &mut [u64], u: u32, window: u32, start: u32) -> u32
@@ -157,42 +151,40 @@ pub fn demfizagu_receiver_open_plain(state: &mut [u64], u: u32) -> u32
 }
 
 // What a call came to, in the first three places of `told`. Gives its number.
-fn answer(told: &mut [u64], taken: usize, written: usize, why: Why) -> u32
+fn answer(told: &mut [u64], taken: usize, written: usize, why: Result<(), Why>) -> u32
     requires { 3 ≤ length told.old }
     ensures { (result ≡ (given_of why).number) × (told.new ≡ told_of taken written (given_of why).place told.old) }
 {
-    let place = reasons::place(why);
-    tell(told, taken, written, place as usize);
+    tell(told, taken, written, reasons::place(why) as usize);
     reasons::number(why)
 }
 
-// A piece, with the marks where `marked` says so. The receiver is heard in its parts: its picks, half of it, stay in the state, and the rest
+// A piece, with its marks where it has any. The receiver is heard in its parts: its picks, half of it, stay in the state, and the rest
 // is copied out of it, and back where a symbol was taken.
 fn hear_piece(
     state: &mut [u64],
-    marked: bool,
-    marks: &[u8],
+    marks: Option<&[u8]>,
     piece: &[i32],
     out: &mut [u32],
     told: &mut [u64],
 ) -> u32
-    ensures { Answers (hear_call state.old (piece_with marked marks.now piece.now) out.old told.old) result
+    ensures { Answers (hear_call state.old (piece_by marks.entry piece.now) out.old told.old) result
         state.new out.new told.new }
 {
     if told.len() < 3 {
         return 8;
     }
     if !holds_receiver(state) {
-        return answer(told, 0, 0, Why::Closed);
+        return answer(told, 0, 0, Err(Why::Closed));
     }
-    let copied = load_front(state);
-    let core = copied.core;
-    let mut sums = copied.sums;
-    let mut registers = copied.registers;
+    let Copied {
+        core,
+        mut sums,
+        mut registers,
+    } = load_front(state);
     let a = receiver::hear_piece_lent(
         true,
         core,
-        marked,
         marks,
         piece,
         &mut sums,
@@ -200,21 +192,23 @@ fn hear_piece(
         &mut state[c_layout::PICKS..c_layout::RECEIVER_WORDS],
         out,
     );
-    let why = a.why;
-    let n = answer(told, a.taken, a.written, why);
+    let n = answer(told, a.taken, a.written, a.why);
     if a.taken == 0 {
         return n;
     }
-    let after = a.core;
-    store_front(true, after, sums, registers, state);
+    let front = Copied {
+        core: a.core,
+        sums,
+        registers,
+    };
+    store_front(true, front, state);
     n
 }
 
 pub fn demfizagu_hear(state: &mut [u64], piece: &[i32], out: &mut [u32], told: &mut [u64]) -> u32
     ensures { Answers (hear_call state.old (piece_of piece.now) out.old told.old) result state.new out.new told.new }
 {
-    let none = [0u8; 0];
-    hear_piece(state, false, &none, piece, out, told)
+    hear_piece(state, None, piece, out, told)
 }
 
 // A mark for each symbol: 0 both points heard, 1 the first missing, 2 the second, 3 both.
@@ -228,7 +222,7 @@ pub fn demfizagu_hear_marked(
     ensures { Answers (hear_call state.old (marked_piece marks.now piece.now) out.old told.old) result
         state.new out.new told.new }
 {
-    hear_piece(state, true, marks, piece, out, told)
+    hear_piece(state, Some(marks), piece, out, told)
 }
 
 // The state is written back, closed, where the finish was done.
@@ -239,13 +233,11 @@ pub fn demfizagu_finish(state: &mut [u64], out: &mut [u32], told: &mut [u64]) ->
         return 8;
     }
     let a = receiver::finish(load_receiver(state), out);
-    let why = a.why;
-    let n = answer(told, a.taken, a.written, why);
+    let n = answer(told, a.taken, a.written, a.why);
     if n != 0 {
         return n;
     }
-    let rx = a.receiver;
-    store_receiver(rx, state);
+    store_receiver(a.receiver, state);
     n
 }
 
@@ -253,20 +245,13 @@ pub fn demfizagu_finish(state: &mut [u64], out: &mut [u32], told: &mut [u64]) ->
 pub fn demfizagu_pending(state: &[u64]) -> u32
     ensures { result ≡ pending_in state.now }
 {
-    let n = openings::pending(load_receiver(state));
-    n as u32
+    openings::pending(load_receiver(state)) as u32
 }
 
 pub fn demfizagu_is_open(state: &[u64]) -> u32
     ensures { result ≡ open_in state.now }
 {
-    if openings::is_open(load_receiver(state)) {
-        return 1;
-    }
-    if sender::is_open(load_sender(state)) {
-        return 1;
-    }
-    0
+    u32::from(openings::is_open(load_receiver(state)) || sender::is_open(load_sender(state)))
 }
 
 pub fn demfizagu_sample(x: f32, y: f32, out: &mut [i32]) -> u32
@@ -389,9 +374,11 @@ pub fn demfizagu_check_card(
 ) -> u32
     ensures { ChecksCard (accord_by map u) (card_of coordinates.now states.now symbols.now numbers.now) result }
 {
-    let k = c_layout::accord_by(map, u);
-    if card::check(k, coordinates, states, symbols, numbers) {
-        return 1;
-    }
-    0
+    u32::from(card::check(
+        c_layout::accord_by(map, u),
+        coordinates,
+        states,
+        symbols,
+        numbers,
+    ))
 }

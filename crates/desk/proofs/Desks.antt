@@ -15,7 +15,9 @@ use Rattle.page.specs.Page.{Puts}
 use Rattle.requests.specs.declared.Request.{Request}
 use Rattle.requests.specs.Named.{Named}
 use Rattle.requests.specs.Verb.{Sizes, Fit}
-use Rattle.samples.specs.declared.Marked.{Marked}
+use Rattle.std.specs.Prelude.{Option, Result as Outcome}
+use Rattle.samples.specs.declared.Heard.{Heard}
+use Rattle.samples.specs.declared.Fault.{Fault}
 use Rattle.samples.specs.Sampled.{GivenSampled, marked_given}
 use Rattle.samples.specs.Heard.{heard_coordinate, heard_bits, both_or_fault, heard_sample}
 use Rattle.sender.specs.declared.Sender.{Sender}
@@ -125,7 +127,7 @@ module _ {ran : Ran} {out : List ℕ} {a : Answer} {o : List ℕ} (is : Is ran o
 
 -- ---- a sample
 
-pub answer-text : {p q : Marked} {g : GivenSampled} → p ≡ q → marked_given p ≡ g → sampled_line (marked_given q) ≡ sampled_line g
+pub answer-text : {p q : Outcome (Option Heard) Fault} {g : GivenSampled} → p ≡ q → marked_given p ≡ g → sampled_line (marked_given q) ≡ sampled_line g
 answer-text e h = ap sampled_line (sym (ap marked_given e) ∙ h)
 
 pub sample-text : (fx fy : Float) (x y : ℕ) → heard_coordinate fx ≡ heard_bits x → heard_coordinate fy ≡ heard_bits y

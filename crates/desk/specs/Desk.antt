@@ -5,12 +5,14 @@
 --   says d t          the desk as it is, and the text t
 --   lent cap          "CAP is the length of the output lent"; what it holds makes no difference
 --   sender_gives, send_gives, list_gives, opening_gives, ran_gives   what a call gives, made into a desk and an answer
+--   heard_room n       what the answer of a piece or a finish takes at most, into an output of n words
 --   pending_of rx      "how many symbols the receiver holds undecided; 0 if it is closed"
 --   acting d r l      what the request r does to the desk d, where the lists l start with what its line names
 --   Does g most ..    what was done is g: its desk, and its text put into the page, of so many bytes at most
 --   Acts ..           what was done is what the request does
 use Rattle.std.specs.Prelude.{ℕ, ◌+◌, ◌*◌, ◌≤◌, ◌≡◌, cond, List, [], ℤ, pos, take, replicate}
 use Rattle.page.specs.Page.{Puts}
+use Rattle.phrases.specs.Phrase.{words_room}
 use Rattle.requests.specs.declared.Request.{Request}
 use Rattle.requests.specs.declared.Request.TheVariants as request
 use Rattle.requests.specs.Named.{Named}
@@ -62,6 +64,9 @@ ran_gives d r = says (with_receiver d r.receiver) (heard_line r.taken (given_of 
 
 abbrev pub lent : ℕ → List ℤ
 lent cap = replicate cap (pos 0)
+
+abbrev pub heard_room : ℕ → ℕ
+heard_room n = 92 + words_room n
 
 abbrev pub pending_of : Receiver → ℕ
 pending_of rx = cond (machine.sound rx) rx.core.pending 0

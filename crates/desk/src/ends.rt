@@ -9,9 +9,8 @@ use sender::Sender;
 pub fn with_sender(desk: Desk, sender: Sender, at: usize) -> Done
     ensures { result ≡ record { desk = with_sender desk sender; at = at } }
 {
-    let receiver = desk.receiver;
     Done {
-        desk: Desk { sender, receiver },
+        desk: Desk { sender, ..desk },
         at,
     }
 }
@@ -19,9 +18,8 @@ pub fn with_sender(desk: Desk, sender: Sender, at: usize) -> Done
 pub fn with_receiver(desk: Desk, receiver: Receiver, at: usize) -> Done
     ensures { result ≡ record { desk = with_receiver desk receiver; at = at } }
 {
-    let sender = desk.sender;
     Done {
-        desk: Desk { sender, receiver },
+        desk: Desk { receiver, ..desk },
         at,
     }
 }

@@ -2,7 +2,7 @@
 // the bytes are that a read gives, and what becomes of those that are written, no contract can say. Nothing here allocates.
 #![tactic(auto)]
 
-ghost use Rattle.std.specs.Prelude.{pos, ◌≤ℤ◌, length};
+ghost use Rattle.std.specs.Prelude.{◌≤◌, length, Some, IfSome};
 
 use std::env::{Env, FillError};
 use std::fmt::InlineText;
@@ -17,41 +17,64 @@ pub struct Streams {
 
 // Text for the error stream. Where that fails there is nowhere to tell it.
 pub fn note(to: Streams, text: &[u8]) {
-    let err = to.err;
-    let _ = err.write_all(text);
+    let _ = to.err.write_all(text);
 }
 
 // A line on the error stream: what failed, as the caller names it, a colon, and the system's text for it.
 pub fn tell(to: Streams, what: &[u8], why: Error) {
     let shown = InlineText::<256>::of(why);
     let text = shown.as_str();
-    let name = match text.split_once(" (os error ") {
-        Some((name, _)) => name,
-        None => text,
-    };
+    let name = text
+        .split_once(" (os error ")
+        .map_or(text, |(name, _)| name);
     note(to, what);
     note(to, b": ");
     note(to, name.as_bytes());
     note(to, b"\n");
 }
 
-// Reads once, and answers how many bytes it gave, 0 at the input's end, or -1 where it failed, which is told.
-pub fn read<R: Read>(from: &mut R, chunk: &mut [u8], to: Streams, what: &[u8]) -> isize
-    ensures { result ≤ℤ pos (length chunk.new) }
+// Reads once, and answers how many bytes it gave, 0 at the input's end. A read that failed is told, and gives none.
+pub fn read<R: Read>(from: &mut R, chunk: &mut [u8], to: Streams, what: &[u8]) -> Option<usize>
+    ensures { IfSome result (λ n. n ≤ length chunk.new) }
 {
     match from.read(chunk) {
-        Ok(n) => n as isize,
+        Ok(n) => Some(n),
         Err(why) => {
             tell(to, what, why);
-            -1
+            None
         }
     }
 }
 
-// Writes all of it to standard output. Where that fails it is told, and the answer is false.
+// All that the reader has, chunk after chunk: each goes to the step with what the chunks before it left. Gives what the last one left, or
+// none where a read failed, which is told, or where the step left nothing. A proved loop has to end, and nothing says that the input does: no
+// run uses up so many reads.
+pub fn each_chunk<R: Read, T: Copy, F: FnMut(T, &[u8]) -> Option<T>>(
+    from: &mut R,
+    chunk: &mut [u8],
+    to: Streams,
+    what: &[u8],
+    first: T,
+    mut step: F,
+) -> Option<T>
+    requires first_taken { (b : _) → F.pre step first b }
+    requires next_taken { (f : F) (x : T) (b : _) (y : T) (g : F) → F.pre f x b → F.step f x b (Some y) g → (c : _) → F.pre g y c }
+    ensures { IfSome result (λ last. (f : F) × ((b : _) → F.pre f last b)) }
+{
+    let mut now = first;
+    for _ in 0..u64::MAX {
+        let n = read(from, chunk, to, what)?;
+        if n == 0 {
+            break;
+        }
+        now = step(now, &chunk[..n])?;
+    }
+    Some(now)
+}
+
+// Writes all of it to standard output. Where that fails it is told, and the answer is false: a bool, since the error is used up here.
 pub fn write(to: Streams, text: &[u8], what: &[u8]) -> bool {
-    let out = to.out;
-    match out.write_all(text) {
+    match to.out.write_all(text) {
         Ok(()) => true,
         Err(why) => {
             tell(to, what, why);
@@ -63,11 +86,7 @@ pub fn write(to: Streams, text: &[u8], what: &[u8]) -> bool {
 // Whether the program was given an argument of this number; 0 is its own name.
 pub fn is_given<E: Env>(env: &E, i: usize) -> bool {
     let mut word = [0u8; 1];
-    match env.arg(i, &mut word) {
-        Ok(_) => true,
-        Err(FillError::TooLong) => true,
-        Err(FillError::NotPresent) => false,
-    }
+    !matches!(env.arg(i, &mut word), Err(FillError::NotPresent))
 }
 
 // The error of an argument that was not had: it is missing, or it is longer than the room for it.

@@ -4,17 +4,17 @@ use edge::Streams;
 use std::env::{Env, FillError};
 use text::token;
 
-// The place of the first word that is not `help`, or 0 where there is none.
-fn other_word<E: Env>(env: &E) -> usize {
+// The place of the first word that is not `help`, if there is one.
+fn other_word<E: Env>(env: &E) -> Option<usize> {
     for i in 1..usize::MAX {
         if !edge::is_given(env, i) {
-            return 0;
+            return None;
         }
         if !is_help(env, i) {
-            return i;
+            return Some(i);
         }
     }
-    0
+    None
 }
 
 // A word that has no room is longer than `help`.
@@ -41,16 +41,12 @@ fn name<E: Env>(env: &E, to: Streams, i: usize) {
 
 // Says what was asked for, or why not.
 pub fn answer<E: Env>(env: &E, to: Streams) {
-    let other = other_word(env);
-    if other > 0 {
+    if let Some(other) = other_word(env) {
         name(env, to, other);
-        let err = to.err;
-        let _ = help::show(&err);
+        let _ = help::show(&to.err);
         return;
     }
-    let out = to.out;
-    match help::show(&out) {
-        Ok(()) => {}
-        Err(why) => edge::tell(to, b"lab: standard output", why),
+    if let Err(why) = help::show(&to.out) {
+        edge::tell(to, b"lab: standard output", why);
     }
 }

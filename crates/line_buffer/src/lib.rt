@@ -4,7 +4,8 @@
 ghost use Rattle.std.specs.Prelude.{◌≡◌, List, ◌++◌, ℕ, ◌≤◌, length};
 ghost use Rattle.line_buffer.specs.Part.{Gathered, no_part};
 
-// The line so far: how many bytes of it are in the buffer, or that it is too long and is skipped.
+// The line so far: how many bytes of it are in the buffer, or that it is too long and is skipped. `held` is a number then too, 0, and no
+// Option: the contracts of `line_reply` and `stream` bound it whether the line is too long or not.
 #[derive(Clone, Copy)]
 pub struct Part {
     pub held: usize,
@@ -20,15 +21,14 @@ pub fn gather(part: Part, line: &mut [u8], bytes: &[u8]) -> Part
     if part.long {
         return part;
     }
-    let held = part.held;
-    if line.len() - held < bytes.len() {
+    if line.len() - part.held < bytes.len() {
         return Part {
             held: 0,
             long: true,
         };
     }
     Part {
-        held: page::put_text(line, held, bytes),
+        held: page::put_text(line, part.held, bytes),
         long: false,
     }
 }

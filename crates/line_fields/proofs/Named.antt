@@ -15,11 +15,10 @@ use Rattle.points.specs.declared.Map.TheVariants.{Square}
 use Rattle.text.specs.Bytes.{bytes}
 use Rattle.text.specs.Token.{tokens, length_before, Cuts, same_bytes}
 use Rattle.text.specs.Number.{number_of}
-use Rattle.text.specs.declared.number.Number.{Number}
+use Rattle.std.specs.Prelude.{Option, Some, None}
 use Rattle.text.proofs.Tokens.{last-token, more-tokens, not-empty, at-most-all}
 use Rattle.text.proofs.Cut.{after, some_more, first-and-rest}
-use Rattle.line_fields.specs.declared.map_names.Which.{Which}
-use Rattle.line_fields.specs.declared.map_names.Which.TheVariants as which
+use Rattle.points.specs.declared.Map.{Map}
 use Rattle.line_fields.specs.declared.map_names.Numbered.{Numbered}
 use Rattle.line_fields.specs.Names.{map_named, numbered_by, numbered_of}
 
@@ -44,22 +43,22 @@ spaced-other s h = by (same_bytes s (bytes "square")) refl
     by true e = absurd (let k : length_before 32 (bytes "square") < length (bytes "square") = rw (same-equal s (bytes "square") e) at h in omega arith)
     by false e = refl
 
-named_by : (s : List ℕ) (b : Bool) → b ≡ same_bytes s (bytes "square") → cond b (which.On Square) which.Unread ≡ map_named (tokens s)
+named_by : (s : List ℕ) (b : Bool) → b ≡ same_bytes s (bytes "square") → cond b (Some Square) None ≡ map_named (tokens s)
 named_by s b e = rw e (by (ltb (length_before 32 s) (length s)) refl)
   where
-    many : (t : List ℕ) (ts : List (List ℕ)) → (length ts ≡ 0 → ⊥) → which.Unread ≡ map_named (t ∷ ts)
+    many : (t : List ℕ) (ts : List (List ℕ)) → (length ts ≡ 0 → ⊥) → None ≡ map_named (t ∷ ts)
     many t [] f = absurd (f refl)
     many t (t' ∷ ts) f = refl
 
-    by : (c : Bool) → ltb (length_before 32 s) (length s) ≡ c → cond (same_bytes s (bytes "square")) (which.On Square) which.Unread ≡ map_named (tokens s)
+    by : (c : Bool) → ltb (length_before 32 s) (length s) ≡ c → cond (same_bytes s (bytes "square")) (Some Square) None ≡ map_named (tokens s)
     by true e =
         let less : length_before 32 s < length s = ltb-true _ _ e in
         rw (spaced-other s less, more-tokens s less) (many (take (length_before 32 s) s) (tokens (drop (suc (length_before 32 s)) s)) (not-empty (drop (suc (length_before 32 s)) s)))
     by false e = rw (last-token s (omega (arith, ltb-false (length_before 32 s) (length s) e, at-most-all 32 s)))
 
 module _ {s : List ℕ} {n : ℕ} (cut : Cuts 32 s n) where
-  pub after-named : {b : Bool} → (n ≡ length s → ⊥) → b ≡ same_bytes (after n s) (bytes "square") → cond b (which.On Square) which.Unread ≡ map_named (drop 1 (tokens s))
+  pub after-named : {b : Bool} → (n ≡ length s → ⊥) → b ≡ same_bytes (after n s) (bytes "square") → cond b (Some Square) None ≡ map_named (drop 1 (tokens s))
   after-named {b} h e = named_by (after n s) b e ∙ ap map_named (sym (some_more cut h))
 
-  pub numbered-read : {o : Number} {w : Which} {r : Numbered} → o ≡ number_of 10 4294967295 (take n s) → w ≡ map_named (drop 1 (tokens s)) → r ≡ numbered_by o w → r ≡ numbered_of (tokens s)
+  pub numbered-read : {o : Option ℕ} {w : Option Map} {r : Option Numbered} → o ≡ number_of 10 4294967295 (take n s) → w ≡ map_named (drop 1 (tokens s)) → r ≡ numbered_by o w → r ≡ numbered_of (tokens s)
   numbered-read e f g = g ∙ ap₂ numbered_by e f ∙ sym (ap numbered_of (first-and-rest cut))

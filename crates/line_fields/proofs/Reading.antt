@@ -7,7 +7,7 @@
 use Prim.Native.Nat.{ℕ, suc, ◌+◌, ◌-◌, ◌≤◌, ◌<◌}
 use mathlib.Core.Path.{◌≡◌, refl, sym, ap, ◌∙◌}
 use mathlib.Core.List.{List, [], ◌∷◌, ◌++◌, append-nil}
-use mathlib.Core.Option.{Option, none, some}
+use Rattle.std.specs.Prelude.{Option, Some, None}
 use native.Mathlib.Omega.{arith}
 use native.Mathlib.Nat.{add-sub_cancel_left}
 use native.Mathlib.Numerals.{add-one}
@@ -18,22 +18,20 @@ use lib.Seq.{drop-drop, take-suc-set, take_all, append_snoc}
 use Rattle.text.specs.Token.{tokens, length_before, Cuts}
 use Rattle.text.proofs.Digits.{to_end}
 use Rattle.text.proofs.Tokens.{last-token, more-tokens, token_end}
-use Rattle.line_fields.specs.declared.Place.{Place}
-use Rattle.line_fields.specs.declared.Place.TheVariants as place
 use Rattle.line_fields.specs.Fields.{tokens_at, Field, with_first, field_of, field_in, Gives}
 
 -- numbers more in front
 abbrev onto : {A : Type 0} → List A → Option (Field A) → Option (Field A)
-onto xs (some f) = some (record { values = xs ++ f.values; rest = f.rest })
-onto xs none = none
+onto xs (Some f) = Some (record { values = xs ++ f.values; rest = f.rest })
+onto xs None = None
 
 onto-none : {A : Type 0} (o : Option (Field A)) → o ≡ onto [] o
-onto-none (some f) = refl
-onto-none none = refl
+onto-none (Some f) = refl
+onto-none None = refl
 
-onto-more : {A : Type 0} (xs : List A) (x : A) (o : Option (Field A)) → onto xs (with_first (some x) o) ≡ onto (xs ++ (x ∷ [])) o
-onto-more {A} xs x (some f) = ap (λ (l : List A). some (record { values = l; rest = f.rest })) (sym (append_snoc xs x f.values))
-onto-more xs x none = refl
+onto-more : {A : Type 0} (xs : List A) (x : A) (o : Option (Field A)) → onto xs (with_first (Some x) o) ≡ onto (xs ++ (x ∷ [])) o
+onto-more {A} xs x (Some f) = ap (λ (l : List A). Some (record { values = l; rest = f.rest })) (sym (append_snoc xs x f.values))
+onto-more xs x None = refl
 
 -- ---- the tokens from a place on
 
@@ -53,7 +51,7 @@ one_token s from n h cut = rw (le-leb from (length s) h) (go (ℕ_discrete (from
         rw (none_left s (from + n + 1) (omega arith), take_all n (drop from s) (omega arith)) (last-token (drop from s) (omega (arith, is)))
     go (no e) =
         let short : from + n < length s = omega (arith, token_end s from h cut, e) in
-        let some : n < length (drop from s) = rw length-drop (omega arith) in
+        let inside : n < length (drop from s) = rw length-drop (omega arith) in
         let after : from + suc n ≡ from + n + 1 = omega arith in
         rw (le-leb (from + n + 1) (length s) (omega arith), more-tokens (drop from s) (omega (arith, is)), ← is, drop-drop (suc n) from s, after)
 
@@ -66,8 +64,8 @@ pub record Read {A : Type 0} (p : List ℕ → Option A) (s : List ℕ) (at n fr
   pub field : field_of p n (tokens_at s at) ≡ onto (take k list) (field_of p left (tokens_at s from))
 
 -- a first token t that writes x
-one-read : {A : Type 0} (p : List ℕ → Option A) {left l : ℕ} {t : List ℕ} {ts tts : List (List ℕ)} {x : A} → left ≡ suc l → tts ≡ t ∷ ts → p t ≡ some x →
-    field_of p left tts ≡ with_first (some x) (field_of p l ts)
+one-read : {A : Type 0} (p : List ℕ → Option A) {left l : ℕ} {t : List ℕ} {ts tts : List (List ℕ)} {x : A} → left ≡ suc l → tts ≡ t ∷ ts → p t ≡ Some x →
+    field_of p left tts ≡ with_first (Some x) (field_of p l ts)
 one-read p a b c = rw (a, b, c)
 
 module _ {A : Type 0} (p : List ℕ → Option A) (s : List ℕ) (at : ℕ) where
@@ -75,12 +73,12 @@ module _ {A : Type 0} (p : List ℕ → Option A) (s : List ℕ) (at : ℕ) wher
   begun list = record { left = length list; counts = omega arith; long = refl; field = onto-none _ }
 
 module _ {A : Type 0} {p : List ℕ → Option A} {s : List ℕ} {at n from k : ℕ} {list : List A} (r : Read p s at n from k list) where
-  pub ended : length list ≤ k → Gives p s at n (place.At from) list
+  pub ended : length list ≤ k → Gives p s at n (Some from) list
   ended h =
       let done : r.left ≡ 0 = omega (arith, r.counts, r.long) in
       let all : take k list ++ [] ≡ list = append-nil (take k list) ∙ take_all k list h in
       record {
-        field = sym (r.field ∙ rw done (ap (λ (l : List A). some (record { values = l; rest = tokens_at s from })) all));
+        field = sym (r.field ∙ rw done (ap (λ (l : List A). Some (record { values = l; rest = tokens_at s from })) all));
         long = r.long;
       }
 
@@ -88,21 +86,21 @@ module _ {A : Type 0} {p : List ℕ → Option A} {s : List ℕ} {at n from k : 
     one_left : r.left ≡ suc (r.left - 1)
     one_left = omega (arith, r.counts, r.long)
 
-    pub gone : length s < from → Gives p s at n place.Bad list
+    pub gone : length s < from → Gives p s at n None list
     gone h = record { field = sym (r.field ∙ rw (one_left, none_left s from h)); long = r.long }
 
     module _ (begins : from ≤ length s) {m : ℕ} (cut : Cuts 32 (take (length s - from) (drop from s)) m) where
       pub within : from + m ≤ length s
       within = token_end s from begins cut
 
-      pub bad : none ≡ p (take (from + m - from) (drop from s)) → Gives p s at n place.Bad list
+      pub bad : None ≡ p (take (from + m - from) (drop from s)) → Gives p s at n None list
       bad h =
-          let nothing : p (take m (drop from s)) ≡ none = sym (rw (add-sub_cancel_left from m) at h) in
+          let nothing : p (take m (drop from s)) ≡ None = sym (rw (add-sub_cancel_left from m) at h) in
           record { field = sym (r.field ∙ rw (one_left, one_token s from m begins cut, nothing)); long = r.long }
 
-      pub more : (v x : A) → x ≡ v → some v ≡ p (take (from + m - from) (drop from s)) → Read p s at n (from + m + 1) (k + 1) (set list k x)
+      pub more : (v x : A) → x ≡ v → Some v ≡ p (take (from + m - from) (drop from s)) → Read p s at n (from + m + 1) (k + 1) (set list k x)
       more v x same h =
-          let got : p (take m (drop from s)) ≡ some x = sym (rw (add-sub_cancel_left from m) at h) ∙ ap (λ (a : A). some a) (sym same) in
+          let got : p (take m (drop from s)) ≡ Some x = sym (rw (add-sub_cancel_left from m) at h) ∙ ap (λ (a : A). Some a) (sym same) in
           let stored : take (k + 1) (set list k x) ≡ take k list ++ (x ∷ []) = rw add-one (take-suc-set list k x space) in
           let o = field_of p (r.left - 1) (tokens_at s (from + m + 1)) in
           record {
@@ -118,6 +116,6 @@ module _ {A : Type 0} {p : List ℕ → Option A} {s : List ℕ} {at n from k : 
 
 -- ---- settled
 
-pub one_field : {A : Type 0} {p : List ℕ → Option A} {s : List ℕ} {at n : ℕ} {r r' : Place} {list list' : List A} → Gives p s at n r list → Gives p s at n r' list' →
+pub one_field : {A : Type 0} {p : List ℕ → Option A} {s : List ℕ} {at n : ℕ} {r r' : Option ℕ} {list list' : List A} → Gives p s at n r list → Gives p s at n r' list' →
     field_in s list r ≡ field_in s list' r'
 one_field a b = a.field ∙ sym b.field

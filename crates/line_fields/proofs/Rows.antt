@@ -1,36 +1,30 @@
 -- Laws of rows of marks: byte by byte, and what stands in a list that is filled with them.
 use Prim.Native.Nat.{ℕ, zero, suc, ◌+◌, ◌-◌, ◌≤◌, ◌<◌}
 use mathlib.Core.Path.{◌≡◌, refl, ap, ◌∙◌}
-use mathlib.Core.Bool.{Bool, true, false, cond, false≢true}
+use mathlib.Core.Bool.{Bool, true, false, cond, ◌&&◌, false≢true}
+use Rattle.std.specs.List.{list_all}
 use mathlib.Core.List.{List, [], ◌∷◌, ◌++◌}
-use mathlib.Core.Option.{none, some}
+use Rattle.std.specs.Prelude.{Some, None}
 use native.Mathlib.Numerals.{add-one}
 use native.Mathlib.Omega.{arith}
 use borrow.Author.Tests.{leb-true, le-leb, lt-leb}
 use lib.Dec.{leb}
-use lib.ListN.{length, get_or, set, take, drop, length-append, length-drop, drop_of_length-le}
-use lib.Seq.{drop-cons, take-suc, take_all, length-take-le}
+use lib.ListN.{length, get_or, set, take, drop, length-append, length-drop}
+use lib.Seq.{take-suc, take_all, length-take-le}
 use Rattle.lists.proofs.Filled.{set_next}
 use Rattle.line_fields.specs.Row.{is_mark, all_marks, marks_of, is_row, row_of, count_of, Row}
 use Rattle.text.specs.Bytes.{bytes}
 use Rattle.text.specs.Token.{same_bytes}
-use Rattle.number_lists.specs.declared.Many.TheVariants as many
 
-module _ (t : List ℕ) (i : ℕ) (in-range : i < length t) where
-  pub too-low : get_or t i 0 < 48 → all_marks (drop i t) ≡ false
-  unfolding is_mark
-  too-low h = rw (drop-cons t i 0 in-range) (simp (lt-leb 48 (get_or t i 0) h))
-
-  pub too-high : 51 < get_or t i 0 → all_marks (drop i t) ≡ false
-  unfolding is_mark
-  too-high h = rw (drop-cons t i 0 in-range) (simp (le-leb 48 (get_or t i 0) (omega arith), lt-leb (get_or t i 0) 51 h))
-
-  pub one_more : 48 ≤ get_or t i 0 → get_or t i 0 ≤ 51 → all_marks (drop (i + 1) t) ≡ all_marks (drop i t)
-  unfolding is_mark
-  one_more a b = rw (add-one, drop-cons t i 0 in-range) (simp (le-leb 48 (get_or t i 0) a, le-leb (get_or t i 0) 51 b))
-
-pub all_seen : (t : List ℕ) (i : ℕ) → length t ≤ i → all_marks (drop i t) ≡ true
-all_seen t i h = rw (drop_of_length-le t h)
+-- the test of each byte, as the code writes it
+pub tests-marks : (t : List ℕ) → list_all (λ b. leb 48 b && leb b 51) t ≡ all_marks t
+unfolding is_mark
+tests-marks [] = refl
+tests-marks (b ∷ t) = rw (tests-marks t) (by (leb 48 b) (leb b 51) (all_marks t)) where
+  by : (x y z : Bool) → ((x && y) && z) ≡ cond (cond x y false) z false
+  by true true z = refl
+  by true false z = refl
+  by false y z = refl
 
 pub marks-length : (t : List ℕ) → length (marks_of t) ≡ length t
 marks-length [] = refl
@@ -75,16 +69,16 @@ module _ (t l₀ : List ℕ) {l : List ℕ} (i : ℕ) (is : l ≡ take i (marks_
 
 -- what is read of a token
 module _ (t l : List ℕ) where
-  pub no-marks : same_bytes t (bytes "-") ≡ true → Row t l (many.Got 0) l
+  pub no-marks : same_bytes t (bytes "-") ≡ true → Row t l (Some 0) l
   unfolding row_of
   no-marks e = record { count = rw e; filled = rw e }
 
   module _ (other : same_bytes t (bytes "-") ≡ false) where
-    pub no_row : is_row (length l) t ≡ false → Row t l many.Bad l
+    pub no_row : is_row (length l) t ≡ false → Row t l None l
     unfolding row_of
     no_row e = record { count = rw (other, e); filled = rw (other, e) }
 
-    pub a-row : {l' : List ℕ} → is_row (length l) t ≡ true → l' ≡ marks_of t ++ drop (length t) l → Row t l (many.Got (length t)) l'
+    pub a-row : {l' : List ℕ} → is_row (length l) t ≡ true → l' ≡ marks_of t ++ drop (length t) l → Row t l (Some (length t)) l'
     unfolding row_of
     a-row e f = record { count = rw (other, e, marks-length t); filled = f ∙ rw (other, e, marks-length t) }
 
@@ -94,19 +88,19 @@ module _ (t : List ℕ) (room : ℕ) where
   unfolding is_row
   empty-row h = simp (lt-leb 1 (length t) h)
 
-  module _ (some : 1 ≤ length t) where
+  module _ (any : 1 ≤ length t) where
     pub long-row : 1024 < length t → is_row room t ≡ false
     unfolding is_row
-    long-row h = simp (le-leb 1 (length t) some, lt-leb (length t) 1024 h)
+    long-row h = simp (le-leb 1 (length t) any, lt-leb (length t) 1024 h)
 
     module _ (few : length t ≤ 1024) where
       pub crowded-row : room < length t → is_row room t ≡ false
       unfolding is_row
-      crowded-row h = simp (le-leb 1 (length t) some, le-leb (length t) 1024 few, lt-leb (length t) room h)
+      crowded-row h = simp (le-leb 1 (length t) any, le-leb (length t) 1024 few, lt-leb (length t) room h)
 
       pub by_bytes : length t ≤ room → is_row room t ≡ all_marks t
       unfolding is_row
-      by_bytes h = simp (le-leb 1 (length t) some, le-leb (length t) 1024 few, le-leb (length t) room h)
+      by_bytes h = simp (le-leb 1 (length t) any, le-leb (length t) 1024 few, le-leb (length t) room h)
 
 -- a row is marks, and there is room for them
 module _ (t : List ℕ) (room : ℕ) (row : is_row room t ≡ true) where
@@ -129,10 +123,10 @@ module _ (t : List ℕ) (room : ℕ) (row : is_row room t ≡ true) where
   few = leb-true (length t) 1024 is-row.1
 
 -- no more marks than a line can have
-pub row-most : (room : ℕ) (t : List ℕ) {n : ℕ} → many.Got n ≡ count_of (row_of room t) → n ≤ 1024
+pub row-most : (room : ℕ) (t : List ℕ) {n : ℕ} → Some n ≡ count_of (row_of room t) → n ≤ 1024
 unfolding row_of
 row-most room t {n} e = by (same_bytes t (bytes "-")) (is_row room t) refl e where
-  by : (a b : Bool) → is_row room t ≡ b → many.Got n ≡ count_of (cond a (some []) (cond b (some (marks_of t)) none)) → n ≤ 1024
+  by : (a b : Bool) → is_row room t ≡ b → Some n ≡ count_of (cond a (Some []) (cond b (Some (marks_of t)) None)) → n ≤ 1024
   by true b f g = let is : n ≡ 0 = cc in omega arith
   by false true f g = let is : n ≡ length (marks_of t) = cc in omega (arith, marks-length t, few t room f)
   by false false f g = let z : ◌≡◌ {A = ℕ} 0 1 = cc in absurd (omega arith)

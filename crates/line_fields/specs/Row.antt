@@ -6,12 +6,9 @@
 --   row_of room t          the marks that t writes, if it writes any
 --   count_of, mark_fills    how many they are; the list lent for marks after that: the marks at its start, and the list as it was elsewhere
 --   Row t list r list'    r is that count, and list' that list
-use Rattle.std.specs.Prelude.{ℕ, ◌-◌, ◌≡◌, Bool, true, false, cond, List, [], ◌∷◌, ◌++◌, leb, length, drop}
-use Rattle.std.proofs.Math.Option.{Option, none, some}
+use Rattle.std.specs.Prelude.{ℕ, ◌-◌, ◌≡◌, Bool, true, false, cond, Option, Some, None, List, [], ◌∷◌, ◌++◌, leb, length, drop}
 use Rattle.text.specs.Bytes.{bytes}
 use Rattle.text.specs.Token.{same_bytes}
-use Rattle.number_lists.specs.declared.Many.{Many}
-use Rattle.number_lists.specs.declared.Many.TheVariants as many
 
 unfoldable pub is_mark : ℕ → Bool
 is_mark b = cond (leb 48 b) (leb b 51) false
@@ -28,16 +25,16 @@ unfoldable pub is_row : ℕ → List ℕ → Bool
 is_row room t = cond (leb 1 (length t)) (cond (leb (length t) 1024) (cond (leb (length t) room) (all_marks t) false) false) false
 
 unfoldable pub row_of : ℕ → List ℕ → Option (List ℕ)
-row_of room t = cond (same_bytes t (bytes "-")) (some []) (cond (is_row room t) (some (marks_of t)) none)
+row_of room t = cond (same_bytes t (bytes "-")) (Some []) (cond (is_row room t) (Some (marks_of t)) None)
 
-abbrev pub count_of : Option (List ℕ) → Many
-count_of (some ms) = many.Got (length ms)
-count_of none = many.Bad
+abbrev pub count_of : Option (List ℕ) → Option ℕ
+count_of (Some ms) = Some (length ms)
+count_of None = None
 
 abbrev pub mark_fills : Option (List ℕ) → List ℕ → List ℕ
-mark_fills (some ms) list = ms ++ drop (length ms) list
-mark_fills none list = list
+mark_fills (Some ms) list = ms ++ drop (length ms) list
+mark_fills None list = list
 
-pub record Row (t list : List ℕ) (r : Many) (list' : List ℕ) : Type 0 where
+pub record Row (t list : List ℕ) (r : Option ℕ) (list' : List ℕ) : Type 0 where
   pub count : r ≡ count_of (row_of (length list) t)
   pub filled : list' ≡ mark_fills (row_of (length list) t) list

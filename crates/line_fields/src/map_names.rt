@@ -7,45 +7,34 @@ ghost use Rattle.text.specs.Token.{tokens, Cuts};
 ghost use Rattle.line_fields.specs.Names.{map_named, numbered_of};
 
 use points::Map;
-use text::number::Number;
 use text::{number, token};
 
 #[derive(Clone, Copy)]
-pub enum Which {
-    On(Map),
-    Unread,
-}
-
-#[derive(Clone, Copy)]
-pub enum Numbered {
-    On { map: Map, number: u32 },
-    Unread,
+pub struct Numbered {
+    pub map: Map,
+    pub number: u32,
 }
 
 // The map that the tokens after the first name, which ends at n.
-pub fn map_after(rest: &[u8], n: usize) -> Which
+pub fn map_after(rest: &[u8], n: usize) -> Option<Map>
     requires { Cuts 32 rest.now n }
     ensures { result ≡ map_named (drop 1 (tokens rest.now)) }
 {
     if n == rest.len() {
-        return Which::On(Map::Round);
+        return Some(Map::Round);
     }
     if token::same(&rest[n + 1..], b"square") {
-        return Which::On(Map::Square);
+        return Some(Map::Square);
     }
-    Which::Unread
+    None
 }
 
 // A number, and the map after it.
-pub fn number_and_map(rest: &[u8]) -> Numbered
+pub fn number_and_map(rest: &[u8]) -> Option<Numbered>
     ensures { result ≡ numbered_of (tokens rest.now) }
 {
     let n = token::before(rest, b' ');
-    let Number::Got(number) = number::decimal(&rest[..n], 4294967295) else {
-        return Numbered::Unread;
-    };
-    let Which::On(map) = map_after(rest, n) else {
-        return Numbered::Unread;
-    };
-    Numbered::On { map, number }
+    let number = number::decimal(&rest[..n], u32::MAX)?;
+    let map = map_after(rest, n)?;
+    Some(Numbered { map, number })
 }

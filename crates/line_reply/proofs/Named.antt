@@ -8,7 +8,7 @@ use Prim.Native.Nat.{ℕ, ◌≤◌}
 use mathlib.Core.Path.{◌≡◌, refl, sym, ap, subst, ◌∙◌}
 use mathlib.Core.Bool.{Bool, true, false, cond}
 use mathlib.Core.List.{List, [], ◌∷◌}
-use mathlib.Core.Option.{Option, none, some}
+use Rattle.std.specs.Prelude.{Option, Some, None}
 use native.Mathlib.Omega.{arith}
 use borrow.Author.Tests.{lt-ltb, le-ltb}
 use lib.Dec.{eqb, leb}
@@ -21,15 +21,8 @@ use Rattle.text.specs.Token.{tokens, same_bytes}
 use Rattle.text.specs.Number.{hex_of}
 use Rattle.number_lists.specs.Many.{whole_in, number_in, first_of, many_of}
 use Rattle.number_lists.proofs.Lists.{counted}
-use Rattle.text.specs.declared.number.Number.{Number}
-use Rattle.text.specs.declared.number.Number.TheVariants as number
-use Rattle.number_lists.specs.declared.Many.{Many}
-use Rattle.number_lists.specs.declared.Many.TheVariants as many
 use Rattle.points.specs.declared.Map.{Map}
-use Rattle.line_fields.specs.declared.map_names.Which.{Which}
-use Rattle.line_fields.specs.declared.map_names.Which.TheVariants as which
 use Rattle.line_fields.specs.declared.map_names.Numbered.{Numbered}
-use Rattle.line_fields.specs.declared.map_names.Numbered.TheVariants as numbered
 use Rattle.line_fields.specs.Names.{map_named, numbered_of}
 use Rattle.requests.specs.declared.Request.{Request}
 use Rattle.requests.specs.declared.Request.TheVariants as request
@@ -82,13 +75,13 @@ Same k = (l l' : Named) → cut k l ≡ cut k l'
 unread-same : Same request.Unread
 unread-same l l' = refl
 
-just-same : (f : ℕ → Request) → ((n : ℕ) → Same (f n)) → (o : Number) → Same (just f o)
-just-same f h (number.Got n) = h n
-just-same f h number.Bad = unread-same
+just-same : (f : ℕ → Request) → ((n : ℕ) → Same (f n)) → (o : Option ℕ) → Same (just f o)
+just-same f h (Some n) = h n
+just-same f h None = unread-same
 
-both-same : (f : ℕ → ℕ → Request) → ((m n : ℕ) → Same (f m n)) → (o p : Number) → Same (both f o p)
-both-same f h (number.Got m) p = just-same (f m) (h m) p
-both-same f h number.Bad p = unread-same
+both-same : (f : ℕ → ℕ → Request) → ((m n : ℕ) → Same (f m n)) → (o p : Option ℕ) → Same (both f o p)
+both-same f h (Some m) p = just-same (f m) (h m) p
+both-same f h None p = unread-same
 
 one_same : (g : List ℕ → Request) → ((t : List ℕ) → Same (g t)) → (ts : List (List ℕ)) → Same (one g ts)
 one_same g h [] = unread-same
@@ -103,13 +96,13 @@ cond_same : (b : Bool) (k k' : Request) → Same k → Same k' → Same (cond b 
 cond_same true k k' h h' = h
 cond_same false k k' h h' = h'
 
-map_same : (f : Map → Request) → ((m : Map) → Same (f m)) → (w : Which) → Same (on_map f w)
-map_same f h (which.On m) = h m
-map_same f h which.Unread = unread-same
+map_same : (f : Map → Request) → ((m : Map) → Same (f m)) → (w : Option Map) → Same (on_map f w)
+map_same f h (Some m) = h m
+map_same f h None = unread-same
 
-number_same : (f : Map → ℕ → Request) → ((m : Map) (n : ℕ) → Same (f m n)) → (o : Numbered) → Same (on_number f o)
-number_same f h (numbered.On m n) = h m n
-number_same f h numbered.Unread = unread-same
+number_same : (f : Map → ℕ → Request) → ((m : Map) (n : ℕ) → Same (f m n)) → (o : Option Numbered) → Same (on_number f o)
+number_same f h (Some r) = h r.map r.number
+number_same f h None = unread-same
 
 sender-same : (ts : List (List ℕ)) → Same (sender_of ts)
 sender-same ts = number_same _ (λ m u l l'. refl) (numbered_of ts)
@@ -135,21 +128,21 @@ start-same u w (f ∷ ts) =
 receiver-same : (ts : List (List ℕ)) → Same (receiver_of ts)
 receiver-same [] = λ l l'. refl
 receiver-same (t ∷ ts) = by (any_number t) ts where
-  window : (u : ℕ) (o : Number) (ts : List (List ℕ)) → Same (window_by u o ts)
-  window u (number.Got w) ts = start-same u w ts
-  window u number.Bad ts = λ l l'. refl
+  window : (u : ℕ) (o : Option ℕ) (ts : List (List ℕ)) → Same (window_by u o ts)
+  window u (Some w) ts = start-same u w ts
+  window u None ts = λ l l'. refl
 
-  opened : (u : ℕ) (w : Which) (ts : List (List ℕ)) → Same (open_by u w ts)
-  opened u (which.On m) ts = λ l l'. refl
-  opened u which.Unread [] = λ l l'. refl
-  opened u which.Unread (w ∷ ts) = window u (any_number w) ts
+  opened : (u : ℕ) (w : Option Map) (ts : List (List ℕ)) → Same (open_by u w ts)
+  opened u (Some m) ts = λ l l'. refl
+  opened u None [] = λ l l'. refl
+  opened u None (w ∷ ts) = window u (any_number w) ts
 
-  by : (o : Number) (ts : List (List ℕ)) → Same (open_of o ts)
-  by number.Bad ts = λ l l'. refl
-  by (number.Got u) ts = opened u (map_named ts) ts
+  by : (o : Option ℕ) (ts : List (List ℕ)) → Same (open_of o ts)
+  by None ts = λ l l'. refl
+  by (Some u) ts = opened u (map_named ts) ts
 
 -- the numbers at the start of a list are those that the tokens write
-at-start : {A : Type 0} (p : List ℕ → Option A) (ts : List (List ℕ)) (list : List A) {n : ℕ} → many_of p (length list) ts ≡ many.Got n
+at-start : {A : Type 0} (p : List ℕ → Option A) (ts : List (List ℕ)) (list : List A) {n : ℕ} → many_of p (length list) ts ≡ Some n
     → take n (at_start (first_of p (length list) ts) list) ≡ take n (first_of p (length list) ts)
 at-start p ts list {n} e =
     let fs = first_of p (length list) ts in
@@ -157,39 +150,39 @@ at-start p ts list {n} e =
     take_at fs (drop (length fs) list) n long ∙ sym (take_all n fs (omega arith))
 
 -- a piece
-piece-named : (o : Number) (ts : List (List ℕ)) (list : List ℤ) (ws ws' ms ms' : List ℕ)
+piece-named : (o : Option ℕ) (ts : List (List ℕ)) (list : List ℤ) (ws ws' ms ms' : List ℕ)
     → let asked = heard_of o (many_of whole_in (length list) ts) in cut asked (named (coordinate_fills ts list) ws ms) ≡ cut asked (named (first_of whole_in (length list) ts) ws' ms')
-piece-named number.Bad ts list ws ws' ms ms' = refl
-piece-named (number.Got c) ts list ws ws' ms ms' = by (many_of whole_in (length list) ts) refl where
-  by : (m : Many) → many_of whole_in (length list) ts ≡ m
-      → cut (heard_of (number.Got c) m) (named (coordinate_fills ts list) ws ms) ≡ cut (heard_of (number.Got c) m) (named (first_of whole_in (length list) ts) ws' ms')
-  by many.Bad e = refl
-  by (many.Got n) e = rw (at-start whole_in ts list e)
+piece-named None ts list ws ws' ms ms' = refl
+piece-named (Some c) ts list ws ws' ms ms' = by (many_of whole_in (length list) ts) refl where
+  by : (m : Option ℕ) → many_of whole_in (length list) ts ≡ m
+      → cut (heard_of (Some c) m) (named (coordinate_fills ts list) ws ms) ≡ cut (heard_of (Some c) m) (named (first_of whole_in (length list) ts) ws' ms')
+  by None e = refl
+  by (Some n) e = rw (at-start whole_in ts list e)
 
 -- a marked piece
-marked-named : (o : Number) (row : Option (List ℕ)) (ts : List (List ℕ)) (list : List ℤ) (marks ws ws' : List ℕ)
+marked-named : (o : Option ℕ) (row : Option (List ℕ)) (ts : List (List ℕ)) (list : List ℤ) (marks ws ws' : List ℕ)
     → let asked = marked_by o (count_of row) (many_of whole_in (length list) ts) in
     cut asked (named (coordinate_fills ts list) ws (mark_fills row marks)) ≡ cut asked (named (first_of whole_in (length list) ts) ws' (written row))
-marked-named number.Bad row ts list marks ws ws' = refl
-marked-named (number.Got c) none ts list marks ws ws' = refl
-marked-named (number.Got c) (some ms) ts list marks ws ws' = by (many_of whole_in (length list) ts) refl where
-  by : (m : Many) → many_of whole_in (length list) ts ≡ m → let asked = marked_by (number.Got c) (many.Got (length ms)) m in
-      cut asked (named (coordinate_fills ts list) ws (mark_fills (some ms) marks)) ≡ cut asked (named (first_of whole_in (length list) ts) ws' ms)
-  by many.Bad e = refl
-  by (many.Got n) e = rw (at-start whole_in ts list e, take_at ms (drop (length ms) marks) (length ms) refl, take_all (length ms) ms (omega arith))
+marked-named None row ts list marks ws ws' = refl
+marked-named (Some c) None ts list marks ws ws' = refl
+marked-named (Some c) (Some ms) ts list marks ws ws' = by (many_of whole_in (length list) ts) refl where
+  by : (m : Option ℕ) → many_of whole_in (length list) ts ≡ m → let asked = marked_by (Some c) (Some (length ms)) m in
+      cut asked (named (coordinate_fills ts list) ws (mark_fills (Some ms) marks)) ≡ cut asked (named (first_of whole_in (length list) ts) ws' ms)
+  by None e = refl
+  by (Some n) e = rw (at-start whole_in ts list e, take_at ms (drop (length ms) marks) (length ms) refl, take_all (length ms) ms (omega arith))
 
 -- a list
-list-named : (o : Number) (ts : List (List ℕ)) (words : List ℕ) (cs cs' : List ℤ) (ms ms' : List ℕ)
+list-named : (o : Option ℕ) (ts : List (List ℕ)) (words : List ℕ) (cs cs' : List ℤ) (ms ms' : List ℕ)
     → let asked = sent_of o (many_of number_in (length words) ts) in cut asked (named cs (filled_by o ts words) ms) ≡ cut asked (named cs' (first_of number_in (length words) ts) ms')
-list-named number.Bad ts words cs cs' ms ms' = refl
-list-named (number.Got c) ts words cs cs' ms ms' = by (many_of number_in (length words) ts) refl where
+list-named None ts words cs cs' ms ms' = refl
+list-named (Some c) ts words cs cs' ms ms' = by (many_of number_in (length words) ts) refl where
   fs : List ℕ
   fs = first_of number_in (length words) ts
 
-  by : (m : Many) → many_of number_in (length words) ts ≡ m
-      → cut (sent_of (number.Got c) m) (named cs (at_start fs words) ms) ≡ cut (sent_of (number.Got c) m) (named cs' fs ms')
-  by many.Bad e = refl
-  by (many.Got n) e = few (leb n 1024) where
+  by : (m : Option ℕ) → many_of number_in (length words) ts ≡ m
+      → cut (sent_of (Some c) m) (named cs (at_start fs words) ms) ≡ cut (sent_of (Some c) m) (named cs' fs ms')
+  by None e = refl
+  by (Some n) e = few (leb n 1024) where
     few : (b : Bool) → cut (cond b (request.List c n) request.Unread) (named cs (at_start fs words) ms) ≡ cut (cond b (request.List c n) request.Unread) (named cs' fs ms')
     few true = rw (at-start number_in ts words e)
     few false = refl

@@ -4,8 +4,7 @@
 --   answering most d s     what the line s does to the desk d: "A line has at most 65,536 bytes before its newline; a longer one answers
 --                          `?` once (a comment too)"; most is as many as the buffer has
 --   Replies g ..           what was done is g: its desk, and its text put into the page; no bytes of the next line are there yet
-use Rattle.std.specs.Prelude.{ℕ, ◌≡◌, cond, List, [], ◌∷◌, ltb, length, get_or, drop}
-use Rattle.std.proofs.Math.Option.{Option, none, some}
+use Rattle.std.specs.Prelude.{ℕ, ◌≡◌, cond, Option, Some, None, List, [], ◌∷◌, ltb, length, get_or, drop}
 use Rattle.text.specs.Bytes.{bytes}
 use Rattle.text.specs.Token.{tokens, same_bytes}
 use Rattle.number_lists.specs.Many.{whole_in, number_in, first_of}
@@ -24,8 +23,8 @@ after [] = 2
 after (v ∷ ts) = cond (same_bytes v (bytes "marked")) 3 2
 
 abbrev pub written : Option (List ℕ) → List ℕ
-written (some ms) = ms
-written none = []
+written (Some ms) = ms
+written None = []
 
 -- with room for so many of each
 abbrev pub named_in : ℕ → ℕ → ℕ → List (List ℕ) → Named

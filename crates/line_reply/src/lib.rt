@@ -22,6 +22,7 @@ pub struct Lab {
 }
 
 // What a line within its buffer asks for, done. The lists that it is read into last no longer than the line.
+// `record_text::obey` has this form: they share the reading, and each acts on another state.
 fn obey(desk: Desk, line: &[u8], page: &mut [u8], at: usize) -> Done
     requires { at + answer_room ≤ length page.old }
     ensures { Acts desk (request_of 4096 4096 1024 line.now) (named_by line.now) page.old at result page.new }
@@ -39,25 +40,19 @@ pub fn reply(lab: Lab, line: &[u8], page: &mut [u8]) -> Lab
     ensures at_bound { (result.at ≤ lab.at + answer_room) × (result.part.held ≡ 0) }
     ensures by_index { (s : List ℕ) → Gathered line.now lab.part s → Replies (answering (length line.now) lab.desk s) lab page.old result page.new }
 {
-    let at = lab.at;
-    let desk = lab.desk;
-    let part = lab.part;
-    let none = line_buffer::fresh();
-    if part.long {
+    let part = line_buffer::fresh();
+    if lab.part.long {
         return Lab {
-            desk,
-            part: none,
-            at: answers::unread(page, at),
-            on: lab.on,
+            part,
+            at: answers::unread(page, lab.at),
+            ..lab
         };
     }
-    let held = part.held;
-    let done = obey(desk, &line[..held], page, at);
-    let next = done.desk;
+    let done = obey(lab.desk, &line[..lab.part.held], page, lab.at);
     Lab {
-        desk: next,
-        part: none,
+        desk: done.desk,
+        part,
         at: done.at,
-        on: lab.on,
+        ..lab
     }
 }

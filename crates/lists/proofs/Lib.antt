@@ -1,3 +1,4 @@
 pub mod Filled
 pub mod UpTo
 pub mod Lent
+pub mod Made

@@ -1,17 +1,18 @@
 -- A bound on every number of a list, as the code tests it one by one.
 --   and_both              both of two tests
 --   all-up-to             a bound on every place passes the test; up-to-all, what the test says of a place
---   passes, fails, ends   that test from the front on
-use mathlib.Core.Path.{◌≡◌, refl, ap, ◌∙◌}
+--   up-to-decides         the test decides it of all
+use mathlib.Core.Path.{◌≡◌, refl}
 use mathlib.Core.Bool.{Bool, true, false, ◌&&◌}
 use mathlib.Core.List.{List, [], ◌∷◌}
-use Prim.Native.Nat.{ℕ, zero, suc, ◌+◌, ◌≤◌, ◌<◌}
+use Prim.Native.Nat.{ℕ, zero, suc, ◌≤◌}
 use native.Mathlib.Omega.{arith}
-use native.Mathlib.Numerals.{add-one}
 use lib.Dec.{leb}
-use lib.ListN.{length, get_or, drop, drop_of_length-le}
-use lib.Seq.{drop-cons}
-use borrow.Author.Tests.{le-leb, lt-leb, leb-true}
+use lib.ListN.{get_or}
+use borrow.Author.Tests.{le-leb, leb-true}
+use Rattle.std.specs.Bool.{Decides}
+use Rattle.std.specs.List.{All}
+use Rattle.std.proofs.lemmas.Bool.Decides.{Decides-by_and}
 use Rattle.lists.specs.UpTo.{all_up_to}
 
 pub and_both : (a b : Bool) → (a && b) ≡ true → (a ≡ true) × (b ≡ true)
@@ -29,15 +30,6 @@ up-to-all m [] e i = omega arith
 up-to-all m (x ∷ l) e zero = leb-true x m (and_both (leb x m) (all_up_to m l) e).0
 up-to-all m (x ∷ l) e (suc i) = up-to-all m l (and_both (leb x m) (all_up_to m l) e).1 i
 
-module _ (m : ℕ) (l : List ℕ) (i : ℕ) where
-  pub passes : i < length l → get_or l i 0 ≤ m → all_up_to m (drop i l) ≡ all_up_to m (drop (i + 1) l)
-  unfolding all_up_to
-  passes h k = ap (all_up_to m) (drop-cons l i 0 h) ∙ rw (le-leb (get_or l i 0) m k, add-one)
-
-  pub fails : i < length l → m < get_or l i 0 → all_up_to m (drop i l) ≡ false
-  unfolding all_up_to
-  fails h k = ap (all_up_to m) (drop-cons l i 0 h) ∙ rw (lt-leb (get_or l i 0) m k)
-
-  pub ends : length l ≤ i → all_up_to m (drop i l) ≡ true
-  unfolding all_up_to
-  ends h = ap (all_up_to m) (drop_of_length-le l {i = i} h)
+pub up-to-decides : (m : ℕ) (l : List ℕ) → Decides (all_up_to m l) (All (λ x. x ≤ m) l)
+unfolding all_up_to
+up-to-decides m l = Decides-by_and (λ x. leb x m) (λ x. x ≤ m) (all_up_to m) (λ x. (leb-true x m, le-leb x m)) refl (λ x xs. refl) l

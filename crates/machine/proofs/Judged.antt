@@ -9,6 +9,7 @@ use native.Mathlib.Omega.{arith}
 use lib.Dec.{eqb, ltb}
 use lib.ListN.{length}
 use borrow.Author.Tests.{ltb-false}
+use Rattle.std.specs.Prelude.{Result, Ok, Err, ⊤}
 use Rattle.calls.specs.Calls.{fresh}
 use Rattle.trellis.specs.Measure.{Two}
 use Rattle.trellis.specs.Words.{words_from}
@@ -16,7 +17,7 @@ use Rattle.nearest.specs.declared.Received.{Received}
 use Rattle.nearest.specs.Line.{BothInRange}
 use Rattle.machine.specs.declared.Receiver.{Receiver}
 use Rattle.reasons.specs.declared.Why.{Why}
-use Rattle.reasons.specs.declared.Why.TheVariants.{Done, Full, NoRoom}
+use Rattle.reasons.specs.declared.Why.TheVariants.{Full, NoRoom}
 use Rattle.machine.specs.Machine.{Outcome, refused, taking, agreed_of, kept_of, released_of, grown, machine_of}
 use Rattle.receiver_meaning.specs.Told.{Told, with_heard, speaker_of, pending_after, judge_symbol, Fine}
 use Rattle.reasons.specs.Reason.{Reason, reason, given_of}
@@ -27,7 +28,7 @@ use Rattle.receiver_meaning.proofs.Telling.{telling-fine, no-fault}
 
 taking-with : (rx : Receiver) (y : Two Received) (room w k n : ℕ) (ws : List ℕ) → rx.core.window ≡ w → kept_of rx y ≡ k → agreed_of rx y ≡ n →
     words_from rx.core.accord.u rx.core.turn (released_of rx y) ≡ ws →
-    taking rx y room ≡ cond (ltb w k) (refused rx Full) (cond (ltb room n) (refused rx NoRoom) (record { receiver = grown rx y; words = ws; why = Done }))
+    taking rx y room ≡ cond (ltb w k) (refused rx (Err Full)) (cond (ltb room n) (refused rx (Err NoRoom)) (record { receiver = grown rx y; words = ws; why = Ok tt }))
 unfolding taking
 taking-with rx y room w k n ws e₁ e₂ e₃ e₄ = cc
 
@@ -47,7 +48,7 @@ module _ (t : Told) (f : Fine t) (y : Two Received) (r : BothInRange y) (room : 
   abbrev Right : Reason → Outcome → Type 0
   Right = Judged t y
 
-  refused-right : (w : Why) → (eqb (given_of w).number 0 ≡ true → ⊥) → Right (given_of w) (refused rx w)
+  refused-right : (w : Result ⊤ Why) → (eqb (given_of w).number 0 ≡ true → ⊥) → Right (given_of w) (refused rx w)
   refused-right w n = record { why = refl; when-refused = λ e. (refl, refl); when-taken = λ e. absurd (n e) }
 
   never : ◌≡◌ {A = Bool} false true → ⊥
@@ -71,9 +72,9 @@ module _ (t : Told) (f : Fine t) (y : Two Received) (r : BothInRange y) (room : 
     where
       go : (i j : Bool) → ltb t.window (pending_after t (y ∷ ys)) ≡ i →
           Right (cond i (reason 6) (cond j (reason 8) (reason 0)))
-          (cond i (refused rx Full) (cond j (refused rx NoRoom) (record { receiver = grown rx y; words = fresh (speaker_of t) ys y; why = Done })))
-      go true j e = refused-right Full never
-      go false true e = refused-right NoRoom never
+          (cond i (refused rx (Err Full)) (cond j (refused rx (Err NoRoom)) (record { receiver = grown rx y; words = fresh (speaker_of t) ys y; why = Ok tt })))
+      go true j e = refused-right (Err Full) never
+      go false true e = refused-right (Err NoRoom) never
       go false false e =
           record {
             why = refl;

@@ -15,7 +15,7 @@
 --   last_symbols rx             the pending symbols of the answer, the oldest first
 --   machine_of t                the receiver after what it has been told; machine_after t ys, after the symbols ys alone
 --   sound rx                   the record is one that the functions can work on: anything else is answered like a closed receiver
-use Rattle.std.specs.Prelude.{ℕ, ◌+◌, ◌-◌, ◌%◌, Bool, true, false, cond, ◌&&◌, List, [], ◌∷◌, map, eqb, leb, ltb, take, replicate}
+use Rattle.std.specs.Prelude.{ℕ, ◌+◌, ◌-◌, ◌%◌, Bool, true, false, cond, ◌&&◌, List, [], ◌∷◌, map, eqb, leb, ltb, take, replicate, Result, Ok, Err, ⊤}
 use Rattle.trellis.specs.Search.{range}
 use Rattle.trellis.specs.Speak.{after}
 use Rattle.trellis.specs.Measure.{Start, free, named, Two}
@@ -29,7 +29,7 @@ use Rattle.registers.specs.Registers.{subset_in, moved_of, same_at, oldest}
 use Rattle.machine.specs.declared.Core.{Core}
 use Rattle.machine.specs.declared.Receiver.{Receiver}
 use Rattle.reasons.specs.declared.Why.{Why}
-use Rattle.reasons.specs.declared.Why.TheVariants.{Done, Full, NoRoom}
+use Rattle.reasons.specs.declared.Why.TheVariants.{Full, NoRoom}
 use Rattle.select.specs.Select.{limit, sixteen, sum_at, lowered, step_at, prev_in}
 use Rattle.lists.specs.UpTo.{all_up_to}
 use Rattle.sums.specs.Sums.{end_of}
@@ -115,16 +115,16 @@ grown rx y =
 pub record Outcome : Type 0 where
   pub receiver : Receiver
   pub words : List ℕ
-  pub why : Why
+  pub why : Result ⊤ Why
 
-abbrev pub refused : Receiver → Why → Outcome
+abbrev pub refused : Receiver → Result ⊤ Why → Outcome
 refused rx w = record { receiver = rx; words = []; why = w }
 
 unfoldable pub taking : Receiver → Two Received → ℕ → Outcome
 taking rx y room =
-    cond (ltb rx.core.window (kept_of rx y)) (refused rx Full)
-    (cond (ltb room (agreed_of rx y)) (refused rx NoRoom)
-    (record { receiver = grown rx y; words = words_from rx.core.accord.u rx.core.turn (released_of rx y); why = Done }))
+    cond (ltb rx.core.window (kept_of rx y)) (refused rx (Err Full))
+    (cond (ltb room (agreed_of rx y)) (refused rx (Err NoRoom))
+    (record { receiver = grown rx y; words = words_from rx.core.accord.u rx.core.turn (released_of rx y); why = Ok tt }))
 
 -- ---- finish
 

@@ -22,6 +22,8 @@ pub struct Core {
 }
 
 // The receiver: what each state keeps of its sum, three registers of each state, and what was picked of the pending symbols.
+// `live` is a flag and no Option around the rest: a closed receiver is a record like any other (`shut`), and so it stands in the words of C.
+// Inside, its numbers go by value and its lists are lent one by one: nothing is copied for a symbol, and C's words hold the picks.
 #[derive(Clone, Copy)]
 pub struct Receiver {
     pub live: bool,
@@ -46,14 +48,12 @@ pub fn write_words(
 {
     let oldest = core.slot + 64 - core.pending;
     let mut turn = core.turn;
-    let mut j: usize = 0;
-    while j < n {
+    for j in 0..n {
         let age = core.pending - 1 - j;
         let k = registers::subset_at(registers, s, age);
         let said = picks::word_in(core.accord.u, turn, picks, (oldest + j) % 64, age, k);
         out[j] = said.word;
         turn = said.turn;
-        j += 1;
     }
     turn
 }

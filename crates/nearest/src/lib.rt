@@ -22,8 +22,10 @@ ghost use Rattle.nearest.specs.Found.{chart_of, nearest_of, nearest_to, heard_as
 
 use distance::{Found, Spot};
 use points::{Accord, Map};
+use subset_types::Choices;
 
-// A received point.
+// A received point. No Option of a spot: what is Heard and what is Missing are words of the demands, and the theorems on missing points
+// (`InRange`, `line_distance`) speak of these two cases.
 #[derive(Clone, Copy)]
 pub enum Received {
     Heard(Spot),
@@ -33,7 +35,8 @@ pub enum Received {
 // The most that the distance of one point counts for in any sum, however far off the point was received.
 pub const CAP: u32 = 262144;
 
-// For each label the number of the nearest point, its squared distance and what that counts for.
+// For each label the number of the nearest point, its squared distance and what that counts for. Rows over the labels and no list of structs,
+// since each row is lent whole to those who read only it.
 #[derive(Clone, Copy)]
 pub struct Nearest {
     pub w: [u8; 4],
@@ -42,7 +45,7 @@ pub struct Nearest {
 }
 
 // For each subset, by its number 4·Y0 + 2·I1 + I2', what its best symbol counts for and that symbol's I3'; for each label the
-// number of the nearest point to the first and to the second received point.
+// number of the nearest point to the first and to the second received point. Rows for the same reason.
 #[derive(Clone, Copy)]
 pub struct Weighed {
     pub costs: [u32; 8],
@@ -71,7 +74,7 @@ pub fn is_coordinate(x: i32) -> bool
 pub fn counted_of(d: u32) -> u32
     ensures { result ≡ counted d }
 {
-    if CAP < d { CAP } else { d }
+    d.min(CAP)
 }
 
 // The nearest number below 2^u of each label and its distance, on either map: only the round map reads the table.
@@ -91,18 +94,15 @@ fn search_heard(t: &Chart, k: Accord, h: Spot) -> Nearest
     requires { (t.now ≡ chart_of k) × (is_accord k ≡ true) × SpotInRange h }
     ensures { result ≡ nearest_to k h }
 {
-    let map = k.map;
-    let f = search_on(t, map, k.u, h);
-    let w = f.w;
-    let d = f.d;
+    let f = search_on(t, k.map, k.u, h);
     Nearest {
-        w: w,
-        d: d,
+        w: f.w,
+        d: f.d,
         counted: [
-            counted_of(d[0]),
-            counted_of(d[1]),
-            counted_of(d[2]),
-            counted_of(d[3]),
+            counted_of(f.d[0]),
+            counted_of(f.d[1]),
+            counted_of(f.d[2]),
+            counted_of(f.d[3]),
         ],
     }
 }
@@ -130,17 +130,9 @@ pub fn weigh(t: &Chart, k: Accord, first: Received, second: Received) -> Weighed
 {
     let a = search(t, k, first);
     let b = search(t, k, second);
-    let d1 = a.counted;
-    let d2 = b.counted;
-    let c = subset_types::nearer_types(d1, d2);
-    let costs = c.costs;
-    let i3 = c.i3;
+    let Choices { costs, i3 } = subset_types::nearer_types(a.counted, b.counted);
+    // Each row is taken out first: a field that is an array is not proved as a part of a literal.
     let w1 = a.w;
     let w2 = b.w;
-    Weighed {
-        costs: costs,
-        i3: i3,
-        w1: w1,
-        w2: w2,
-    }
+    Weighed { costs, i3, w1, w2 }
 }

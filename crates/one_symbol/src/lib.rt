@@ -6,7 +6,7 @@
 // equals a definition of machine/specs on the same numbers, whatever the lists hold.
 #![tactic(auto)]
 
-ghost use Rattle.std.specs.Prelude.{◌≡◌, [], ◌+◌, ◌%◌, ◌<◌, length};
+ghost use Rattle.std.specs.Prelude.{◌≡◌, [], ◌+◌, ◌%◌, ◌<◌, length, Err};
 ghost use Rattle.nearest.specs.Line.{InRange};
 ghost use Rattle.nearest.specs.Found.{chart_of, heard_as};
 ghost use Rattle.machine.specs.Machine.{taking};
@@ -16,13 +16,14 @@ ghost use Rattle.one_symbol.specs.Taken.{outlook_of, TookIs};
 use machine::Core;
 use nearest::{Chart, Received};
 use reasons::Why;
+use select::Selected;
 
 // What became of a symbol: the numbers of the receiver after it, and how many words it wrote.
 #[derive(Clone, Copy)]
 pub struct Took {
     pub core: Core,
     pub written: usize,
-    pub why: Why,
+    pub why: Result<(), Why>,
 }
 
 // What a symbol would make of the receiver: what the states keep then, the step into each state and the first word of the state before it, what is
@@ -51,35 +52,31 @@ fn look_ahead(
     requires ready { Ready core sums.now }
     ensures { result ≡ outlook_of (whole core sums.now registers.now []) (heard_as first second) }
 {
-    let w = nearest::weigh(t, core.accord, first, second);
-    let costs = w.costs;
-    let i3 = w.i3;
-    let w1 = w.w1;
-    let w2 = w.w2;
-    let next = select::advance(sums, &costs);
-    let new_sums = next.sums;
-    let steps = next.steps;
+    let weighed = nearest::weigh(t, core.accord, first, second);
+    let Selected { sums, steps } = select::advance(sums, &weighed.costs);
     let ways = registers::words_before(registers, &steps, 0);
     let agreed = registers::agreed(registers, &steps, &ways, core.pending);
+    // Taken out first: a field that is an array is not proved as a part of a literal.
+    let i3 = weighed.i3;
     Outlook {
-        sums: new_sums,
-        steps: steps,
-        ways: ways,
-        i3: i3,
-        numbers: picks::numbers_of(w1, w2),
-        state: (steps[0] / 8 % 16) as usize,
-        agreed: agreed,
+        sums,
+        steps,
+        ways,
+        i3,
+        numbers: picks::numbers_of(weighed.w1, weighed.w2),
+        state: usize::from(steps[0] / 8 % 16),
+        agreed,
     }
 }
 
 // A refused symbol leaves all as it was.
 fn refused(core: Core, why: Why) -> Took
-    ensures { result ≡ record { core = core; written = 0; why = why } }
+    ensures { result ≡ record { core = core; written = 0; why = Err why } }
 {
     Took {
-        core: core,
+        core,
         written: 0,
-        why: why,
+        why: Err(why),
     }
 }
 
@@ -88,13 +85,11 @@ fn moved_on(core: Core, turn: u32, pending: usize) -> Core
     requires { core.slot < 64 }
     ensures { result ≡ record { accord = core.accord; window = core.window; turn = turn; slot = (core.slot + 1) % 64; pending = pending } }
 {
-    let accord = core.accord;
     Core {
-        accord: accord,
-        window: core.window,
-        turn: turn,
+        turn,
         slot: (core.slot + 1) % 64,
-        pending: pending,
+        pending,
+        ..core
     }
 }
 
@@ -125,16 +120,14 @@ pub fn take_symbol(
         return refused(core, Why::NoRoom);
     }
     let turn = machine::write_words(core, registers, picks, o.state, n, out);
+    // Taken out first: a field that is an array is not proved where it is stored straight.
     let new_sums = o.sums;
-    let steps = o.steps;
-    let ways = o.ways;
-    let i3 = o.i3;
     *sums = new_sums;
-    registers::shift(registers, &steps, &ways, core.pending + 1);
-    picks::keep(picks, core.slot, i3, o.numbers);
+    registers::shift(registers, &o.steps, &o.ways, core.pending + 1);
+    picks::keep(picks, core.slot, o.i3, o.numbers);
     Took {
         core: moved_on(core, turn, kept),
         written: n,
-        why: Why::Done,
+        why: Ok(()),
     }
 }

@@ -16,12 +16,13 @@ use borrow.Author.Tests.{le-leb, leb-true}
 use lib.Dec.{leb}
 use lib.ListN.{get_or, set, length-set}
 use lib.Seq.{ext_get_or}
+use Rattle.std.specs.Prelude.{Result, Ok, Err, ⊤}
 use Rattle.wei.proofs.Finite.{equal2}
 use Rattle.points.specs.declared.Accord.{Accord}
 use Rattle.points.specs.Agreed.{is_accord}
 use Rattle.trellis.specs.Measure.{GoodStart, named}
 use Rattle.reasons.specs.declared.Why.{Why}
-use Rattle.reasons.specs.declared.Why.TheVariants.{Done, BadWidth, BadWindow, BadStart}
+use Rattle.reasons.specs.declared.Why.TheVariants.{BadWidth, BadWindow, BadStart}
 use Rattle.select.specs.Select.{limit, sixteen}
 use Rattle.machine.specs.Machine.{fresh_sums, opened, shut, machine_after, machine_of}
 use Rattle.receiver_meaning.specs.Told.{Told, Fine}
@@ -59,22 +60,22 @@ module _ (ac : Accord) (w : ℕ) (b : Start) where
       record {
         always-given = ap given_of v ∙ ap (λ (o : Opening). given_of o.why) (sym e);
         always-receiver = y;
-        owed = ap (λ (z : Why). (given_of z).number) v ∙ n;
-        fresh = λ z. let k = f (sym (ap (λ (z : Why). (given_of z).number) v) ∙ z) in (k.0, x ∙ k.1);
+        owed = ap (λ (z : Result ⊤ Why). (given_of z).number) v ∙ n;
+        fresh = λ z. let k = f (sym (ap (λ (z : Result ⊤ Why). (given_of z).number) v) ∙ z) in (k.0, x ∙ k.1);
       }
 
-  refused : (r : Opened) (v : Why) → opening ac w b ≡ not_opened v → r ≡ record { receiver = shut; why = v } → (given_of v).number ≡ opening_owed ac w b → ((given_of v).number ≡ 0 → ⊥) → Opens ac w b r
+  refused : (r : Opened) (v : Why) → opening ac w b ≡ not_opened v → r ≡ record { receiver = shut; why = Err v } → (given_of (Err v)).number ≡ opening_owed ac w b → ((given_of (Err v)).number ≡ 0 → ⊥) → Opens ac w b r
   refused r v e i n z = opens r (not_opened v) e i n (λ k. absurd (z k))
 
-  pub opens-wide : (r : Opened) → is_accord ac ≡ false → r ≡ record { receiver = shut; why = BadWidth } → Opens ac w b r
+  pub opens-wide : (r : Opened) → is_accord ac ≡ false → r ≡ record { receiver = shut; why = Err BadWidth } → Opens ac w b r
   unfolding opening opening_owed
   opens-wide r h i = refused r BadWidth (rw h) i (rw h) (λ z. omega arith)
 
-  pub opens-window : (r : Opened) → is_accord ac ≡ true → (leb 1 w && leb w 64) ≡ false → r ≡ record { receiver = shut; why = BadWindow } → Opens ac w b r
+  pub opens-window : (r : Opened) → is_accord ac ≡ true → (leb 1 w && leb w 64) ≡ false → r ≡ record { receiver = shut; why = Err BadWindow } → Opens ac w b r
   unfolding opening opening_owed
   opens-window r h k i = refused r BadWindow (rw (h, k)) i (rw (h, k)) (λ z. omega arith)
 
-  pub opens-start : (r : Opened) → is_accord ac ≡ true → (leb 1 w && leb w 64) ≡ true → start_fits b ≡ false → r ≡ record { receiver = shut; why = BadStart } → Opens ac w b r
+  pub opens-start : (r : Opened) → is_accord ac ≡ true → (leb 1 w && leb w 64) ≡ true → start_fits b ≡ false → r ≡ record { receiver = shut; why = Err BadStart } → Opens ac w b r
   unfolding opening opening_owed
   opens-start r h k s i = refused r BadStart (rw (h, k, s)) i (rw (h, k, s)) (λ z. omega arith)
 
@@ -82,10 +83,10 @@ module _ (ac : Accord) (w : ℕ) (b : Start) where
   start-good Free e = tt
   start-good (At n) e = omega (arith, leb-true n 15 e)
 
-  pub opens-done : (r : Opened) → is_accord ac ≡ true → 1 ≤ w → w ≤ 64 → start_fits b ≡ true → r ≡ record { receiver = opened ac w (start_of b); why = Done } → Opens ac w b r
+  pub opens-done : (r : Opened) → is_accord ac ≡ true → 1 ≤ w → w ≤ 64 → start_fits b ≡ true → r ≡ record { receiver = opened ac w (start_of b); why = Ok tt } → Opens ac w b r
   unfolding opening opening_owed machine_after
   opens-done r h k l s i =
-      opens r (record { receiver = opened ac w (start_of b); why = Done }) (rw (h, le-leb 1 w k, le-leb w 64 l, s)) i
+      opens r (record { receiver = opened ac w (start_of b); why = Ok tt }) (rw (h, le-leb 1 w k, le-leb w 64 l, s)) i
       (rw (h, le-leb 1 w k, le-leb w 64 l, s))
       (λ z. (record { agreed = h; some-window = k; small-window = l; good_start = start-good b s; each = tt }, refl))
 
@@ -95,7 +96,7 @@ module _ (ac : Accord) (w : ℕ) (b : Start) where
   opening-opens = go (is_accord ac) (leb 1 w) (leb w 64) (start_fits b) refl refl refl refl
     where
       go : (i j k l : Bool) → is_accord ac ≡ i → leb 1 w ≡ j → leb w 64 ≡ k → start_fits b ≡ l →
-          let o : Opening = cond i (cond (j && k) (cond l (record { receiver = opened ac w (start_of b); why = Done }) (not_opened BadStart)) (not_opened BadWindow)) (not_opened BadWidth) in
+          let o : Opening = cond i (cond (j && k) (cond l (record { receiver = opened ac w (start_of b); why = Ok tt }) (not_opened BadStart)) (not_opened BadWindow)) (not_opened BadWidth) in
           Opens ac w b (record { receiver = o.receiver; why = o.why })
       go false j k l e f g h = opens-wide _ e refl
       go true false k l e f g h = opens-window _ e (rw f) refl
@@ -109,7 +110,7 @@ module _ (ac : Accord) (w : ℕ) (b : Start) where
   opened-end = go (is_accord ac) (leb 1 w) (leb w 64) (start_fits b) refl refl refl refl
     where
       go : (i j k l : Bool) → is_accord ac ≡ i → leb 1 w ≡ j → leb w 64 ≡ k → start_fits b ≡ l →
-          let o = cond i (cond (j && k) (cond l (record { receiver = opened ac w (start_of b); why = Done }) (not_opened BadStart)) (not_opened BadWindow)) (not_opened BadWidth) in
+          let o = cond i (cond (j && k) (cond l (record { receiver = opened ac w (start_of b); why = Ok tt }) (not_opened BadStart)) (not_opened BadWindow)) (not_opened BadWidth) in
           (o.receiver ≡ shut) ⊎ (t : Told) × Fine t × (o.receiver ≡ machine_of t)
       go false j k l e f g h = inl refl
       go true false k l e f g h = inl refl
@@ -130,7 +131,7 @@ module _ (ac : Accord) (w : ℕ) (b : Start) where
   opens-left r p z = p.always-receiver ∙ go (is_accord ac) (leb 1 w && leb w 64) (start_fits b) (λ e. z (ap (λ (g : Reason). g.number) p.always-given ∙ e))
     where
       go : (i j k : Bool) →
-          let g : Opening = cond i (cond j (cond k (record { receiver = opened ac w (start_of b); why = Done }) (not_opened BadStart)) (not_opened BadWindow)) (not_opened BadWidth) in
+          let g : Opening = cond i (cond j (cond k (record { receiver = opened ac w (start_of b); why = Ok tt }) (not_opened BadStart)) (not_opened BadWindow)) (not_opened BadWidth) in
           ((given_of g.why).number ≡ 0 → ⊥) → g.receiver ≡ shut
       go false j k n = refl
       go true false k n = refl

@@ -4,12 +4,12 @@
 --   opening_owed k w b        the number of an opening
 --   Opens k w b r            the promise of `open_receiver`: result and receiver are the function's; the number is the one owed; a fresh
 --                            receiver has been told its opening and no symbol
-use Rattle.std.specs.Prelude.{ℕ, ◌≡◌, cond, ◌&&◌, [], leb}
+use Rattle.std.specs.Prelude.{ℕ, ◌≡◌, cond, ◌&&◌, [], leb, Result, Ok, Err, ⊤}
 use Rattle.points.specs.declared.Accord.{Accord}
 use Rattle.points.specs.Agreed.{is_accord}
 use Rattle.machine.specs.Machine.{opened}
 use Rattle.reasons.specs.declared.Why.{Why}
-use Rattle.reasons.specs.declared.Why.TheVariants.{Done, BadWidth, BadWindow, BadStart}
+use Rattle.reasons.specs.declared.Why.TheVariants.{BadWidth, BadWindow, BadStart}
 use Rattle.reasons.specs.Reason.{given_of}
 use Rattle.receiver_meaning.specs.Told.{Told, Fine}
 use Rattle.openings.specs.declared.Start.{Start}
@@ -22,16 +22,16 @@ pub use Rattle.machine.specs.Machine.{shut, machine_of}
 
 pub record Opening : Type 0 where
   pub receiver : Receiver
-  pub why : Why
+  pub why : Result ⊤ Why
 
 abbrev pub not_opened : Why → Opening
-not_opened w = record { receiver = shut; why = w }
+not_opened w = record { receiver = shut; why = Err w }
 
 -- "Opening order: 1, 2, 3"
 unfoldable pub opening : Accord → ℕ → Start → Opening
 opening k w b =
     cond (is_accord k)
-    (cond (leb 1 w && leb w 64) (cond (start_fits b) (record { receiver = opened k w (start_of b); why = Done }) (not_opened BadStart)) (not_opened BadWindow))
+    (cond (leb 1 w && leb w 64) (cond (start_fits b) (record { receiver = opened k w (start_of b); why = Ok tt }) (not_opened BadStart)) (not_opened BadWindow))
     (not_opened BadWidth)
 
 -- "The plain opening names only u; it has window 32 and a free start" (02, Wish 9)

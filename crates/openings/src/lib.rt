@@ -4,7 +4,7 @@
 // receiver. The tests say whether a record is one that the machine can work on: whatever is not is answered like a closed receiver.
 #![tactic(auto)]
 
-ghost use Rattle.std.specs.Prelude.{◌≡◌, true, cond, ◌&&◌};
+ghost use Rattle.std.specs.Prelude.{◌≡◌, true, cond, ◌&&◌, Err};
 ghost use Rattle.trellis.specs.Words.{first_turn};
 ghost use Rattle.machine.specs.Machine.{core, fresh_sums, shut, sound_core, sound};
 ghost use Rattle.lists.specs.UpTo.{all_up_to};
@@ -16,7 +16,7 @@ use machine::{Core, Receiver};
 use points::{Accord, Map};
 use reasons::Why;
 
-// Any first state, or the named one.
+// Any first state, or the named one: 01's own two words, which theorems name, and so no Option.
 #[derive(Clone, Copy)]
 pub enum Start {
     Free,
@@ -26,7 +26,7 @@ pub enum Start {
 #[derive(Clone, Copy)]
 pub struct Opened {
     pub receiver: Receiver,
-    pub why: Why,
+    pub why: Result<(), Why>,
 }
 
 // A closed receiver.
@@ -53,9 +53,9 @@ fn fresh_core(accord: Accord, window: usize, turn: u32) -> Core
     ensures { result ≡ core accord window turn }
 {
     Core {
-        accord: accord,
-        window: window,
-        turn: turn,
+        accord,
+        window,
+        turn,
         slot: 0,
         pending: 0,
     }
@@ -90,28 +90,25 @@ fn first_turn(start: Start) -> u32
 fn start_fits(start: Start) -> bool
     ensures { result ≡ start_fits start }
 {
-    match start {
-        Start::Free => true,
-        Start::At(s) => s <= 15,
-    }
+    matches!(start, Start::Free | Start::At(0..=15))
 }
 
 // The start that a number stands for, for callers that have only numbers: 16 is the free one.
 pub fn start_at(n: u32) -> Start
     ensures { result ≡ start_at n }
 {
-    if n == 16 {
-        return Start::Free;
+    match n {
+        16 => Start::Free,
+        _ => Start::At(n),
     }
-    Start::At(n)
 }
 
 fn not_opened(why: Why) -> Opened
-    ensures { result ≡ record { receiver = shut; why = why } }
+    ensures { result ≡ record { receiver = shut; why = Err why } }
 {
     Opened {
         receiver: closed_receiver(),
-        why: why,
+        why: Err(why),
     }
 }
 
@@ -122,7 +119,7 @@ pub fn open_receiver(accord: Accord, window: u32, start: Start) -> Opened
     if !points::is_accord(accord) {
         return not_opened(Why::BadWidth);
     }
-    if !((1 <= window) & (window <= 64)) {
+    if !(1..=64).contains(&window) {
         return not_opened(Why::BadWindow);
     }
     if !start_fits(start) {
@@ -136,7 +133,7 @@ pub fn open_receiver(accord: Accord, window: u32, start: Start) -> Opened
             registers: [0u64; 48],
             picks: [0u64; 72],
         },
-        why: Why::Done,
+        why: Ok(()),
     }
 }
 
@@ -154,38 +151,30 @@ pub fn open_plain(accord: Accord) -> Opened
 fn core_fits(c: Core) -> bool
     ensures { result ≡ sound_core c }
 {
-    let accord = c.accord;
-    points::is_accord(accord)
-        & (1 <= c.window)
-        & (c.window <= 64)
-        & (c.turn <= 4)
-        & (c.slot < 64)
-        & (c.pending <= c.window)
+    points::is_accord(c.accord)
+        && (1..=64).contains(&c.window)
+        && c.turn <= 4
+        && c.slot < 64
+        && c.pending <= c.window
 }
 
 // Whether a receiver of these parts is open and in range: no state keeps more than one that nothing reaches.
 pub fn parts_fit(live: bool, c: Core, sums: &[u32; 16]) -> bool
     ensures { result ≡ (live && (sound_core c && all_up_to limit sums.now)) }
 {
-    live & (core_fits(c) & sums::all_up_to(sums, sums::LIMIT))
+    live && core_fits(c) && sums::all_up_to(sums, sums::LIMIT)
 }
 
 // Whether the receiver is open and in range.
 pub fn is_open(rx: Receiver) -> bool
     ensures { result ≡ sound rx }
 {
-    let c = rx.core;
-    let sums = rx.sums;
-    parts_fit(rx.live, c, &sums)
+    parts_fit(rx.live, rx.core, &rx.sums)
 }
 
 // How many symbols are taken and not released; 0 of a closed receiver.
 pub fn pending(rx: Receiver) -> usize
     ensures { result ≡ cond (sound rx) rx.core.pending 0 }
 {
-    if is_open(rx) {
-        let c = rx.core;
-        return c.pending;
-    }
-    0
+    if is_open(rx) { rx.core.pending } else { 0 }
 }

@@ -1,36 +1,21 @@
 -- Laws of putting text into a page: byte by byte, one text after another, numerals; and that each promise allows one result alone.
-use Prim.Native.Nat.{ℕ, suc, ◌+◌, ◌-◌, ◌^◌, ◌≤◌, ◌<◌}
+use Prim.Native.Nat.{ℕ, ◌-◌, ◌^◌, ◌≤◌, ◌<◌}
 use mathlib.Core.Path.{◌≡◌, refl, sym, ap, subst, ◌∙◌}
 use mathlib.Core.Bool.{Bool, true, false}
 use mathlib.Core.List.{List, [], ◌∷◌, ◌++◌, append_assoc}
 use native.Mathlib.Omega.{arith}
 use native.Mathlib.Nat.{pow-le-pow_right}
-use native.Mathlib.Numerals.{add-one}
-use borrow.Author.Tests.{leb-true, leb-false}
+use borrow.Author.Tests.{leb-true, leb-false, ltb-true}
 use lib.Dec.{leb}
-use lib.IntN.{ℤ, nat_abs}
-use lib.ListN.{length, get_or, take, drop, set, length-append, length-take}
-use lib.Seq.{paste, paste-zero, paste-suc, take_all, set_split, append_snoc, take_at, drop_at, drop-drop}
-use Rattle.io.specs.Counts.{IsPrefixLen}
+use lib.IntN.{ℤ, pos, negsuc, nat_abs}
+use lib.Signed.{lt_z}
+use mir.Syntax.{w32}
+use mir.Val.{SFits, to_z, of_z}
+use mir.ValLaws.{to_z-of_z}
+use lib.ListN.{length, take, drop, length-append, length-take}
+use lib.Seq.{take_at, drop_at, drop-drop}
 use Rattle.io.specs.Digits.{last_digits, IsDigitCount}
 use Rattle.page.specs.Page.{Puts, Numeral, PutsNumber, PutsWhole, sign_text}
-
--- page is page₀ with the first i bytes of text from at on
-pub record Pasted (page₀ : List ℕ) (at : ℕ) (text page : List ℕ) (i : ℕ) : Type 0 where
-  pub is : page ≡ paste page₀ at text i
-
-pub none-put : (page : List ℕ) (at : ℕ) (text : List ℕ) → Pasted page at text page 0
-none-put page at text = record { is = paste-zero page at text }
-
-module _ {page₀ : List ℕ} {at : ℕ} {text page : List ℕ} {i : ℕ} (p : Pasted page₀ at text page i) where
-  pub one_more : at + i < length page₀ → i < length text → Pasted page₀ at text (set page (at + i) (get_or text i 0)) (i + 1)
-  one_more h k = record { is = rw (p.is, add-one, paste-suc page₀ at text i 0 h k) }
-
-  pub all-put : i ≡ length text → Puts page₀ at text (at + i) page
-  all-put h = record { next = omega arith; said = rw (p.is, take_all i text (omega arith)) }
-
-pub one_byte : (page : List ℕ) (at b : ℕ) → at < length page → Puts page at (b ∷ []) (at + 1) (set page at b)
-one_byte page at b h = record { next = omega arith; said = rw add-one (set_split page at b h ∙ sym (append_snoc (take at page) b (drop (suc at) page))) }
 
 -- one text after another is the two as one
 pub joined : {page : List ℕ} {at : ℕ} {s : List ℕ} {r : ℕ} {p t : List ℕ} {r' : ℕ} {p' : List ℕ}
@@ -60,35 +45,22 @@ no_more {n} j k h l f = by (leb k j) refl where
 pub few : {n k : ℕ} → n < 2 ^ 64 → IsDigitCount 10 1 n k → k ≤ 20
 few {n} {k} h f = no_more 20 k (omega arith) (omega arith) f
 
--- the first k bytes of `io`'s digits are a numeral
-pub number_put : {page : List ℕ} {at n k r : ℕ} (d : List ℕ) {page' : List ℕ}
-    → n < 2 ^ 64 → IsPrefixLen k d → IsDigitCount 10 1 n k → take k d ≡ last_digits 10 k n → Puts page at (take k d) r page' → PutsNumber page at n r page'
-number_put {page} {at} {n} {k} {r} d h c f e p =
+sign_below : (x : ℤ) → lt_z x (pos 0) ≡ true → sign_text x ≡ 45 ∷ []
+sign_below (pos n) e = absurd (omega (arith, ltb-true n 0 e))
+sign_below (negsuc n) e = refl
+
+-- a minus, and the numeral of the absolute value after it
+pub minus-put : {page : List ℕ} {at : ℕ} (x : ℤ) {n r : ℕ} {page' : List ℕ} {q : ℕ} {page₁ : List ℕ} → SFits w32 x → n ≡ nat_abs x
+    → lt_z (to_z w32 (of_z w32 x)) (pos 0) ≡ true → q ≤ length page → Puts page at (45 ∷ []) q page₁ → PutsNumber page₁ q n r page' → PutsWhole page at x r page'
+minus-put {page} {at} x {r = r} {page'} fits is below room a p =
     record {
-      text = take k d;
-      numeral = record { fewest = subst (IsDigitCount 10 1 n) c.1 f; spelt = e ∙ ap (λ (m : ℕ). last_digits 10 m n) c.1 };
-      puts = p;
-      near = omega (arith, few h f, p.next, c.1);
+      text = p.text;
+      numeral = subst (λ (m : ℕ). Numeral m p.text) is p.numeral;
+      puts =
+          subst (λ (s : List ℕ). Puts page at (s ++ p.text) r page') (sym (sign_below x (rw (to_z-of_z w32 x fits) at below)))
+          (joined room a p.puts);
+      near = omega (arith, p.near, a.next);
     }
-
-module _ {page : List ℕ} {at : ℕ} (x : ℤ) {n r : ℕ} {page' : List ℕ} (is : n ≡ nat_abs x) where
-  pub plain-put : sign_text x ≡ [] → PutsNumber page at n r page' → PutsWhole page at x r page'
-  plain-put e p =
-      record {
-        text = p.text;
-        numeral = subst (λ (m : ℕ). Numeral m p.text) is p.numeral;
-        puts = subst (λ (s : List ℕ). Puts page at (s ++ p.text) r page') (sym e) p.puts;
-        near = omega (arith, p.near);
-      }
-
-  pub minus-put : {q : ℕ} {page₁ : List ℕ} → sign_text x ≡ 45 ∷ [] → q ≤ length page → Puts page at (45 ∷ []) q page₁ → PutsNumber page₁ q n r page' → PutsWhole page at x r page'
-  minus-put {q} {page₁} e room a p =
-      record {
-        text = p.text;
-        numeral = subst (λ (m : ℕ). Numeral m p.text) is p.numeral;
-        puts = subst (λ (s : List ℕ). Puts page at (s ++ p.text) r page') (sym e) (joined room a p.puts);
-        near = omega (arith, p.near, a.next);
-      }
 
 -- any two results of one call are equal
 pub one-result : {page : List ℕ} {at : ℕ} {text : List ℕ} {r r' : ℕ} {p p' : List ℕ} → Puts page at text r p → Puts page at text r' p' → (r ≡ r') × (p ≡ p')

@@ -1,20 +1,18 @@
 // Text put into a lent page. A page is a slice that the caller lends with the place from which it is free: each `put_..` writes there
-// and answers with the next free place. It asks for the room that it needs, so nothing is ever cut short.
+// and answers with the next free place. It asks for the room that it needs, so nothing is ever cut short. The memory is the caller's and
+// fixed, with no heap: a rule of the project, so a page is no growing text.
 #![tactic(auto)]
 
-ghost use Rattle.std.specs.Prelude.{◌≡◌, ◌+◌, ◌≤◌, [], ◌∷◌, nat_abs, length};
+ghost use Rattle.std.specs.Prelude.{◌≡◌, ◌+◌, ◌≤◌, [], ◌∷◌, length};
 ghost use Rattle.page.specs.Page.{Puts, PutsNumber, PutsWhole};
 
 pub fn put_text(page: &mut [u8], at: usize, text: &[u8]) -> usize
     requires { at + length text.now ≤ length page.old }
     ensures { Puts page.old at text.now result page.new }
 {
-    let mut i = 0;
-    while i < text.len() {
-        page[at + i] = text[i];
-        i += 1;
-    }
-    at + i
+    let end = at + text.len();
+    page[at..end].copy_from_slice(text);
+    end
 }
 
 pub fn put_byte(page: &mut [u8], at: usize, b: u8) -> usize
@@ -35,26 +33,15 @@ pub fn put_number(page: &mut [u8], at: usize, n: u64) -> usize
     put_text(page, at, &digits[..k])
 }
 
-// The absolute value.
-fn size(x: i32) -> u64
-    ensures { result ≡ nat_abs x }
-{
-    let wide = x as i64;
-    if wide < 0 {
-        (-wide) as u64
-    } else {
-        wide as u64
-    }
-}
-
 // A whole number, with a minus below 0.
 pub fn put_whole(page: &mut [u8], at: usize, x: i32) -> usize
     requires { at + 21 ≤ length page.old }
     ensures { PutsWhole page.old at x result page.new }
 {
+    let size = u64::from(x.unsigned_abs());
     if x < 0 {
         let p = put_byte(page, at, b'-');
-        return put_number(page, p, size(x));
+        return put_number(page, p, size);
     }
-    put_number(page, at, size(x))
+    put_number(page, at, size)
 }

@@ -19,7 +19,7 @@ use Rattle.text.specs.Bytes.{bytes}
 use Rattle.page.specs.Page.{Puts, Numeral, PutsNumber, PutsWhole, sign_text}
 use Rattle.page.proofs.Pages.{few}
 use Rattle.reasons.specs.Reason.{Reason}
-use Rattle.phrases.specs.Phrase.{decimal_in, decimal, whole, after_spaces, place_text, reason_text, said_text, said_wholes}
+use Rattle.phrases.specs.Phrase.{decimal_in, decimal, whole, after_spaces, place_text, reason_text, said_of, said_text, said_wholes}
 
 -- ---- numbers
 
@@ -143,22 +143,23 @@ spaces-snoc (s ∷ ts) t = rw (spaces-snoc ts t) (simp append_assoc)
 pub puts-as : {page : List ℕ} {at : ℕ} {s t : List ℕ} {r : ℕ} {page' : List ℕ} → s ≡ t → Puts page at s r page' → Puts page at t r page'
 puts-as {page} {at} {s} {t} {r} {page'} e p = subst (λ (x : List ℕ). Puts page at x r page') e p
 
--- a word more
-pub one_word : (ws : List ℕ) (i : ℕ) → i < length ws → after_spaces (map decimal (take i ws)) ++ bytes " " ++ decimal (get_or ws i 0) ≡ after_spaces (map decimal (take (i + 1) ws))
-one_word ws i h = sym (rw (add-one, take-suc ws i 0 h, map-append decimal (take i ws), spaces-snoc))
+-- a number more, whatever one of them says
+module _ {A : Type 0} (f : A → List ℕ) (xs : List A) where
+  pub one_number : (i : ℕ) (d : A) → i < length xs → after_spaces (map f (take i xs)) ++ (bytes " " ++ f (get_or xs i d)) ≡ after_spaces (map f (take (i + 1) xs))
+  one_number i d h =
+      sym (rw (add-one, take-suc xs i d h, map-append f (take i xs), spaces-snoc)
+      (append_assoc (after_spaces (map f (take i xs))) (32 ∷ []) (f (get_or xs i d))))
 
-pub all_words : (ws : List ℕ) (i : ℕ) → length ws ≤ i → after_spaces (map decimal (take i ws)) ≡ after_spaces (map decimal ws)
-all_words ws i h = rw (take_all i ws h)
+  pub all-numbers : (i : ℕ) → length xs ≤ i → after_spaces (map f (take i xs)) ≡ after_spaces (map f xs)
+  all-numbers i h = rw (take_all i xs h)
 
-pub some-said : (ws : List ℕ) → (length ws ≡ 0 → ⊥) → bytes " :" ++ after_spaces (map decimal ws) ≡ said_text ws
-unfolding said_text
-some-said [] h = absurd (h refl)
-some-said (w ∷ ws) h = refl
+pub some-said : {A : Type 0} (f : A → List ℕ) (xs : List A) → (length xs ≡ 0 → ⊥) → bytes " :" ++ after_spaces (map f xs) ≡ said_of f xs
+some-said f [] h = absurd (h refl)
+some-said f (x ∷ xs) h = refl
 
-pub none_said : (ws : List ℕ) → length ws ≡ 0 → [] ≡ said_text ws
-unfolding said_text
-none_said [] h = refl
-none_said (w ∷ ws) h = absurd (omega arith)
+pub none_said : {A : Type 0} (f : A → List ℕ) (xs : List A) → length xs ≡ 0 → [] ≡ said_of f xs
+none_said f [] h = refl
+none_said f (x ∷ xs) h = absurd (omega arith)
 
 -- n is the number of a reason
 module _ (g : Reason) (n : ℕ) (is : n ≡ g.number) where
@@ -169,24 +170,3 @@ module _ (g : Reason) (n : ℕ) (is : n ≡ g.number) where
   pub with-place : (p : ℕ) → n ≡ 5 → p ≡ g.place → decimal n ++ place_text p ≡ reason_text g
   unfolding reason_text
   with-place p h e = sym (rw (← is, ← e, eq-eqb n 5 h))
-
--- ---- coordinates, in the same way
-
-pub one-whole-more : (zs : List ℤ) (i : ℕ) → i < length zs
-    → after_spaces (map whole (take i zs)) ++ (bytes " " ++ whole (get_or zs i (pos 0))) ≡ after_spaces (map whole (take (i + 1) zs))
-one-whole-more zs i h =
-    sym (rw (add-one, take-suc zs i (pos 0) h, map-append whole (take i zs), spaces-snoc)
-    (append_assoc (after_spaces (map whole (take i zs))) (32 ∷ []) (whole (get_or zs i (pos 0)))))
-
-pub all-wholes : (zs : List ℤ) (i : ℕ) → length zs ≤ i → after_spaces (map whole (take i zs)) ≡ after_spaces (map whole zs)
-all-wholes zs i h = rw (take_all i zs h)
-
-pub some-coordinates : (zs : List ℤ) → (length zs ≡ 0 → ⊥) → bytes " :" ++ after_spaces (map whole zs) ≡ said_wholes zs
-unfolding said_wholes
-some-coordinates [] h = absurd (h refl)
-some-coordinates (z ∷ zs) h = refl
-
-pub no-coordinates : (zs : List ℤ) → length zs ≡ 0 → [] ≡ said_wholes zs
-unfolding said_wholes
-no-coordinates [] h = refl
-no-coordinates (z ∷ zs) h = absurd (omega arith)

@@ -4,6 +4,7 @@
 --   after_spaces ts    each text "after a space"
 --   place_text p       "` place P`"
 --   reason_text r      "`N`, for a 5 also ` place P`"
+--   said_of f xs       "if any were written ` :` and each after a space", f being what one of them says
 --   said_text ws       "if words were written ` :` and each word after a space"
 --   said_wholes zs     the same of coordinates
 --   words_room n       what n words take at most: a space and twenty digits each
@@ -34,13 +35,15 @@ place_text p = bytes " place " ++ decimal p
 unfoldable pub reason_text : Reason → List ℕ
 reason_text r = decimal r.number ++ cond (eqb r.number 5) (place_text r.place) []
 
+abbrev pub said_of : {A : Type 0} → (A → List ℕ) → List A → List ℕ
+said_of f [] = []
+said_of f (x ∷ xs) = bytes " :" ++ after_spaces (map f (x ∷ xs))
+
 unfoldable pub said_text : List ℕ → List ℕ
-said_text [] = []
-said_text (w ∷ ws) = bytes " :" ++ after_spaces (map decimal (w ∷ ws))
+said_text ws = said_of decimal ws
 
 unfoldable pub said_wholes : List ℤ → List ℕ
-said_wholes [] = []
-said_wholes (z ∷ zs) = bytes " :" ++ after_spaces (map whole (z ∷ zs))
+said_wholes zs = said_of whole zs
 
 abbrev pub wholes_room : ℕ → ℕ
 wholes_room n = n * 22

@@ -2,11 +2,11 @@
 // room that its text can take, and answers with the place after it. The numbers are those that `text` puts.
 #![tactic(auto)]
 
-ghost use Rattle.std.specs.Prelude.{◌++◌, map, ◌≡◌, ◌+◌, ◌≤◌, length};
+ghost use Rattle.std.specs.Prelude.{ℕ, List, ◌++◌, map, ◌+◌, ◌*◌, ◌≤◌, length};
 ghost use Rattle.text.specs.Bytes.{bytes};
 ghost use Rattle.page.specs.Page.{Puts};
 ghost use Rattle.reasons.specs.Reason.{given_of};
-ghost use Rattle.phrases.specs.Phrase.{decimal, whole, after_spaces, place_text, reason_text, said_text, said_wholes, words_room, wholes_room};
+ghost use Rattle.phrases.specs.Phrase.{decimal, whole, after_spaces, place_text, reason_text, said_of};
 
 use reasons::Why;
 
@@ -43,38 +43,77 @@ pub fn place(page: &mut [u8], at: usize, n: u64) -> usize
     page::put_number(page, p, n)
 }
 
-fn wide(w: u32) -> u64
-    ensures { result ≡ w }
-{
-    w as u64
+// A number that stands in a row of them, as a word or a coordinate does.
+pub trait Number {
+    ghost text: { Self → List ℕ };
+
+    // What it takes at most, with the space before it.
+    ghost room: { ℕ };
+
+    // A space and the number.
+    fn put(&self, page: &mut [u8], at: usize) -> usize
+        requires { at + room ≤ length page.old }
+        ensures puts { Puts page.old at (bytes " " ++ text self.now) result page.new }
+        ensures near { result ≤ at + room };
 }
 
-// A space and a word, for each of the words.
-pub fn words(page: &mut [u8], at: usize, words: &[u32]) -> usize
-    requires { at + words_room (length words.now) ≤ length page.old }
-    ensures { Puts page.old at (after_spaces (map decimal words.now)) result page.new }
+impl Number for u32 {
+    ghost text = { decimal };
+
+    ghost room = { 21 };
+
+    fn put(&self, page: &mut [u8], at: usize) -> usize {
+        let p = page::put_byte(page, at, b' ');
+        page::put_number(page, p, u64::from(*self))
+    }
+}
+
+impl Number for i32 {
+    ghost text = { whole };
+
+    ghost room = { 22 };
+
+    fn put(&self, page: &mut [u8], at: usize) -> usize {
+        next_whole(page, at, *self)
+    }
+}
+
+// A space and a number, for each of the numbers.
+pub fn row<N: Number>(page: &mut [u8], at: usize, numbers: &[N]) -> usize
+    requires { at + length numbers.now * N.room ≤ length page.old }
+    ensures { Puts page.old at (after_spaces (map N.text numbers.now)) result page.new }
 {
     let mut p = at;
-    let mut i = 0;
-    while i < words.len() {
-        p = page::put_byte(page, p, b' ');
-        p = page::put_number(page, p, wide(words[i]));
-        i += 1;
+    for n in numbers {
+        p = n.put(page, p);
     }
     p
 }
 
-// The number, and for a 5 the place of the coordinate that was first at fault.
-pub fn reason(page: &mut [u8], at: usize, why: Why) -> usize
+// The words or the coordinates that were written, if any.
+pub fn said<N: Number>(page: &mut [u8], at: usize, written: &[N]) -> usize
+    requires { at + 2 + length written.now * N.room ≤ length page.old }
+    ensures { Puts page.old at (said_of N.text written.now) result page.new }
+{
+    if written.is_empty() {
+        return at;
+    }
+    let p = page::put_text(page, at, b" :");
+    row(page, p, written)
+}
+
+// The number, and for a 5 the place of the coordinate that was first at fault. The 5 is the table's own, as in `reason_text`; tried: a `match`
+// on `why` does not close, since nothing says in the arms left over that the reason is another.
+pub fn reason(page: &mut [u8], at: usize, why: Result<(), Why>) -> usize
     requires { at + 47 ≤ length page.old }
     ensures { Puts page.old at (reason_text (given_of why)) result page.new }
 {
     let n = reasons::number(why);
-    let p = page::put_number(page, at, n as u64);
+    let p = page::put_number(page, at, u64::from(n));
     if n != 5 {
         return p;
     }
-    place(page, p, reasons::place(why) as u64)
+    place(page, p, u64::from(reasons::place(why)))
 }
 
 // Symbols taken and words written, a space after each.
@@ -86,42 +125,4 @@ pub fn counts(page: &mut [u8], at: usize, taken: usize, written: usize) -> usize
     let p = page::put_byte(page, p, b' ');
     let p = page::put_number(page, p, written as u64);
     page::put_byte(page, p, b' ')
-}
-
-// The words that were written, if any.
-pub fn said(page: &mut [u8], at: usize, written: &[u32]) -> usize
-    requires { at + 2 + words_room (length written.now) ≤ length page.old }
-    ensures { Puts page.old at (said_text written.now) result page.new }
-{
-    if written.len() == 0 {
-        return at;
-    }
-    let p = page::put_text(page, at, b" :");
-    words(page, p, written)
-}
-
-// A space and a whole number, for each of the numbers.
-pub fn wholes(page: &mut [u8], at: usize, numbers: &[i32]) -> usize
-    requires { at + wholes_room (length numbers.now) ≤ length page.old }
-    ensures { Puts page.old at (after_spaces (map whole numbers.now)) result page.new }
-{
-    let mut p = at;
-    let mut i = 0;
-    while i < numbers.len() {
-        p = next_whole(page, p, numbers[i]);
-        i += 1;
-    }
-    p
-}
-
-// The coordinates that were written, if any.
-pub fn said_wholes(page: &mut [u8], at: usize, written: &[i32]) -> usize
-    requires { at + 2 + wholes_room (length written.now) ≤ length page.old }
-    ensures { Puts page.old at (said_wholes written.now) result page.new }
-{
-    if written.len() == 0 {
-        return at;
-    }
-    let p = page::put_text(page, at, b" :");
-    wholes(page, p, written)
 }

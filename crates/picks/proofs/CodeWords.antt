@@ -1,8 +1,7 @@
 -- The word of a symbol, put together by shifts and masks.
---   symbol-valid              a symbol that is read can be sent, whatever the words hold
---   bit_below                 a masked bit
---   first_below, last-below   the two labels, as places in a word
---   pack-in, said             what is packed, and what is said, is the word of the symbol
+--   symbol-valid    a symbol that is read can be sent, whatever the words hold
+--   last-below      the second label, as a place in a word
+--   said            what is said is the word of the symbol
 use mathlib.Core.Path.{◌≡◌, ap, ◌∙◌}
 use Prim.Native.Nat.{ℕ, ◌+◌, ◌-◌, ◌*◌, ◌/◌, ◌%◌, ◌^◌, ◌≤◌, ◌<◌}
 use native.Mathlib.Nat.{mod-lt}
@@ -12,10 +11,10 @@ use lib.Pow.{pow_pos}
 use Rattle.wei.specs.declared.label.LabelPair.{LabelPair}
 use Rattle.wei.specs.declared.word.Parts.{Parts}
 use Rattle.wei.specs.Label.{turn_since, second_label, pair_of}
-use Rattle.wei.specs.Word.{packed, InRange}
+use Rattle.wei.specs.Word.{packed}
 use Rattle.wei.specs.Symbol.{Symbol, first_label, Valid}
 use Rattle.wei.proofs.Words.{masked}
-use Rattle.wei.proofs.Labels.{second_below, since-below}
+use Rattle.wei.proofs.Labels.{second_below}
 use Rattle.trellis.specs.Words.{word_parts, word}
 use Rattle.picks.specs.Picks.{byte_at, symbol_by, said_of}
 
@@ -34,9 +33,6 @@ symbol-valid u i3 n k h =
 bit-of : (n : ℕ) → bit_and n 1 ≡ n % 2
 bit-of n = and_mask n 1
 
-pub bit_below : (n : ℕ) → bit_and n 1 < 2
-bit_below n = omega (arith, bit-of n)
-
 module _ (u turn i3 n k : ℕ) (l : LabelPair) (hu : u ≤ 8) (h3 : i3 < 2)
     (is : l ≡ pair_of (2 * i3 + bit_and k 1) (second_label (2 * i3 + bit_and k 1) (bit_and (k / 4) 1) (bit_and (k / 2) 1))) where
   abbrev c : Symbol
@@ -49,9 +45,6 @@ module _ (u turn i3 n k : ℕ) (l : LabelPair) (hu : u ≤ 8) (h3 : i3 < 2)
   second_is : l.second ≡ second_label (first_label c) c.y0 c.i1
   unfolding symbol_by
   second_is = ap (λ (p : LabelPair). p.second) is ∙ rw (bit-of k, bit-of (k / 4), bit-of (k / 2))
-
-  pub first_below : l.first < 4
-  first_below = let v = symbol-valid u i3 n k h3 in rw first-is (omega (arith, v.i2-below, v.i3-below))
 
   pub last-below : l.second < 4
   last-below = rw second_is (second_below (first_label c) c.y0 c.i1)
@@ -71,17 +64,6 @@ module _ (u turn i3 n k : ℕ) (l : LabelPair) (hu : u ≤ 8) (h3 : i3 < 2)
 
     abbrev parts : Parts
     parts = record { i1 = bit_and (k / 2) 1; i2 = bit_and d 1; i3 = d / 2; w1 = bit_and x (1 * 2 ^ u % 2 ^ 32 - 1); w2 = bit_and y (1 * 2 ^ u % 2 ^ 32 - 1) }
-
-    pub pack-in : InRange u parts
-    pack-in =
-        let v = symbol-valid u i3 n k h3 in
-        record {
-          i1-below = bit_below (k / 2);
-          i2-below = bit_below d;
-          i3-below = omega (arith, turned, since-below turn l.first);
-          w1-below = rw w1-is v.w1-below;
-          w2-below = rw w2-is v.w2-below;
-        }
 
     turn_is : d ≡ turn_since turn (first_label c)
     turn_is = turned ∙ ap (turn_since turn) first-is

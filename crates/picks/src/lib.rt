@@ -6,7 +6,7 @@
 #![tactic(auto)]
 
 ghost use Rattle.std.specs.Prelude.{◌≡◌, ◌+◌, ◌*◌, ◌^◌, ◌≤◌, ◌<◌, length};
-ghost use Rattle.picks.specs.Picks.{byte_at, numbers_of, type_at, symbol_by, symbol_in, longer, kept_in, said_of};
+ghost use Rattle.picks.specs.Picks.{byte_at, numbers_of, type_at, symbol_by, symbol_in, kept_in, said_of};
 
 use wei::word::Parts;
 
@@ -17,44 +17,23 @@ pub struct Said {
     pub turn: u32,
 }
 
-// Four bytes as a number, the lowest first.
-fn four_of(a: u8, b: u8, c: u8, d: u8) -> u64
-    ensures { (result ≡ a + b * 2 ^ 8 + c * 2 ^ 16 + d * 2 ^ 24) × (result < 2 ^ 32) }
-{
-    a as u64 + b as u64 * 256 + c as u64 * 65536 + d as u64 * 16777216
-}
-
 // The numbers of the first and of the second point, by label, as one word.
 pub fn numbers_of(w1: [u8; 4], w2: [u8; 4]) -> u64
     ensures { result ≡ numbers_of w1 w2 }
 {
-    four_of(w1[0], w1[1], w1[2], w1[3]) + four_of(w2[0], w2[1], w2[2], w2[3]) * 4294967296
-}
-
-// A byte as a register.
-fn wide(x: u8) -> u64
-    ensures { result ≡ x }
-{
-    x as u64
-}
-
-// A register with one bit more. The oldest is forgotten.
-fn longer_by(register: u64, bit: u8) -> u64
-    requires { bit < 2 }
-    ensures { result ≡ longer register bit }
-{
-    (register << 1) | wide(bit)
+    let first = u32::from_le_bytes(w1);
+    let second = u32::from_le_bytes(w2);
+    u64::from(first) + (u64::from(second) << 32)
 }
 
 // Keeps a symbol: I3' of each subset as the newest bit of its register, and the numbers in their slot.
+// The 72 words are a slice and no array: `receiver::hear_piece_lent` takes them as a part of a caller's own words.
 pub fn keep(picks: &mut [u64], slot: usize, i3: [u8; 8], numbers: u64)
     requires { (slot < 64) × (length picks.old ≡ 72) }
     ensures { picks.new ≡ kept_in picks.old slot i3 numbers }
 {
-    let mut k: usize = 0;
-    while k < 8 {
-        picks[k] = longer_by(picks[k], i3[k] % 2);
-        k += 1;
+    for k in 0..8 {
+        picks[k] = registers::longer_by::<1>(picks[k], u64::from(i3[k] % 2));
     }
     picks[8 + slot] = numbers;
 }
@@ -64,7 +43,7 @@ fn number_at(numbers: u64, place: u32) -> u32
     requires { place < 8 }
     ensures { result ≡ byte_at numbers place }
 {
-    ((numbers >> (8 * place)) % 256) as u32
+    u32::from(numbers.to_le_bytes()[place as usize])
 }
 
 // I3' of the subset k, so many symbols before the newest.
@@ -90,7 +69,7 @@ fn word_by(u: u32, turn: u32, i3: u32, numbers: u64, k: usize) -> Said
     let word = wei::word::pack(
         u,
         Parts {
-            i1: i1,
+            i1,
             i2: d & 1,
             i3: d >> 1,
             w1: w1 & mask,
@@ -98,7 +77,7 @@ fn word_by(u: u32, turn: u32, i3: u32, numbers: u64, k: usize) -> Said
         },
     );
     Said {
-        word: word,
+        word,
         turn: l.first,
     }
 }

@@ -6,38 +6,33 @@ ghost use Rattle.std.specs.Prelude.{◌≡◌, ◌+◌, ◌≤◌, get_or, lengt
 ghost use Rattle.nearest.specs.Found.{heard_as};
 ghost use Rattle.receiver_meaning.specs.Told.{fault_at, fault_of};
 ghost use Rattle.receiver_meaning.specs.Piece.{point_from, fits_with, marks_of};
-ghost use Rattle.piece_input.specs.Looks.{symbol_in, Looks};
+ghost use Rattle.piece_input.specs.Marks.{is_marked, marks_in};
+ghost use Rattle.piece_input.specs.Looks.{symbol_in, place_below, Looks};
 
 use distance::Spot;
 use nearest::Received;
 
 // Whether so many coordinates make whole symbols, and the marks, where the piece has any, are one for each.
-pub fn fits(marked: bool, marks: &[u8], count: usize) -> bool
-    ensures { result ≡ fits_with marked marks.now count }
+pub fn fits(marks: Option<&[u8]>, count: usize) -> bool
+    ensures { result ≡ fits_with (is_marked marks.entry) (marks_in marks.entry) count }
 {
     if count % 4 != 0 {
         return false;
     }
-    if !marked {
-        return true;
+    match marks {
+        None => true,
+        Some(marks) => count / 4 == marks.len() && lists::bytes_up_to(marks, 3),
     }
-    if count / 4 != marks.len() {
-        return false;
-    }
-    lists::bytes_up_to(marks, 3)
 }
 
 // The mark of the symbol j: 0, nothing missing, where there is none.
-pub fn mark_at(marked: bool, marks: &[u8], j: usize) -> u8
-    ensures { result ≡ get_or (marks_of marked marks.now) j 0 }
+pub fn mark_at(marks: Option<&[u8]>, j: usize) -> u8
+    ensures { result ≡ get_or (marks_of (is_marked marks.entry) (marks_in marks.entry)) j 0 }
 {
-    if !marked {
-        return 0;
+    match marks {
+        None => 0,
+        Some(marks) => marks.get(j).copied().unwrap_or(0),
     }
-    if marks.len() <= j {
-        return 0;
-    }
-    marks[j]
 }
 
 // A received point. The coordinates of a missing one are not looked at.
@@ -45,44 +40,47 @@ fn point(missing: bool, x: i32, y: i32) -> Received
     ensures { result ≡ point_from missing x y }
 {
     if missing {
-        return Received::Missing;
+        Received::Missing
+    } else {
+        Received::Heard(Spot { x, y })
     }
-    Received::Heard(Spot { x: x, y: y })
 }
 
-// The place of a point's first coordinate out of range, or 2; a missing point has none.
-fn fault_at(h: Received) -> u32
-    ensures { result ≡ fault_at h }
+// The place of a point's first coordinate out of range; a missing point has none.
+fn fault_at(h: Received) -> Option<u32>
+    ensures { result ≡ place_below 2 (fault_at h) }
 {
     let Received::Heard(s) = h else {
-        return 2;
+        return None;
     };
     if !nearest::is_coordinate(s.x) {
-        return 0;
+        return Some(0);
     }
     if !nearest::is_coordinate(s.y) {
-        return 1;
+        return Some(1);
     }
-    2
+    None
 }
 
-// The place of the first coordinate of a symbol out of range, or 4.
-fn fault(first: Received, second: Received) -> u32
-    ensures { result ≡ fault_of (heard_as first second) }
+// The place of the first coordinate of a symbol out of range.
+fn fault(first: Received, second: Received) -> Option<u32>
+    ensures { result ≡ place_below 4 (fault_of (heard_as first second)) }
 {
-    let place = fault_at(first);
-    if place < 2 {
-        return place;
+    if let Some(place) = fault_at(first) {
+        return Some(place);
     }
-    2 + fault_at(second)
+    match fault_at(second) {
+        Some(place) => Some(2 + place),
+        None => None,
+    }
 }
 
-// The two points of a symbol, and the place of its first coordinate out of range, or 4.
+// The two points of a symbol, and the place of its first coordinate out of range.
 #[derive(Clone, Copy)]
 pub struct Looked {
     pub first: Received,
     pub second: Received,
-    pub place: u32,
+    pub place: Option<u32>,
 }
 
 // The symbol of a piece from the place i on, with its mark.
@@ -92,10 +90,9 @@ pub fn look(mark: u8, samples: &[i32], i: usize) -> Looked
 {
     let first = point(mark % 2 == 1, samples[i], samples[i + 1]);
     let second = point(2 <= mark, samples[i + 2], samples[i + 3]);
-    let place = fault(first, second);
     Looked {
-        first: first,
-        second: second,
-        place: place,
+        first,
+        second,
+        place: fault(first, second),
     }
 }

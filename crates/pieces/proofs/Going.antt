@@ -4,22 +4,21 @@
 use mathlib.Core.Path.{◌≡◌, refl, sym, ap, ◌∙◌}
 use mathlib.Core.Bool.{true, false, cond}
 use mathlib.Core.List.{List, [], ◌∷◌, ◌++◌, append-nil}
-use Prim.Native.Nat.{ℕ, suc, ◌+◌, ◌-◌, ◌*◌, ◌%◌, ◌<◌, ◌≤◌}
+use Prim.Native.Nat.{ℕ, suc, ◌+◌, ◌-◌, ◌*◌, ◌/◌, ◌%◌, ◌<◌, ◌≤◌}
 use native.Mathlib.Nat.{add-zero}
 use native.Mathlib.Numerals.{add-one, add-two, add-three, add-four}
 use native.Mathlib.Omega.{arith}
 use lib.IntN.{ℤ, pos}
 use lib.ListN.{get_or, length, take, drop, length-drop, take-append-drop, drop_of_length-le}
 use lib.Seq.{length-take-le, drop-cons}
+use Rattle.std.specs.Prelude.{Ok}
 use Rattle.trellis.specs.Measure.{Two}
 use Rattle.nearest.specs.declared.Received.{Received}
 use Rattle.machine.specs.declared.Core.{Core}
 use Rattle.machine.specs.declared.Receiver.{Receiver}
 use Rattle.one_symbol.specs.declared.Took.{Took}
-use Rattle.reasons.specs.declared.Why.{Why}
-use Rattle.reasons.specs.declared.Why.TheVariants.{Done}
 use Rattle.machine.specs.Machine.{Outcome, sound}
-use Rattle.reasons.specs.Reason.{reason, given_of, is_done}
+use Rattle.reasons.specs.Reason.{given_of, is_done}
 use Rattle.receiver_meaning.specs.Piece.{symbols_with}
 use Rattle.pieces.specs.Running.{symbol_at, Ran, running}
 use Rattle.piece_input.specs.Looks.{symbol_in}
@@ -28,21 +27,18 @@ use Rattle.machine.specs.Parts.{whole}
 use Rattle.one_symbol.specs.Taken.{TookIs}
 use Rattle.piece_input.proofs.Marks.{mark-from, later-from}
 use Rattle.pieces.proofs.Kept.{symbol-refused, symbol-sound, symbol-accord}
-use Rattle.reasons.proofs.Apart.{done-given}
 use Rattle.pieces.proofs.Lent.{part, back_is, lent_fits, back-take, back-drop, back-length}
 
-pub record Going (ms : List ℕ) (xs : List ℤ) (out₀ : List ℕ) (rx₀ : Receiver) (out : List ℕ) (rx : Receiver) (taken written : ℕ) (why : Why) (i : ℕ) : Type 0 where
+pub record Going (ms : List ℕ) (xs : List ℤ) (out₀ : List ℕ) (rx₀ : Receiver) (out : List ℕ) (rx : Receiver) (taken written : ℕ) : Type 0 where
   pub even : length xs % 4 ≡ 0
-  pub within : i ≤ length xs
-  pub count : 4 * taken ≡ i
+  pub within : 4 * taken ≤ length xs
   pub room : written ≤ length out₀
   pub long : length out ≡ length out₀
   pub fit : sound rx ≡ true
   pub picks : length rx.picks ≡ 72
   pub accord : rx.core.accord ≡ rx₀.core.accord
-  pub going : given_of why ≡ reason 0
   pub rest : drop written out ≡ drop written out₀
-  pub same : running (symbols_with ms xs) rx₀ 0 [] (length out₀) ≡ running (symbols_with (drop taken ms) (drop i xs)) rx taken (take written out) (length out₀)
+  pub same : running (symbols_with ms xs) rx₀ 0 [] (length out₀) ≡ running (symbols_with (drop taken ms) (drop (4 * taken) xs)) rx taken (take written out) (length out₀)
 
 -- the symbols from the place i on, with the marks from the place j on
 symbols-from : (ms : List ℕ) (j : ℕ) (xs : List ℤ) (i : ℕ) → i + 4 ≤ length xs →
@@ -79,10 +75,13 @@ module _ (y : Two Received) (zs : List (Two Received)) (rx : Receiver) (n : ℕ)
 
 -- ---- a turn of the loop
 
-module _ (ms : List ℕ) (xs : List ℤ) (out₀ : List ℕ) (rx₀ : Receiver) (out : List ℕ) (rx : Receiver) (taken w : ℕ) (why : Why) (i : ℕ)
-    (g : Going ms xs out₀ rx₀ out rx taken w why i) (more : i < length xs) (mark : ℕ) (m : mark ≡ get_or ms taken 0) where
+module _ (ms : List ℕ) (xs : List ℤ) (out₀ : List ℕ) (rx₀ : Receiver) (out : List ℕ) (rx : Receiver) (taken w : ℕ)
+    (g : Going ms xs out₀ rx₀ out rx taken w) (more : taken < length xs / 4) (mark : ℕ) (m : mark ≡ get_or ms taken 0) where
+  abbrev i : ℕ
+  i = 4 * taken
+
   pub four-more : i + 4 ≤ length xs
-  four-more = omega (arith, g.even, g.count, more)
+  four-more = omega (arith, g.even, more)
 
   -- what is lent to the symbol: the output from the place w on
   abbrev lent : List ℕ
@@ -119,22 +118,21 @@ module _ (ms : List ℕ) (xs : List ℤ) (out₀ : List ℕ) (rx₀ : Receiver) 
     more-length = back-length out out₀ o.words ys w g.long g.room g.rest is.out kept
 
     pub go_on : is_done r.why ≡ true → length picks ≡ 72 →
-        Going ms xs out₀ rx₀ after (whole r.core sums registers picks) (taken + 1) (w + r.written) r.why (i + 4)
+        Going ms xs out₀ rx₀ after (whole r.core sums registers picks) (taken + 1) (w + r.written)
     go_on done of-72 =
+        let four-on : i + 4 ≡ 4 * (taken + 1) = omega arith in
         record {
           even = g.even;
-          within = four-more;
-          count = omega (arith, g.count);
+          within = omega (arith, four-more);
           room = more-fits;
           long = more-length;
-          going = done-given r.why done;
           fit = ap sound is.receiver ∙ symbol-sound rx g.fit y (length lent);
           picks = of-72;
           accord = ap (λ (x : Receiver). x.core.accord) is.receiver ∙ symbol-accord rx y (length lent) ∙ g.accord;
           rest = rw is.written (back-drop out out₀ o.words ys w g.long g.room g.rest is.out kept);
           same =
               same-on ∙ run_on y ahead rx taken (take w out) (length out₀) o here (ap is_done (sym is.why) ∙ done)
-              ∙ rw (is.written, back-take out out₀ o.words ys w g.long g.room g.rest is.out kept, is.receiver);
+              ∙ rw (is.written, back-take out out₀ o.words ys w g.long g.room g.rest is.out kept, is.receiver, ← four-on);
         }
 
     pub stop : is_done r.why ≡ false →
@@ -158,28 +156,27 @@ module _ (ms : List ℕ) (xs : List ℤ) (out₀ : List ℕ) (rx₀ : Receiver) 
 -- ---- before the first symbol, and after the last
 
 module _ (ms : List ℕ) (xs : List ℤ) (out : List ℕ) (rx : Receiver) where
-  pub start : length xs % 4 ≡ 0 → sound rx ≡ true → length rx.picks ≡ 72 → Going ms xs out rx out rx 0 0 Done 0
+  pub start : length xs % 4 ≡ 0 → sound rx ≡ true → length rx.picks ≡ 72 → Going ms xs out rx out rx 0 0
   start even fit of-72 =
       record {
         even = even;
         within = omega arith;
-        count = refl;
         room = omega arith;
         long = refl;
         fit = fit;
         picks = of-72;
         accord = refl;
-        going = refl;
         rest = refl;
         same = refl;
       }
 
-  pub end : (out₁ : List ℕ) (core : Core) (sums registers picks : List ℕ) (taken w : ℕ) (why : Why) (i : ℕ) → Going ms xs out rx out₁ (whole core sums registers picks) taken w why i →
-      length xs ≤ i → RunsLent (running (symbols_with ms xs) rx 0 [] (length out)) out (record { core = core; taken = taken; written = w; why = why }) sums registers picks out₁
+  pub end : (out₁ : List ℕ) (core : Core) (sums registers picks : List ℕ) (taken w : ℕ) → Going ms xs out rx out₁ (whole core sums registers picks) taken w →
+      length xs / 4 ≤ taken →
+      RunsLent (running (symbols_with ms xs) rx 0 [] (length out)) out (record { core = core; taken = length xs / 4; written = w; why = Ok tt }) sums registers picks out₁
   unfolding running
-  end out₁ core sums registers picks taken w why i g past =
+  end out₁ core sums registers picks taken w g past =
       let rx₁ = whole core sums registers picks in
       let l : length (take w out₁) ≡ w = length-take-le w out₁ (omega (arith, g.room, g.long)) in
-      let ran : running (symbols_with ms xs) rx 0 [] (length out) ≡ record { receiver = rx₁; taken = taken; words = take w out₁; why = Done } =
-      g.same ∙ ap (λ (zs : List ℤ). running (symbols_with (drop taken ms) zs) rx₁ taken (take w out₁) (length out)) (drop_of_length-le xs {i = i} past) in
-      rw ran (record { receiver = refl; taken = refl; written = sym l; given = g.going; output = rw (l, ← g.rest) (sym (take-append-drop w out₁)) })
+      let ran : running (symbols_with ms xs) rx 0 [] (length out) ≡ record { receiver = rx₁; taken = taken; words = take w out₁; why = Ok tt } =
+      g.same ∙ ap (λ (zs : List ℤ). running (symbols_with (drop taken ms) zs) rx₁ taken (take w out₁) (length out)) (drop_of_length-le xs {i = 4 * taken} (omega (arith, g.even, past))) in
+      rw ran (record { receiver = refl; taken = omega (arith, g.within, past); written = sym l; given = refl; output = rw (l, ← g.rest) (sym (take-append-drop w out₁)) })

@@ -11,6 +11,7 @@ use native.Mathlib.Omega.{arith}
 use borrow.Author.Tests.{ltb-false, lt-ltb, le-ltb}
 use lib.Dec.{T, ltb}
 use lib.ListN.{length}
+use Rattle.std.specs.Prelude.{Err}
 use Rattle.trellis.specs.Measure.{Two}
 use Rattle.nearest.specs.declared.Received.{Received}
 use Rattle.nearest.specs.Line.{BothInRange}
@@ -72,11 +73,11 @@ module _ (core : Core) (sums registers picks before : List ℕ) (y : Two Receive
   abbrev here : Outcome
   here = symbol_at (whole core sums registers picks) y (length before)
 
-  pub faulty-took : place < 4 → TookIs here (record { core = core; written = 0; why = BadSample place }) sums registers picks before before
+  pub faulty-took : place < 4 → TookIs here (record { core = core; written = 0; why = Err (BadSample place) }) sums registers picks before before
   unfolding symbol_at
   faulty-took h =
       rw (lt-ltb (fault_of y) 4 (omega arith))
-      (record { receiver = refl; why = ap BadSample e; written = refl; out = refl })
+      (record { receiver = refl; why = ap (λ (p : ℕ). Err (BadSample p)) e; written = refl; out = refl })
 
   pub good-taking : 4 ≤ place → (here ≡ taking (whole core sums registers picks) y (length before)) × BothInRange y
   unfolding symbol_at

@@ -13,6 +13,7 @@ use Rattle.trellis.specs.Measure.{Two}
 use Rattle.nearest.specs.declared.Received.{Received}
 use Rattle.nearest.specs.Line.{BothInRange}
 use Rattle.machine.specs.declared.Receiver.{Receiver}
+use Rattle.std.specs.Prelude.{Err}
 use Rattle.reasons.specs.declared.Why.TheVariants.{BadSample}
 use Rattle.machine.specs.Machine.{Outcome, refused, taking, machine_after}
 use Rattle.receiver_meaning.specs.Told.{Told, speaker_of, fault_of, judge_symbol, Fine, with_heard}
@@ -42,7 +43,7 @@ takes t ys f y r room =
     })
 
 module _ (t : Told) (ys : List (Two Received)) (f : Fine (with_heard t ys)) (y : Two Received) (room : ℕ) where
-  at-fault : ltb (fault_of y) 4 ≡ true → Judged t ys y room (refused (machine_after t ys) (BadSample (fault_of y)))
+  at-fault : ltb (fault_of y) 4 ≡ true → Judged t ys y room (refused (machine_after t ys) (Err (BadSample (fault_of y))))
   unfolding judge_symbol
   at-fault e =
       let j : judge_symbol t ys y room ≡ record { number = 5; place = fault_of y } = rw e in
@@ -53,6 +54,6 @@ module _ (t : Told) (ys : List (Two Received)) (f : Fine (with_heard t ys)) (y :
   unfolding symbol_at
   symbol-judged = go (ltb (fault_of y) 4) refl
     where
-      go : (b : Bool) → ltb (fault_of y) 4 ≡ b → Judged t ys y room (cond b (refused (machine_after t ys) (BadSample (fault_of y))) (taking (machine_after t ys) y room))
+      go : (b : Bool) → ltb (fault_of y) 4 ≡ b → Judged t ys y room (cond b (refused (machine_after t ys) (Err (BadSample (fault_of y)))) (taking (machine_after t ys) y room))
       go true e = at-fault e
       go false e = takes t ys f y (in-range y e) room

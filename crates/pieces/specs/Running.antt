@@ -3,27 +3,27 @@
 --   symbol_at rx y room       one symbol: 5 first, then what `taking` says
 --   Ran, running             symbol by symbol, up to the first refusal, after the words ws and so many symbols
 --   Written words out o      o is the output `out` with the words in its first places, and all else unchanged
-use Rattle.std.specs.Prelude.{ℕ, ◌+◌, ◌-◌, ◌≡◌, cond, List, [], ◌∷◌, ◌++◌, ltb, length, drop}
+use Rattle.std.specs.Prelude.{ℕ, ◌+◌, ◌-◌, ◌≡◌, cond, List, [], ◌∷◌, ◌++◌, ltb, length, drop, Result, Ok, Err, ⊤}
 use Rattle.trellis.specs.Measure.{Two}
 use Rattle.nearest.specs.declared.Received.{Received}
 use Rattle.machine.specs.declared.Receiver.{Receiver}
 use Rattle.machine.specs.Machine.{Outcome, refused, taking}
 use Rattle.reasons.specs.declared.Why.{Why}
-use Rattle.reasons.specs.declared.Why.TheVariants.{Done, BadSample}
+use Rattle.reasons.specs.declared.Why.TheVariants.{BadSample}
 use Rattle.reasons.specs.Reason.{is_done}
 use Rattle.receiver_meaning.specs.Told.{fault_of}
 
 unfoldable pub symbol_at : Receiver → Two Received → ℕ → Outcome
-symbol_at rx y room = cond (ltb (fault_of y) 4) (refused rx (BadSample (fault_of y))) (taking rx y room)
+symbol_at rx y room = cond (ltb (fault_of y) 4) (refused rx (Err (BadSample (fault_of y)))) (taking rx y room)
 
 pub record Ran : Type 0 where
   pub receiver : Receiver
   pub taken : ℕ
   pub words : List ℕ
-  pub why : Why
+  pub why : Result ⊤ Why
 
 unfoldable pub running : List (Two Received) → Receiver → ℕ → List ℕ → ℕ → Ran
-running [] rx n ws room = record { receiver = rx; taken = n; words = ws; why = Done }
+running [] rx n ws room = record { receiver = rx; taken = n; words = ws; why = Ok tt }
 running (y ∷ ys) rx n ws room =
     let o = symbol_at rx y (room - length ws) in
     cond (is_done o.why) (running ys o.receiver (n + 1) (ws ++ o.words) room) (record { receiver = rx; taken = n; words = ws; why = o.why })

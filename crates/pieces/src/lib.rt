@@ -9,7 +9,7 @@ ghost use Rattle.nearest.specs.Found.{chart_of};
 ghost use Rattle.machine.specs.Machine.{sound};
 ghost use Rattle.machine.specs.Parts.{whole};
 ghost use Rattle.one_symbol.specs.Taken.{TookIs};
-ghost use Rattle.receiver_meaning.specs.Piece.{symbols_with, marks_of};
+ghost use Rattle.piece_input.specs.Marks.{piece_by};
 ghost use Rattle.piece_input.specs.Looks.{symbol_in};
 ghost use Rattle.pieces.specs.Running.{symbol_at, running};
 ghost use Rattle.pieces.specs.Lent.{RunsLent};
@@ -36,18 +36,24 @@ fn symbol(
     ensures { TookIs (symbol_at (whole core sums.old registers.old picks.old) (symbol_in mark samples.now i) (length out.old))
         result sums.new registers.new picks.new out.old out.new }
 {
-    let y = piece_input::look(mark, samples, i);
-    let place = y.place;
-    if place < 4 {
+    let looked = piece_input::look(mark, samples, i);
+    if let Some(place) = looked.place {
         return Took {
-            core: core,
+            core,
             written: 0,
-            why: Why::BadSample(place),
+            why: Err(Why::BadSample(place)),
         };
     }
-    let first = y.first;
-    let second = y.second;
-    one_symbol::take_symbol(t, core, sums, registers, picks, first, second, out)
+    one_symbol::take_symbol(
+        t,
+        core,
+        sums,
+        registers,
+        picks,
+        looked.first,
+        looked.second,
+        out,
+    )
 }
 
 // How a piece went, where the receiver's arrays are lent: the numbers of the receiver after it stand beside the answer.
@@ -56,14 +62,13 @@ pub struct Heard {
     pub core: Core,
     pub taken: usize,
     pub written: usize,
-    pub why: Why,
+    pub why: Result<(), Why>,
 }
 
 // The symbols of a piece, one after another, up to the first that is refused.
 pub fn hear_symbols(
     start: Core,
-    marked: bool,
-    marks: &[u8],
+    marks: Option<&[u8]>,
     samples: &[i32],
     sums: &mut [u32; 16],
     registers: &mut [u64; 48],
@@ -71,25 +76,22 @@ pub fn hear_symbols(
     out: &mut [u32],
 ) -> Heard
     requires { (sound (whole start sums.old registers.old picks.old) ≡ true) × (length samples.now % 4 ≡ 0) × (length picks.old ≡ 72) }
-    ensures { RunsLent (running (symbols_with (marks_of marked marks.now) samples.now)
+    ensures { RunsLent (running (piece_by marks.entry samples.now).symbols
         (whole start sums.old registers.old picks.old) 0 [] (length out.old))
         out.old result sums.new registers.new picks.new out.new }
 {
-    let accord = start.accord;
-    let chart = nearest::chart(accord);
+    let chart = nearest::chart(start.accord);
+    let symbols = samples.len() / 4;
     let mut core = start;
-    let mut taken: usize = 0;
     let mut written: usize = 0;
-    let mut why = Why::Done;
-    let mut i: usize = 0;
-    while i < samples.len() {
-        let mark = piece_input::mark_at(marked, marks, taken);
+    for taken in 0..symbols {
+        let mark = piece_input::mark_at(marks, taken);
         let t = symbol(
             &chart,
             core,
             mark,
             samples,
-            i,
+            4 * taken,
             sums,
             registers,
             picks,
@@ -97,17 +99,19 @@ pub fn hear_symbols(
         );
         core = t.core;
         written = written + t.written;
-        why = t.why;
-        if !reasons::is_done(why) {
-            break;
+        if t.why.is_err() {
+            return Heard {
+                core,
+                taken,
+                written,
+                why: t.why,
+            };
         }
-        taken += 1;
-        i += 4;
     }
     Heard {
-        core: core,
-        taken: taken,
-        written: written,
-        why: why,
+        core,
+        taken: symbols,
+        written,
+        why: Ok(()),
     }
 }

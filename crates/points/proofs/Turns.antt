@@ -2,10 +2,10 @@
 --   labelled-turned   a quarter turn adds 1 to the label modulo 4
 --   labelled          the remainders of the point with label l
 --   small-point       its coordinates
-use mathlib.Core.Path.{◌≡◌, refl, sym, ap, subst, ◌∙◌}
+use mathlib.Core.Path.{◌≡◌, refl, ap, subst, ◌∙◌}
 use Prim.Native.Nat.{ℕ, zero, suc, ◌+◌, ◌-◌, ◌%◌, ◌<◌}
 use native.Mathlib.Omega.{arith}
-use lib.IntN.{ℤ, pos, negsuc, neg_ℤ, nat_abs}
+use lib.IntN.{ℤ, pos, negsuc, neg_ℤ}
 use Rattle.points.specs.declared.Point.{Point}
 use Rattle.points.specs.Points.{mod4, a_point}
 use Rattle.points.specs.Turn.{turned, turns, point_of, remainder_x, Labelled, Small}

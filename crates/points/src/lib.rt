@@ -30,9 +30,8 @@ pub struct Accord {
 pub fn is_accord(a: Accord) -> bool
     ensures { result ≡ is_accord a }
 {
-    let map = a.map;
     let u = a.u;
-    match map {
+    match a.map {
         Map::Round => u <= 8,
         Map::Square => u <= 8 && u % 2 == 0,
     }
@@ -52,8 +51,8 @@ pub fn a_point(t: &[i8; 512], w: usize) -> Point
     let x = t[w * 2];
     let y = t[w * 2 + 1];
     Point {
-        x: x as i32,
-        y: y as i32,
+        x: i32::from(x),
+        y: i32::from(y),
     }
 }
 
@@ -71,10 +70,8 @@ pub fn point_of(t: &[i8; 512], l: u32, w: usize) -> Point
     ensures { result ≡ point_of l w }
 {
     let mut p = a_point(t, w);
-    let mut k = 0;
-    while k < l {
+    for _ in 0..l {
         p = quarter_turn(p);
-        k += 1;
     }
     p
 }

@@ -1,4 +1,5 @@
-// The first 256 A points, x and y in turn, as one constant table of 512 coordinates.
+// The first 256 A points, x and y in turn, as one constant table of 512 coordinates: `coordinates` of specs/Points, on which the
+// theorems about the table rest, is this list.
 //
 // A constant array that is read at a variable index is written out anew by every call of the function that reads it. So a
 // caller that wants many points asks for the table once and lends it down.

@@ -19,6 +19,7 @@ use lib.Dec.{eqb, ltb}
 use lib.IntN.{ℤ}
 use lib.ListN.{length, get_or, take, drop}
 use lib.Seq.{take-take}
+use Rattle.std.specs.Prelude.{Result, Ok, Err, ⊤}
 use Rattle.wei.specs.Symbol.{Symbol}
 use Rattle.points.specs.declared.Accord.{Accord}
 use Rattle.trellis.specs.Code.{Path, symbols}
@@ -28,7 +29,7 @@ use Rattle.trellis.specs.Words.{as_heard}
 use Rattle.nearest.specs.declared.Received.{Received}
 use Rattle.machine.specs.Machine.{Outcome, refused, sound}
 use Rattle.reasons.specs.declared.Why.{Why}
-use Rattle.reasons.specs.declared.Why.TheVariants.{Done, NoRoom, Closed, Uneven}
+use Rattle.reasons.specs.declared.Why.TheVariants.{NoRoom, Closed, Uneven}
 use Rattle.reasons.specs.Reason.{Reason, given_of, is_done}
 use Rattle.receiver_meaning.specs.Told.{code_of, words_of}
 use Rattle.receiver_meaning.specs.Piece.{Piece, symbols_of}
@@ -73,7 +74,7 @@ use Rattle.promises.proofs.Library as demands
 abbrev pub first_of : ℕ → Piece → Piece
 first_of m p = record { fits = true; symbols = take m p.symbols }
 
-not_done : (w : Why) → is_done w ≡ false → is_done w ≡ true → ⊥
+not_done : (w : Result ⊤ Why) → is_done w ≡ false → is_done w ≡ true → ⊥
 not_done w e f = let z : ◌≡◌ {A = ℕ} 0 1 = cc in omega arith
 
 -- a symbol that was recorded went as the receiver says
@@ -81,15 +82,15 @@ taped-as : (rx : Receiver) (y : Two Received) (room bytes : ℕ) → is_done (ta
 unfolding taped_at
 taped-as rx y room bytes = go (is_done (symbol_at rx y room).why && ltb bytes (space_of (symbol_records y (symbol_at rx y room).words)))
   where
-    go : (b : Bool) → is_done (cond b (refused rx NoRoom) (symbol_at rx y room)).why ≡ true → cond b (refused rx NoRoom) (symbol_at rx y room) ≡ symbol_at rx y room
-    go true e = absurd (not_done NoRoom refl e)
+    go : (b : Bool) → is_done (cond b (refused rx (Err NoRoom)) (symbol_at rx y room)).why ≡ true → cond b (refused rx (Err NoRoom)) (symbol_at rx y room) ≡ symbol_at rx y room
+    go true e = absurd (not_done (Err NoRoom) refl e)
     go false e = refl
 
 -- so many of the symbols were taken, and running these alone gives the same
 record RunsAs (zs : List (Two Received)) (rx : Receiver) (n : ℕ) (ws : List ℕ) (room : ℕ) (t : tape.Ran) : Type 0 where
   more : ℕ
   count : t.taken ≡ n + more
-  runs : running (take more zs) rx n ws room ≡ record { receiver = t.receiver; taken = t.taken; words = t.words; why = Done }
+  runs : running (take more zs) rx n ws room ≡ record { receiver = t.receiver; taken = t.taken; words = t.words; why = Ok tt }
 
 module _ (y : Two Received) (zs : List (Two Received)) (rx : Receiver) (n : ℕ) (ws : List ℕ) (rs : List Entry) (room bytes : ℕ) where
   abbrev o : Outcome
@@ -131,13 +132,13 @@ pub heard-as : (rx : Receiver) (p : Piece) (room bytes : ℕ) → let t = taped_
 unfolding taped_hearing doors.hearing running
 heard-as rx p room bytes = go (sound rx) p.fits
   where
-    go : (a b : Bool) → let t = cond a (cond b (taping p.symbols rx 0 [] [] room bytes) (recorder.stopped rx Uneven)) (recorder.stopped rx Closed) in
-        Alike (cond a (running (take t.taken p.symbols) rx 0 [] room) (doors.stopped rx Closed)) t
+    go : (a b : Bool) → let t = cond a (cond b (taping p.symbols rx 0 [] [] room bytes) (recorder.stopped rx (Err Uneven))) (recorder.stopped rx (Err Closed)) in
+        Alike (cond a (running (take t.taken p.symbols) rx 0 [] room) (doors.stopped rx (Err Closed))) t
     go true true =
         let t = taping p.symbols rx 0 [] [] room bytes in
         let r = runs_as p.symbols rx 0 [] [] room bytes in
         let m : r.more ≡ t.taken = omega (arith, r.count) in
-        let e : running (take t.taken p.symbols) rx 0 [] room ≡ record { receiver = t.receiver; taken = t.taken; words = t.words; why = Done } =
+        let e : running (take t.taken p.symbols) rx 0 [] room ≡ record { receiver = t.receiver; taken = t.taken; words = t.words; why = Ok tt } =
         ap (λ (i : ℕ). running (take i p.symbols) rx 0 [] room) (sym m) ∙ r.runs in
         record { receiver = ap (λ (x : doors.Ran). x.receiver) e; taken = ap (λ (x : doors.Ran). x.taken) e; words = ap (λ (x : doors.Ran). x.words) e }
     go true false = record { receiver = refl; taken = refl; words = refl }
@@ -154,10 +155,10 @@ module _ (rx : Receiver) (room bytes : ℕ) where
 
   abbrev made : Bool → Bool → tape.Ran
   made a b =
-      cond a (cond b (recorder.stopped rx NoRoom) (record { receiver = h.receiver; taken = 0; words = h.words; records = finish_records h.words; why = Done }))
+      cond a (cond b (recorder.stopped rx (Err NoRoom)) (record { receiver = h.receiver; taken = 0; words = h.words; records = finish_records h.words; why = Ok tt }))
       (recorder.stopped rx h.why)
 
-  zero-done : (w : Why) → (given_of w).number ≡ 0 → is_done w ≡ true
+  zero-done : (w : Result ⊤ Why) → (given_of w).number ≡ 0 → is_done w ≡ true
   zero-done w e = eq-eqb (given_of w).number 0 e
 
   pub finish-done : (given_of t.why).number ≡ 0 → ((given_of h.why).number ≡ 0) × (h.receiver ≡ t.receiver) × (h.words ≡ t.words)

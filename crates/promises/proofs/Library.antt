@@ -15,6 +15,7 @@ use borrow.Author.Tests.{le-ltb, lt-ltb}
 use lib.Dec.{eqb, ltb}
 use lib.IntN.{ℤ}
 use lib.ListN.{length, get_or, take, drop}
+use Rattle.std.specs.Prelude.{Result, Ok, Err, ⊤}
 use Rattle.wei.specs.Symbol.{Symbol}
 use Rattle.points.specs.declared.Accord.{Accord}
 use Rattle.trellis.specs.Code.{Path, symbols}
@@ -36,7 +37,7 @@ use Rattle.receiver.specs.Promise as receiver
 use Rattle.receiver.proofs.Doors as doors
 use Rattle.sender.specs.declared.Sender.{Sender}
 use Rattle.sender.specs.declared.Why.{Why}
-use Rattle.sender.specs.declared.Why.TheVariants.{Done, BadWidth, BadWord, NoRoom, Closed}
+use Rattle.sender.specs.declared.Why.TheVariants.{BadWidth, BadWord, NoRoom, Closed}
 use Rattle.sender.specs.Send as sender
 use Rattle.sender.specs.SendList.{sending_list}
 use Rattle.sender.specs.Promise as sends
@@ -158,8 +159,8 @@ module _ (k : Accord) (w : ℕ) (b : Start) where
 -- ---- the library's sender
 
 -- the reason that a number stands for
-abbrev pub why_of : ℕ → Why
-why_of n = cond (eqb n 0) Done (cond (eqb n 4) BadWord (cond (eqb n 8) NoRoom (cond (eqb n 9) Closed BadWidth)))
+abbrev pub why_of : ℕ → Result ⊤ Why
+why_of n = cond (eqb n 0) (Ok tt) (cond (eqb n 4) (Err BadWord) (cond (eqb n 8) (Err NoRoom) (cond (eqb n 9) (Err Closed) (Err BadWidth))))
 
 pub sent-by : (s : Sender) (word : ℕ) (out o : List ℤ) → o ≡ (sender.sending s word out).output →
     sends.Sends s word out (record { sender = (sender.sending s word out).sender; why = why_of (sender.sending s word out).number }) o
@@ -197,7 +198,7 @@ module _ (state words : List ℕ) (out : List ℤ) (told : List ℕ) (n : ℕ) (
   unfolding send_list_call
   list-untold few = a.reads ∙ rw (lt-ltb (length told) 3 few)
 
-opened-by : (k : Accord) → (sender.opening k).number ≡ 0 → sends.Opens k (record { sender = (sender.opening k).sender; why = Done })
+opened-by : (k : Accord) → (sender.opening k).number ≡ 0 → sends.Opens k (record { sender = (sender.opening k).sender; why = Ok tt })
 opened-by k z = record { number = sym z; sender = refl; end = sender.End.opened k }
 
 module _ (k : Accord) where
@@ -211,7 +212,7 @@ module _ (k : Accord) where
           (record { number = (sender.opening k).number; state = words_of_sender (sender.opening k).sender ++ drop sender_length before; end = (sender.opening k).sender })) n state →
           run.Talk k [] [] (sender_in state)
       go true q = absurd (omega (arith, q.number))
-      go false q = subst (run.Talk k [] []) (sym q.reads) (run.opens (record { sender = (sender.opening k).sender; why = Done }) (opened-by k (sym q.number ∙ z)) refl)
+      go false q = subst (run.Talk k [] []) (sym q.reads) (run.opens (record { sender = (sender.opening k).sender; why = Ok tt }) (opened-by k (sym q.number ∙ z)) refl)
 
   pub sent : (ws : List ℕ) (ps : List ℤ) (state : List ℕ) → calls.LibrarySends k ws ps state → run.Talk k ws ps (sender_in state)
   unfolding send_call

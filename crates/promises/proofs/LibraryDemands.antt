@@ -20,6 +20,7 @@ use lib.Dec.{eqb, ltb}
 use lib.IntN.{ℤ}
 use lib.ListN.{length, get_or, take, drop}
 use lib.Seq.{drop_at}
+use Rattle.std.specs.Prelude.{Ok, Err}
 use Rattle.points.specs.declared.Accord.{Accord}
 use Rattle.points.specs.Agreed.{is_accord}
 use Rattle.wei.specs.Symbol.{Symbol}
@@ -28,7 +29,7 @@ use Rattle.trellis.specs.Measure.{Two}
 use Rattle.trellis.specs.Words.{as_heard}
 use Rattle.nearest.specs.declared.Received.{Received}
 use Rattle.machine.specs.Machine.{last_words, sound}
-use Rattle.reasons.specs.declared.Why.TheVariants.{Done, NoRoom, Closed}
+use Rattle.reasons.specs.declared.Why.TheVariants.{NoRoom, Closed}
 use Rattle.reasons.specs.Reason.{Reason, given_of}
 use Rattle.receiver_meaning.specs.Told.{code_of}
 use Rattle.receiver_meaning.specs.Piece.{Piece, symbols_of}
@@ -356,7 +357,7 @@ module _ (state out told : List ℕ) (n : ℕ) (state' o told' : List ℕ) (a : 
         kept-finish : ((given_of f.why).number ≡ 0 → ⊥) → (f.taken ≡ 0) × (f.words ≡ [])
         kept-finish = go (sound (receiver_in state)) (ltb (length out) (receiver_in state).core.pending)
           where
-            go : (i j : Bool) → let q : doors.Ran = cond i (cond j (doors.stopped (receiver_in state) NoRoom) (record { receiver = shut; taken = 0; words = last_words (receiver_in state); why = Done })) (doors.stopped (receiver_in state) Closed) in
+            go : (i j : Bool) → let q : doors.Ran = cond i (cond j (doors.stopped (receiver_in state) (Err NoRoom)) (record { receiver = shut; taken = 0; words = last_words (receiver_in state); why = Ok tt })) (doors.stopped (receiver_in state) (Err Closed)) in
                 ((given_of q.why).number ≡ 0 → ⊥) → (q.taken ≡ 0) × (q.words ≡ [])
             go true true y = (refl, refl)
             go true false y = absurd (y refl)
@@ -367,7 +368,7 @@ module _ (state out told : List ℕ) (n : ℕ) (state' o told' : List ℕ) (a : 
     unfolding doors.finishing
     finishes-done z = ended.reads ∙ go (sound (receiver_in state)) (ltb (length out) (receiver_in state).core.pending) (sym ended.number ∙ z)
       where
-        go : (i j : Bool) → let q : doors.Ran = cond i (cond j (doors.stopped (receiver_in state) NoRoom) (record { receiver = shut; taken = 0; words = last_words (receiver_in state); why = Done })) (doors.stopped (receiver_in state) Closed) in
+        go : (i j : Bool) → let q : doors.Ran = cond i (cond j (doors.stopped (receiver_in state) (Err NoRoom)) (record { receiver = shut; taken = 0; words = last_words (receiver_in state); why = Ok tt })) (doors.stopped (receiver_in state) (Err Closed)) in
             (given_of q.why).number ≡ 0 → q.receiver ≡ shut
         go true true y = absurd (omega arith)
         go true false y = refl

@@ -6,6 +6,7 @@
 use mathlib.Core.Path.{◌≡◌, refl}
 use mathlib.Core.List.{[]}
 use Prim.Native.Nat.{ℕ}
+use Rattle.std.specs.Prelude.{Result, ⊤}
 use Rattle.points.specs.Agreed.{of_width}
 use Rattle.reasons.specs.declared.Why.{Why}
 use Rattle.reasons.specs.Reason.{given_of}
@@ -19,7 +20,7 @@ pub sender-reached : ((sender.opening (of_width 9)).number ≡ 1) × ((sender.se
 unfolding sender.opening sender.sending
 sender-reached = (refl, refl, refl, refl)
 
-abbrev opening_row : Why → ℕ
+abbrev opening_row : Result ⊤ Why → ℕ
 opening_row w = (given_of w).number
 
 pub opening-reached : (opening_row (opening (of_width 9) 0 (At 16)).why ≡ 1) × (opening_row (opening (of_width 8) 0 (At 16)).why ≡ 2)

@@ -2,11 +2,11 @@
 -- names for them. 4 is the sender's; 7 is given no more, and its number stays unused (02, Wish 6).
 --   Reason        a number of the table, with the place where it is 5
 --   reason n      the number n, which has no place
---   given_of why   what the code's reason stands for
+--   given_of why   what the code's answer stands for: 0 where nothing was refused, or the reason
 --   is_done why    nothing was refused
-use Rattle.std.specs.Prelude.{ℕ, Bool, eqb}
+use Rattle.std.specs.Prelude.{ℕ, Bool, eqb, Result, Ok, Err, ⊤}
 use Rattle.reasons.specs.declared.Why.{Why}
-use Rattle.reasons.specs.declared.Why.TheVariants.{Done, BadWidth, BadWindow, BadStart, BadSample, Full, NoRoom, Closed, Uneven}
+use Rattle.reasons.specs.declared.Why.TheVariants.{BadWidth, BadWindow, BadStart, BadSample, Full, NoRoom, Closed, Uneven}
 
 pub record Reason : Type 0 where
   pub number : ℕ
@@ -16,16 +16,16 @@ pub record Reason : Type 0 where
 abbrev pub reason : ℕ → Reason
 reason n = record { number = n; place = 0 }
 
-abbrev pub given_of : Why → Reason
-given_of Done = reason 0
-given_of BadWidth = reason 1
-given_of BadWindow = reason 2
-given_of BadStart = reason 3
-given_of (BadSample p) = record { number = 5; place = p }
-given_of Full = reason 6
-given_of NoRoom = reason 8
-given_of Closed = reason 9
-given_of Uneven = reason 10
+abbrev pub given_of : Result ⊤ Why → Reason
+given_of (Ok x) = reason 0
+given_of (Err BadWidth) = reason 1
+given_of (Err BadWindow) = reason 2
+given_of (Err BadStart) = reason 3
+given_of (Err (BadSample p)) = record { number = 5; place = p }
+given_of (Err Full) = reason 6
+given_of (Err NoRoom) = reason 8
+given_of (Err Closed) = reason 9
+given_of (Err Uneven) = reason 10
 
-abbrev pub is_done : Why → Bool
+abbrev pub is_done : Result ⊤ Why → Bool
 is_done w = eqb (given_of w).number 0

@@ -3,12 +3,13 @@
 #![tactic(auto)]
 
 ghost use Rattle.std.specs.Prelude.{◌≡◌};
-ghost use Rattle.reasons.specs.Reason.{given_of, is_done};
+ghost use Rattle.reasons.specs.Reason.{given_of};
 
-// A bad sample carries the place of the first coordinate at fault, 0 to 3.
-#[derive(Clone, Copy)]
+// What a call was refused for. A bad sample carries the place of the first coordinate at fault, 0 to 3. A call gives `why` as a
+// `Result<(), Why>`. It stands beside what the call gives back, and not around it: a refused call too gives its state back and says
+// how far it came.
+#[derive(Clone, Copy, PartialEq, Eq)]
 pub enum Why {
-    Done,
     BadWidth,
     BadWindow,
     BadStart,
@@ -19,43 +20,29 @@ pub enum Why {
     Uneven,
 }
 
-// The number of a reason.
-pub fn number(why: Why) -> u32
+// The number of a reason; 0 where nothing was refused.
+pub fn number(why: Result<(), Why>) -> u32
     ensures { result ≡ (given_of why).number }
 {
     match why {
-        Why::Done => 0,
-        Why::BadWidth => 1,
-        Why::BadWindow => 2,
-        Why::BadStart => 3,
-        Why::BadSample(_) => 5,
-        Why::Full => 6,
-        Why::NoRoom => 8,
-        Why::Closed => 9,
-        Why::Uneven => 10,
+        Ok(()) => 0,
+        Err(Why::BadWidth) => 1,
+        Err(Why::BadWindow) => 2,
+        Err(Why::BadStart) => 3,
+        Err(Why::BadSample(_)) => 5,
+        Err(Why::Full) => 6,
+        Err(Why::NoRoom) => 8,
+        Err(Why::Closed) => 9,
+        Err(Why::Uneven) => 10,
     }
 }
 
-// Whether a reason says that nothing was refused.
-pub fn is_done(why: Why) -> bool
-    ensures { result ≡ is_done why }
-{
-    number(why) == 0
-}
-
 // The place of the coordinate at fault; 0 for every other reason.
-pub fn place(why: Why) -> u32
+pub fn place(why: Result<(), Why>) -> u32
     ensures { result ≡ (given_of why).place }
 {
     match why {
-        Why::BadSample(p) => p,
-        Why::Done => 0,
-        Why::BadWidth => 0,
-        Why::BadWindow => 0,
-        Why::BadStart => 0,
-        Why::Full => 0,
-        Why::NoRoom => 0,
-        Why::Closed => 0,
-        Why::Uneven => 0,
+        Err(Why::BadSample(p)) => p,
+        _ => 0,
     }
 }

@@ -1,24 +1,28 @@
 -- What the doors owe: from what the machine does to a record, what the promises say for whatever the receiver has been told.
 --   hears      a result that is the machine's keeps the promise of `hear`
 --   finishes   and that of `finish`
---   lent-live, lent_none, lent-all, hears-lent   whether lent parts are live, and the promise of `hear` from that of `hear_piece_lent`
+--   lent-live, lent_none, lent-all   whether lent parts are live
+--   lent_open  the test of lent parts says whether the receiver is open
+--   hears-lent  the promise of `hear` from that of `hear_piece_lent`
 use mathlib.Core.Path.{◌≡◌, refl, sym, ap, ap₂, subst, ◌∙◌}
 use mathlib.Core.Bool.{Bool, true, false, cond, ◌&&◌}
 use mathlib.Core.List.{List, [], ◌++◌}
-use Prim.Native.Nat.{ℕ, ◌+◌, ◌<◌, ◌≤◌}
+use Prim.Native.Nat.{ℕ, ◌<◌, ◌≤◌}
 use borrow.Author.Tests.{eq-eqb, ne_eqb, eqb-true, lt-ltb, le-ltb}
 use native.Mathlib.Nat.{sub-zero}
 use native.Mathlib.Omega.{arith}
 use lib.Dec.{ltb}
 use lib.ListN.{length, take, drop}
+use Rattle.std.specs.Prelude.{Ok, Err}
 use Rattle.calls.specs.Calls.{rest}
 use Rattle.trellis.specs.Words.{words_from}
 use Rattle.machine.specs.declared.Core.{Core}
 use Rattle.machine.specs.declared.Receiver.{Receiver}
-use Rattle.reasons.specs.declared.Why.TheVariants.{Done, NoRoom, Closed, Uneven}
-use Rattle.machine.specs.Machine.{shut, last_words, sound, way_from, machine_of}
+use Rattle.reasons.specs.declared.Why.TheVariants.{NoRoom, Closed, Uneven}
+use Rattle.machine.specs.Machine.{shut, last_words, sound_core, sound, way_from, machine_of}
 use Rattle.machine.specs.Parts.{whole}
-use Rattle.sums.specs.Sums.{end_of}
+use Rattle.sums.specs.Sums.{limit, end_of}
+use Rattle.lists.specs.UpTo.{all_up_to}
 use Rattle.lists.proofs.UpTo.{and_both}
 use Rattle.receiver_meaning.specs.Told.{Told, speaker_of, Fine, with_heard}
 use Rattle.reasons.specs.Reason.{reason, given_of}
@@ -56,7 +60,7 @@ hearing-owes t f p room = rw (sound-told t f) (go p.fits)
     ends : Owed
     ends = let r = ended_of t p room in record { reason = r.why; taken = r.taken; words = r.said; told = with_heard t r.heard }
 
-    go : (b : Bool) → OwedBy (cond b (running p.symbols (machine_of t) 0 [] room) (stopped (machine_of t) Uneven))
+    go : (b : Bool) → OwedBy (cond b (running p.symbols (machine_of t) 0 [] room) (stopped (machine_of t) (Err Uneven)))
         (cond b ends (record { reason = reason 10; taken = 0; words = []; told = t }))
     go true =
         let heard = (ended_of t p room).heard in
@@ -89,7 +93,7 @@ pub record EndedBy (h : Ran) (rx : Receiver) (d : FinishOwed) : Type 0 where
   pub receiver : h.receiver ≡ cond d.closes shut rx
 
 finishing-by : (rx : Receiver) (room n : ℕ) (ws : List ℕ) → sound rx ≡ true → rx.core.pending ≡ n → last_words rx ≡ ws →
-    finishing rx room ≡ cond (ltb room n) (stopped rx NoRoom) (record { receiver = shut; taken = 0; words = ws; why = Done })
+    finishing rx room ≡ cond (ltb room n) (stopped rx (Err NoRoom)) (record { receiver = shut; taken = 0; words = ws; why = Ok tt })
 unfolding finishing
 finishing-by rx room n ws a b c = cc
 
@@ -103,7 +107,7 @@ finishing-owes t f room =
     ws : List ℕ
     ws = rest (speaker_of t) t.heard
 
-    go : (b : Bool) → EndedBy (cond b (stopped (machine_of t) NoRoom) (record { receiver = shut; taken = 0; words = ws; why = Done })) (machine_of t)
+    go : (b : Bool) → EndedBy (cond b (stopped (machine_of t) (Err NoRoom)) (record { receiver = shut; taken = 0; words = ws; why = Ok tt })) (machine_of t)
         (cond b (record { reason = reason 8; words = []; closes = false }) (record { reason = reason 0; words = ws; closes = true }))
     go true = record { given = refl; taken = refl; words = refl; receiver = refl }
     go false = record { given = refl; taken = refl; words = refl; receiver = refl }
@@ -127,27 +131,27 @@ finishes rx out r o k =
 -- ---- the machine's answers, as the code gives them
 
 module _ (rx : Receiver) (out : List ℕ) where
-  pub finish-closed : sound rx ≡ false → Is (finishing rx (length out)) out (record { receiver = rx; taken = 0; written = 0; why = Closed }) out
+  pub finish-closed : sound rx ≡ false → Is (finishing rx (length out)) out (record { receiver = rx; taken = 0; written = 0; why = Err Closed }) out
   unfolding finishing
   finish-closed e = rw e (record { receiver = refl; taken = refl; written = refl; given = refl; output = refl })
 
-  pub finish-full : sound rx ≡ true → length out < rx.core.pending → Is (finishing rx (length out)) out (record { receiver = rx; taken = 0; written = 0; why = NoRoom }) out
+  pub finish-full : sound rx ≡ true → length out < rx.core.pending → Is (finishing rx (length out)) out (record { receiver = rx; taken = 0; written = 0; why = Err NoRoom }) out
   unfolding finishing
   finish-full e h = rw (e, lt-ltb (length out) rx.core.pending h) (record { receiver = refl; taken = refl; written = refl; given = refl; output = refl })
 
   pub finish-done : sound rx ≡ true → rx.core.pending ≤ length out → (s : ℕ) → s ≡ end_of rx.sums → (o : List ℕ) →
       o ≡ words_from rx.core.accord.u rx.core.turn (take rx.core.pending (way_from rx.core rx.registers rx.picks s)) ++ drop rx.core.pending out →
-      Is (finishing rx (length out)) out (record { receiver = shut; taken = 0; written = rx.core.pending; why = Done }) o
+      Is (finishing rx (length out)) out (record { receiver = shut; taken = 0; written = rx.core.pending; why = Ok tt }) o
   unfolding finishing
   finish-done e h s k o w =
       let z : o ≡ last_words rx ++ drop (length (last_words rx)) out = w ∙ ap₂ (λ (ws : List ℕ) (n : ℕ). ws ++ drop n out) (last-from rx s k) (sym (last-many rx)) in
       rw (e, le-ltb (length out) rx.core.pending h) (record { receiver = refl; taken = refl; written = sym (last-many rx); given = refl; output = z })
 
-  pub hear-closed : (p : Piece) → sound rx ≡ false → Is (hearing rx p (length out)) out (record { receiver = rx; taken = 0; written = 0; why = Closed }) out
+  pub hear-closed : (p : Piece) → sound rx ≡ false → Is (hearing rx p (length out)) out (record { receiver = rx; taken = 0; written = 0; why = Err Closed }) out
   unfolding hearing
   hear-closed p e = rw e (record { receiver = refl; taken = refl; written = refl; given = refl; output = refl })
 
-  pub hear-uneven : (p : Piece) → sound rx ≡ true → p.fits ≡ false → Is (hearing rx p (length out)) out (record { receiver = rx; taken = 0; written = 0; why = Uneven }) out
+  pub hear-uneven : (p : Piece) → sound rx ≡ true → p.fits ≡ false → Is (hearing rx p (length out)) out (record { receiver = rx; taken = 0; written = 0; why = Err Uneven }) out
   unfolding hearing
   hear-uneven p e n = rw (e, n) (record { receiver = refl; taken = refl; written = refl; given = refl; output = refl })
 
@@ -172,6 +176,11 @@ module _ (live : Bool) (picks : List ℕ) where
 
   pub lent-all : lent_live live picks ≡ true → length picks ≡ 72
   lent-all e = eqb-true (length picks) 72 (and_both live _ e).1
+
+pub lent_open : (live : Bool) (core : Core) (sums registers picks : List ℕ) (b : Bool) → b ≡ (lent_live live picks && (sound_core core && all_up_to limit sums)) →
+    sound (parts_of (lent_live live picks) core sums registers picks) ≡ b
+unfolding sound
+lent_open live core sums registers picks b e = sym e
 
 -- a receiver that lends its own picks
 pub hears-lent : (rx : Receiver) (p : Piece) (out : List ℕ) (h : Heard) (sums registers picks o : List ℕ) → length rx.picks ≡ 72

@@ -10,11 +10,12 @@ use native.Mathlib.Omega.{arith}
 use borrow.Author.Tests.{eqb-true, ltb-true, ltb-false}
 use lib.Dec.{eqb, ltb}
 use lib.ListN.{length}
+use Rattle.std.specs.Prelude.{Ok, Err}
 use Rattle.calls.specs.Calls.{walk, after, fresh}
 use Rattle.trellis.specs.Measure.{Two}
 use Rattle.nearest.specs.declared.Received.{Received}
 use Rattle.machine.specs.declared.Receiver.{Receiver}
-use Rattle.reasons.specs.declared.Why.TheVariants.{Done, NoRoom, Closed, Uneven}
+use Rattle.reasons.specs.declared.Why.TheVariants.{NoRoom, Closed, Uneven}
 use Rattle.machine.specs.Machine.{shut, last_words, sound}
 use Rattle.receiver_meaning.specs.Told.{Told, with_heard, speaker_of, pending_after, fault_of, judge_symbol, judge_of, Fine}
 use Rattle.reasons.specs.Reason.{reason}
@@ -38,7 +39,7 @@ module _ (rx : Receiver) (room : ℕ) where
   unfolding hearing
   hearing-few p = go (sound rx) p.fits
     where
-      go : (a b : Bool) → length (cond a (cond b (running p.symbols rx 0 [] room) (stopped rx Uneven)) (stopped rx Closed)).words ≤ room
+      go : (a b : Bool) → length (cond a (cond b (running p.symbols rx 0 [] room) (stopped rx (Err Uneven))) (stopped rx (Err Closed))).words ≤ room
       go true true = running-few p.symbols rx 0 [] room (omega arith)
       go true false = omega arith
       go false b = omega arith
@@ -48,9 +49,9 @@ module _ (rx : Receiver) (room : ℕ) where
   finishing-few = go (sound rx) (ltb room rx.core.pending) refl
     where
       done : Ran
-      done = record { receiver = shut; taken = 0; words = last_words rx; why = Done }
+      done = record { receiver = shut; taken = 0; words = last_words rx; why = Ok tt }
 
-      go : (a b : Bool) → ltb room rx.core.pending ≡ b → length (cond a (cond b (stopped rx NoRoom) done) (stopped rx Closed)).words ≤ room
+      go : (a b : Bool) → ltb room rx.core.pending ≡ b → length (cond a (cond b (stopped rx (Err NoRoom)) done) (stopped rx (Err Closed))).words ≤ room
       go true true e = omega arith
       go true false e = omega (arith, last-many rx, ltb-false room rx.core.pending e)
       go false b e = omega arith

@@ -7,9 +7,10 @@ use mathlib.Core.List.{List}
 use Prim.Native.Nat.{ℕ}
 use lib.Dec.{ltb}
 use lib.ListN.{length}
+use Rattle.std.specs.Prelude.{Ok, Err}
 use Rattle.machine.specs.declared.Receiver.{Receiver}
 use Rattle.machine.specs.Machine.{shut, last_words, sound}
-use Rattle.reasons.specs.declared.Why.TheVariants.{Done, NoRoom, Closed}
+use Rattle.reasons.specs.declared.Why.TheVariants.{NoRoom, Closed}
 use Rattle.reasons.specs.Reason.{Reason, given_of}
 use Rattle.receiver_meaning.specs.Piece.{Piece}
 use Rattle.receiver.specs.declared.Answer.{Answer}
@@ -20,11 +21,11 @@ shut-sound : sound shut ≡ false
 unfolding sound shut
 shut-sound = refl
 
-pub shut-hears : (p : Piece) (room : ℕ) → hearing shut p room ≡ stopped shut Closed
+pub shut-hears : (p : Piece) (room : ℕ) → hearing shut p room ≡ stopped shut (Err Closed)
 unfolding hearing
 shut-hears p room = rw shut-sound
 
-pub shut-finishes : (room : ℕ) → finishing shut room ≡ stopped shut Closed
+pub shut-finishes : (room : ℕ) → finishing shut room ≡ stopped shut (Err Closed)
 unfolding finishing
 shut-finishes room = rw shut-sound
 
@@ -32,7 +33,7 @@ pub finishes-left : (rx : Receiver) (out : List ℕ) (r : Answer) (o : List ℕ)
 unfolding finishing
 finishes-left rx out r o p z = go (sound rx) (ltb (length out) rx.core.pending) p.always
   where
-    go : (i j : Bool) → Is (cond i (cond j (stopped rx NoRoom) (record { receiver = shut; taken = 0; words = last_words rx; why = Done })) (stopped rx Closed)) out r o → (r.receiver ≡ rx) × (o ≡ out)
+    go : (i j : Bool) → Is (cond i (cond j (stopped rx (Err NoRoom)) (record { receiver = shut; taken = 0; words = last_words rx; why = Ok tt })) (stopped rx (Err Closed))) out r o → (r.receiver ≡ rx) × (o ≡ out)
     go false j k = (k.receiver, k.output)
     go true true k = (k.receiver, k.output)
     go true false k = absurd (z (ap (λ (g : Reason). g.number) k.given))

@@ -7,11 +7,12 @@
 // and any record that is out of range, is answered 9.
 #![tactic(auto)]
 
-ghost use Rattle.std.specs.Prelude.{◌≡◌, ◌&&◌};
+ghost use Rattle.std.specs.Prelude.{◌≡◌, ◌&&◌, Err};
 ghost use Rattle.machine.specs.Machine.{core, sound_core};
 ghost use Rattle.lists.specs.UpTo.{all_up_to};
 ghost use Rattle.sums.specs.Sums.{limit};
-ghost use Rattle.receiver_meaning.specs.Piece.{piece_with, marked_piece, piece_of};
+ghost use Rattle.receiver_meaning.specs.Piece.{marked_piece, piece_of};
+ghost use Rattle.piece_input.specs.Marks.{piece_by};
 ghost use Rattle.receiver.specs.Promise.{lent_live, HearsLent, Hears, Finishes};
 
 use machine::{Core, Receiver};
@@ -23,28 +24,28 @@ pub struct Answer {
     pub receiver: Receiver,
     pub taken: usize,
     pub written: usize,
-    pub why: Why,
+    pub why: Result<(), Why>,
 }
 
 fn stopped(rx: Receiver, why: Why) -> Answer
-    ensures { result ≡ record { receiver = rx; taken = 0; written = 0; why = why } }
+    ensures { result ≡ record { receiver = rx; taken = 0; written = 0; why = Err why } }
 {
     Answer {
         receiver: rx,
         taken: 0,
         written: 0,
-        why: why,
+        why: Err(why),
     }
 }
 
 fn nothing_heard(core: Core, why: Why) -> Heard
-    ensures { result ≡ record { core = core; taken = 0; written = 0; why = why } }
+    ensures { result ≡ record { core = core; taken = 0; written = 0; why = Err why } }
 {
     Heard {
-        core: core,
+        core,
         taken: 0,
         written: 0,
-        why: why,
+        why: Err(why),
     }
 }
 
@@ -52,71 +53,60 @@ fn nothing_heard(core: Core, why: Why) -> Heard
 fn lent_fit(live: bool, core: Core, sums: &[u32; 16], picks: &[u64]) -> bool
     ensures { result ≡ (lent_live live picks.now && (sound_core core && all_up_to limit sums.now)) }
 {
-    if picks.len() != 72 {
-        return false;
-    }
-    openings::parts_fit(live, core, sums)
+    picks.len() == 72 && openings::parts_fit(live, core, sums)
 }
 
-// A piece, with the marks where `marked` says so, to a receiver in its parts, whose lists are lent, for a caller that keeps them elsewhere:
+// A piece, with its marks where it has any, to a receiver in its parts, whose lists are lent, for a caller that keeps them elsewhere:
 // nothing is copied. The picks may be a part of the caller's own words; where these are not 72, they are no receiver's, and the answer
 // is that of a closed one.
+// Inlined, since a call of its own costs a piece of one symbol 5 parts in 100 more.
+#[inline]
 pub fn hear_piece_lent(
     live: bool,
     core: Core,
-    marked: bool,
-    marks: &[u8],
+    marks: Option<&[u8]>,
     samples: &[i32],
     sums: &mut [u32; 16],
     registers: &mut [u64; 48],
     picks: &mut [u64],
     out: &mut [u32],
 ) -> Heard
-    ensures { HearsLent live core sums.old registers.old picks.old (piece_with marked marks.now samples.now) out.old
+    ensures { HearsLent live core sums.old registers.old picks.old (piece_by marks.entry samples.now) out.old
         result sums.new registers.new picks.new out.new }
 {
     if !lent_fit(live, core, sums, picks) {
         return nothing_heard(core, Why::Closed);
     }
-    if !piece_input::fits(marked, marks, samples.len()) {
+    if !piece_input::fits(marks, samples.len()) {
         return nothing_heard(core, Why::Uneven);
     }
-    pieces::hear_symbols(core, marked, marks, samples, sums, registers, picks, out)
+    pieces::hear_symbols(core, marks, samples, sums, registers, picks, out)
 }
 
-// A piece to a whole receiver: it is taken apart once, its arrays are lent to each symbol, and it is put together again at the end.
-fn hear_piece(rx: Receiver, marked: bool, marks: &[u8], samples: &[i32], out: &mut [u32]) -> Answer
-    ensures { Hears rx (piece_with marked marks.now samples.now) out.old result out.new }
+// A piece to a whole receiver, whose arrays are lent to each symbol.
+fn hear_piece(mut rx: Receiver, marks: Option<&[u8]>, samples: &[i32], out: &mut [u32]) -> Answer
+    ensures { Hears rx (piece_by marks.entry samples.now) out.old result out.new }
 {
-    let live = rx.live;
-    let core = rx.core;
-    let mut sums = rx.sums;
-    let mut registers = rx.registers;
-    let mut picks = rx.picks;
-    let h = hear_piece_lent(
-        live,
+    let Heard {
         core,
-        marked,
+        taken,
+        written,
+        why,
+    } = hear_piece_lent(
+        rx.live,
+        rx.core,
         marks,
         samples,
-        &mut sums,
-        &mut registers,
-        &mut picks,
+        &mut rx.sums,
+        &mut rx.registers,
+        &mut rx.picks,
         out,
     );
-    let after = h.core;
-    let why = h.why;
     Answer {
-        receiver: Receiver {
-            live: live,
-            core: after,
-            sums: sums,
-            registers: registers,
-            picks: picks,
-        },
-        taken: h.taken,
-        written: h.written,
-        why: why,
+        receiver: Receiver { core, ..rx },
+        taken,
+        written,
+        why,
     }
 }
 
@@ -124,8 +114,7 @@ fn hear_piece(rx: Receiver, marked: bool, marks: &[u8], samples: &[i32], out: &m
 pub fn hear(rx: Receiver, samples: &[i32], out: &mut [u32]) -> Answer
     ensures { Hears rx (piece_of samples.now) out.old result out.new }
 {
-    let none = [0u8; 0];
-    hear_piece(rx, false, &none, samples, out)
+    hear_piece(rx, None, samples, out)
 }
 
 // The same with a mark for each symbol: 0 both points heard, 1 the first missing, 2 the second, 3 both. The coordinates of a missing
@@ -133,31 +122,26 @@ pub fn hear(rx: Receiver, samples: &[i32], out: &mut [u32]) -> Answer
 pub fn hear_marked(rx: Receiver, samples: &[i32], marks: &[u8], out: &mut [u32]) -> Answer
     ensures { Hears rx (marked_piece marks.now samples.now) out.old result out.new }
 {
-    hear_piece(rx, true, marks, samples, out)
+    hear_piece(rx, Some(marks), samples, out)
 }
 
 // The pending words of the answer, and a closed receiver. Refused where there is no room for all of them.
 pub fn finish(rx: Receiver, out: &mut [u32]) -> Answer
     ensures { Finishes rx out.old result out.new }
 {
-    let open = openings::is_open(rx);
-    if !open {
+    if !openings::is_open(rx) {
         return stopped(rx, Why::Closed);
     }
-    let closed = openings::closed_receiver();
-    let core = rx.core;
-    if out.len() < core.pending {
+    let pending = rx.core.pending;
+    if out.len() < pending {
         return stopped(rx, Why::NoRoom);
     }
-    let sums = rx.sums;
-    let registers = rx.registers;
-    let picks = rx.picks;
-    let s = sums::end_state(&sums);
-    machine::write_words(core, &registers, &picks, s, core.pending, out);
+    let s = sums::end_state(&rx.sums);
+    machine::write_words(rx.core, &rx.registers, &rx.picks, s, pending, out);
     Answer {
-        receiver: closed,
+        receiver: openings::closed_receiver(),
         taken: 0,
-        written: core.pending,
-        why: Why::Done,
+        written: pending,
+        why: Ok(()),
     }
 }

@@ -1,7 +1,5 @@
 -- Bytes of a body at once are the bytes one by one.
---   capped-full         a count at the end of 64 bits
 --   inside-yes, wants   what the test of a frame says
---   sets_more           the loop that fills a body
 --   advance-one         a byte that is pushed alone
 --   advance-body        the rest of a body
 --   run-some, run-most  a run has at least one byte, and no more than there are
@@ -13,10 +11,10 @@ use mathlib.Core.List.{List, [], ◌∷◌, append-nil}
 use Prim.Native.Nat.{ℕ, zero, suc, ◌+◌, ◌-◌, ◌≤◌, ◌<◌, min}
 use native.Mathlib.Omega.{arith}
 use native.Mathlib.Numerals.{add-one}
-use borrow.Author.Tests.{lt-ltb, ltb-true, le-ltb}
+use borrow.Author.Tests.{lt-ltb, ltb-true}
 use lib.Dec.{eqb}
-use lib.ListN.{length, take, drop, set, get_or, length-take, length-drop}
-use lib.Seq.{sets, drop-cons, get_or-drop}
+use lib.ListN.{length, take, drop, get_or, length-take, length-drop}
+use lib.Seq.{drop-cons}
 use Rattle.records.specs.declared.Kind.{Kind}
 use Rattle.records.specs.declared.Stage.{Stage}
 use Rattle.records.specs.declared.Stage.TheVariants.{Fresh, Part, Whole, Bad}
@@ -30,11 +28,6 @@ use Rattle.record_fill.specs.Runs.{inside_at, inside, gathered, run_of, Advances
 
 not-true : false ≡ true → ⊥
 not-true e = let z : ◌≡◌ {A = ℕ} 0 1 = cc in omega arith
-
--- a count that has no room
-pub capped-full : (n : ℕ) → 18446744073709551615 ≤ n → 18446744073709551615 ≡ capped n
-unfolding capped
-capped-full n h = rw (le-ltb n 18446744073709551615 h)
 
 -- ---- the test
 
@@ -54,21 +47,6 @@ inside-yes f = go (eqb f.kind 5)
 -- how much is wanted then, and that the frame can hold it
 pub wants : (f : Frame) (k : Kind) → inside f ≡ true → k ≡ kind_of f.kind → (f.have < k.size) × (k.size ≤ 9)
 wants f k e i = (rw i (inside-yes f e).1, rw i (size_fits f.kind))
-
--- ---- the loop
-
-sets-next : (k : ℕ) (ds body : List ℕ) (have : ℕ) → k < length ds → set (sets body have (take k ds)) (have + k) (get_or ds k 0) ≡ sets body have (take (suc k) ds)
-sets-next zero [] body have h = absurd (omega arith)
-sets-next zero (d ∷ ds) body have h = let e : have + 0 ≡ have = omega arith in rw e
-sets-next (suc k) [] body have h = absurd (omega arith)
-sets-next (suc k) (d ∷ ds) body have h =
-    let e : have + suc k ≡ suc have + k = omega arith in
-    rw e (sets-next k ds (set body have d) (suc have) (omega arith))
-
-pub sets_more : (bs body : List ℕ) (have from k : ℕ) → from + k < length bs
-    → set (sets body have (take k (drop from bs))) (have + k) (get_or bs (from + k) 0) ≡ sets body have (take (k + 1) (drop from bs))
-sets_more bs body have from k h =
-    rw (add-one, ← get_or-drop from bs k 0) (sets-next k (drop from bs) body have (omega (arith, length-drop from bs)))
 
 -- ---- one byte
 

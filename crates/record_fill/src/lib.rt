@@ -10,7 +10,7 @@ ghost use Rattle.records.specs.Kinds.{kind_of};
 ghost use Rattle.records.specs.Frames.{capped};
 ghost use Rattle.record_fill.specs.Runs.{inside, gathered, Advances};
 
-use records::{Frame, Stage};
+use records::{Frame, MARKED, Stage};
 
 // The frame after some bytes, and how many there were.
 #[derive(Clone, Copy)]
@@ -23,71 +23,49 @@ pub struct Moved {
 fn is_inside(f: Frame) -> bool
     ensures { result ≡ inside f }
 {
-    if f.kind == 5 {
-        return false;
-    }
-    let kind = records::kind_of(f.kind);
-    let stage = f.stage;
-    match stage {
-        Stage::Fresh => false,
-        Stage::Part => f.have < kind.size,
-        Stage::Whole => false,
-        Stage::Bad => false,
-    }
+    f.kind != MARKED && matches!(f.stage, Stage::Part) && f.have < records::kind_of(f.kind).size
 }
 
+// The smaller of two, which docs/PROMISES names.
 pub fn least(a: usize, b: usize) -> usize
     ensures { result ≡ min a b }
 {
-    if a < b { a } else { b }
+    a.min(b)
 }
 
 // Some more bytes fed. At the end of 64 bits the count stays where it is.
+#[tactic(auto, unfolding(records::specs::Frames::capped))]
 pub fn fed_on(fed: u64, n: usize) -> u64
     ensures { result ≡ capped (fed + n) }
 {
-    let more = n as u64;
-    if fed < u64::MAX - more {
-        fed + more
-    } else {
-        u64::MAX
-    }
+    fed.saturating_add(n as u64)
 }
 
-// The body with n bytes more.
-fn fill(body: [u8; 9], have: usize, bytes: &[u8], from: usize, n: usize) -> [u8; 9]
-    requires { (have + n ≤ 9) × (from + n ≤ length bytes.now) }
-    ensures { result ≡ sets body have (take n (drop from bytes.now)) }
+// The body with some bytes more.
+fn fill(mut body: [u8; 9], have: usize, bytes: &[u8]) -> [u8; 9]
+    requires { have + length bytes.now ≤ 9 }
+    ensures { result ≡ sets body have bytes.now }
 {
-    let mut filled = body;
-    let mut k: usize = 0;
-    while k < n {
-        filled[have + k] = bytes[from + k];
-        k += 1;
-    }
-    filled
+    body[have..have + bytes.len()].copy_from_slice(bytes);
+    body
 }
 
 // Inside a record: the rest of its body, as far as it is there.
+#[tactic(auto, using(crate::proofs::Gathers::wants))]
 fn grow(f: Frame, bytes: &[u8], from: usize) -> Moved
     requires { (inside f ≡ true) × (from < length bytes.now) }
     ensures { (result.count ≡ min ((kind_of f.kind).size - f.have) (length bytes.now - from))
         × (result.frame ≡ gathered f result.count (take result.count (drop from bytes.now))) }
 {
-    let phase = f.phase;
-    let have = f.have;
-    let body = f.body;
-    let kind = records::kind_of(f.kind);
-    let n = least(kind.size - have, bytes.len() - from);
+    let size = records::kind_of(f.kind).size;
+    let n = (size - f.have).min(bytes.len() - from);
     Moved {
         frame: Frame {
-            stage: records::stage_at(have + n, kind.size),
-            phase: phase,
-            kind: f.kind,
-            have: have + n,
-            body: fill(body, have, bytes, from, n),
-            at: f.at,
+            stage: records::stage_at(f.have + n, size),
+            have: f.have + n,
+            body: fill(f.body, f.have, &bytes[from..from + n]),
             fed: fed_on(f.fed, n),
+            ..f
         },
         count: n,
     }

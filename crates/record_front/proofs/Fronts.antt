@@ -1,9 +1,9 @@
 -- The front of some bytes is the front of the reading: what `look` says of them holds whatever comes after them.
---   front-none, front-bad, front_cut, front-unfit, front-whole   what `front_of` is, by the first byte
+--   standing            the front by its tests
 --   rest_of p at bs     the reading of bs in phase p from the offset `at` on; rest-none, rest-bad, rest-cut, rest-unfit, rest-record: by the first byte
 --   Taken, Stays, Ended, Says   what a front says of the reading of bs and of all that comes after
 --   look-passes        THE LAW: a whole record, the end and a malformed place are told as the reading has them
-use mathlib.Core.Path.{◌≡◌, refl, sym, subst}
+use mathlib.Core.Path.{◌≡◌, refl}
 use mathlib.Core.Bool.{Bool, true, false, cond}
 use mathlib.Core.List.{List, [], ◌∷◌, ◌++◌, append-nil}
 use Prim.Native.Nat.{ℕ, zero, suc, ◌+◌, ◌≤◌, ◌<◌}
@@ -11,9 +11,8 @@ use native.Mathlib.Omega.{arith}
 use native.Mathlib.Numerals.{add-one}
 use borrow.Author.Tests.{le-leb, lt-leb, leb-true, leb-false}
 use lib.Dec.{leb}
-use lib.ListN.{length, get_or, take, drop, length-append, length-drop}
+use lib.ListN.{length, take, drop, length-append, length-drop}
 use lib.Seq.{take-append-le, drop-append-le}
-use Rattle.records.specs.declared.Kind.{Kind}
 use Rattle.records.specs.declared.Phase.{Phase}
 use Rattle.records.specs.declared.Phase.TheVariants.{Start}
 use Rattle.record_front.specs.declared.Sign.{Sign}
@@ -24,54 +23,12 @@ use Rattle.records.specs.Values.{Entry, entry, body_fits}
 use Rattle.records.specs.Reading.{Ending, clean, malformed, Reading, stops_at, followed_by, nothing_more, reading_from, reading_of}
 use Rattle.record_front.specs.Fronts.{empty_of, cut_of, stopped, front_of}
 
-none_below : (j : ℕ) → suc j ≡ 0 → ⊥
-none_below j h = omega arith
-
 -- the front by its tests: it may stand there, it is whole, its body fits
 abbrev pub standing : Phase → ℕ → Bool → Bool → Bool → Bool → Front
 standing p k ends b t u =
     cond b
     (cond t (cond u (record { sign = sign.Record; length = (kind_of k).size + 1; phase = after_role p (kind_of k).role }) (stopped p sign.Bad)) (stopped p (cut_of ends)))
     (stopped p sign.Bad)
-
-module _ (p : Phase) (ends : Bool) where
-  pub front-none : (bs : List ℕ) (s : Sign) → length bs ≡ 0 → s ≡ empty_of p ends → stopped p s ≡ front_of p bs ends
-  unfolding front_of
-  front-none [] s h e = rw e
-  front-none (b ∷ bs) s h e = absurd (none_below (length bs) h)
-
-  module _ (kind : Kind) where
-    pub front-bad : (bs : List ℕ) → kind ≡ kind_of (get_or bs 0 0) → 0 < length bs → may_stand p kind.role ≡ false → stopped p sign.Bad ≡ front_of p bs ends
-    unfolding front_of
-    front-bad [] is h e = absurd (omega arith)
-    front-bad (b ∷ bs) is h e = rw (sym is, e)
-
-    pub front_cut : (bs : List ℕ) (s : Sign) → kind ≡ kind_of (get_or bs 0 0) → 0 < length bs → may_stand p kind.role ≡ true → length bs ≤ kind.size → s ≡ cut_of ends
-        → stopped p s ≡ front_of p bs ends
-    unfolding front_of
-    front_cut [] s is h e l c = absurd (omega arith)
-    front_cut (b ∷ bs) s is h e l c = rw (sym is, e, lt-leb kind.size (length bs) (omega arith), c)
-
-    -- the body that follows the kind byte, of n bytes
-    abbrev body_at : ℕ → List ℕ → List ℕ
-    body_at n bs = take n (drop 1 bs)
-
-    pub front-unfit : (bs : List ℕ) {n : ℕ} → kind ≡ kind_of (get_or bs 0 0) → 0 < length bs → may_stand p kind.role ≡ true → kind.size < length bs → n ≡ kind.size
-        → body_fits (get_or bs 0 0) (body_at n bs) ≡ false → stopped p sign.Bad ≡ front_of p bs ends
-    unfolding front_of
-    front-unfit [] is h e l z f = absurd (omega arith)
-    front-unfit (b ∷ bs) is h e l z f =
-        let g : body_fits b (take kind.size bs) ≡ false = subst (λ (m : ℕ). body_fits b (take m bs) ≡ false) z f in
-        rw (sym is, e, le-leb kind.size (length bs) (omega arith), g)
-
-    pub front-whole : (bs : List ℕ) (q : Phase) {n : ℕ} → kind ≡ kind_of (get_or bs 0 0) → 0 < length bs → may_stand p kind.role ≡ true → kind.size < length bs → n ≡ kind.size
-        → body_fits (get_or bs 0 0) (body_at n bs) ≡ true → q ≡ after_role p kind.role
-        → record { sign = sign.Record; length = kind.size + 1; phase = q } ≡ front_of p bs ends
-    unfolding front_of
-    front-whole [] q is h e l z f a = absurd (omega arith)
-    front-whole (b ∷ bs) q is h e l z f a =
-        let g : body_fits b (take kind.size bs) ≡ true = subst (λ (m : ℕ). body_fits b (take m bs) ≡ true) z f in
-        rw (sym is, e, le-leb kind.size (length bs) (omega arith), g, a)
 
 -- ---- the reading, with no number of steps
 

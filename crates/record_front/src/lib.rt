@@ -2,12 +2,12 @@
 // copied; where it does not, more bytes are wanted. `push` tells the same byte by byte.
 #![tactic(auto)]
 
-ghost use Rattle.std.specs.Prelude.{◌≡◌};
+ghost use Rattle.std.specs.Prelude.{◌≡◌, ◌≤◌, length};
 ghost use Rattle.records.specs.Kinds.{begins as Kinds·begins};
 ghost use Rattle.records.specs.Values.{body_fits};
-ghost use Rattle.record_front.specs.Fronts.{empty_of, cut_of, front_of};
+ghost use Rattle.record_front.specs.Fronts.{empty_of, cut_of, stopped, front_of};
 
-use records::{Phase, after, byte_fits, kind_of, may_stand};
+use records::{Kind, Phase, after, byte_fits, kind_of, may_stand};
 
 // A whole record; the capture's end, after a record; more bytes are wanted to tell; malformed here.
 #[derive(Clone, Copy)]
@@ -18,7 +18,8 @@ pub enum Sign {
     Bad,
 }
 
-// What stands there, how many bytes the record has, and what may stand after it.
+// What stands there, how many bytes the record has, and what may stand after it. Where it is no record its length is 0 and the phase the
+// old one, as `look-passes` says (`Stays`): so whoever reads on adds them up whatever stands there.
 #[derive(Clone, Copy)]
 pub struct Front {
     pub sign: Sign,
@@ -29,22 +30,18 @@ pub struct Front {
 fn begins(phase: Phase) -> bool
     ensures { result ≡ Kinds·begins phase }
 {
-    match phase {
-        Phase::Start => false,
-        Phase::Opened => true,
-        Phase::Running => true,
-        Phase::Over => true,
-    }
+    !matches!(phase, Phase::Start)
 }
 
 // No byte is there.
 fn empty(phase: Phase, ends: bool) -> Sign
     ensures { result ≡ empty_of phase ends }
 {
-    if !ends {
-        return Sign::More;
+    match (ends, begins(phase)) {
+        (false, _) => Sign::More,
+        (true, true) => Sign::Gone,
+        (true, false) => Sign::Bad,
     }
-    if begins(phase) { Sign::Gone } else { Sign::Bad }
 }
 
 // A record that may stand here is not whole.
@@ -58,57 +55,47 @@ fn cut(ends: bool) -> Sign
 fn fits(kind: u8, body: &[u8]) -> bool
     ensures { result ≡ body_fits kind body.now }
 {
-    if kind != 5 {
-        return true;
-    }
-    let mut i: usize = 0;
-    while i < body.len() {
-        if !byte_fits(kind, body[0], i, body[i]) {
+    for (i, b) in body.iter().enumerate() {
+        if !byte_fits(kind, body[0], i, *b) {
             return false;
         }
-        i += 1;
     }
     true
 }
 
-// The front of some bytes. `ends`: the capture has no more than these.
-pub fn look(phase: Phase, bytes: &[u8], ends: bool) -> Front
-    ensures { result ≡ front_of phase bytes.now ends }
+// Nothing is passed.
+fn stopped(phase: Phase, sign: Sign) -> Front
+    ensures { result ≡ stopped phase sign }
 {
-    let n = bytes.len();
-    if n == 0 {
-        return Front {
-            sign: empty(phase, ends),
-            length: 0,
-            phase: phase,
-        };
+    Front {
+        sign,
+        length: 0,
+        phase,
     }
-    let kind = kind_of(bytes[0]);
-    let role = kind.role;
+}
+
+// The front of some bytes. `ends`: the capture has no more than these.
+#[tactic(auto, unfolding(crate::specs::Fronts::front_of))]
+pub fn look(phase: Phase, bytes: &[u8], ends: bool) -> Front
+    ensures value { result ≡ front_of phase bytes.now ends }
+    ensures within { result.length ≤ length bytes.now }
+{
+    let [k, rest @ ..] = bytes else {
+        return stopped(phase, empty(phase, ends));
+    };
+    let Kind { role, size } = kind_of(*k);
     if !may_stand(phase, role) {
-        return Front {
-            sign: Sign::Bad,
-            length: 0,
-            phase: phase,
-        };
+        return stopped(phase, Sign::Bad);
     }
-    if n <= kind.size {
-        return Front {
-            sign: cut(ends),
-            length: 0,
-            phase: phase,
-        };
+    if rest.len() < size {
+        return stopped(phase, cut(ends));
     }
-    if !fits(bytes[0], &bytes[1..kind.size + 1]) {
-        return Front {
-            sign: Sign::Bad,
-            length: 0,
-            phase: phase,
-        };
+    if !fits(*k, &rest[..size]) {
+        return stopped(phase, Sign::Bad);
     }
     Front {
         sign: Sign::Record,
-        length: kind.size + 1,
+        length: size + 1,
         phase: after(phase, role),
     }
 }

@@ -1,6 +1,5 @@
 -- Laws of what a line does: what a call gave, made into a note, and the request that was read.
---   front-few, is-few          what was put at the front of a list fits it
---   tells                      a recorded call and its answer
+--   front-few                  what was put at the front of a list fits it
 --   idles                      an answer alone
 --   ends-before, opens-first, opens_not   an opening: a further one, one that answered 0, one that is refused
 --   noted-as, .., other-noted  by the kind of the request
@@ -8,36 +7,29 @@
 --   long-noted, line-noted     by the line
 use Prim.Native.Nat.{ℕ, ◌+◌, ◌-◌, ◌≤◌}
 use mathlib.Core.Path.{◌≡◌, refl, sym, ap, subst, ◌∙◌}
-use mathlib.Core.Bool.{Bool, true, false, ◌||◌}
-use mathlib.Core.Logic.{inl, inr}
-use mathlib.Core.List.{List, [], ◌∷◌, ◌++◌}
+use mathlib.Core.Bool.{Bool, true, false}
+use mathlib.Core.List.{List, ◌++◌}
 use native.Mathlib.Omega.{arith}
 use borrow.Author.Tests.{ne_eqb, lt-ltb, le-ltb}
-use denote.Enum.Declared.{tag_of}
-use types.Run.{OneOf}
-use lib.Dec.{T, eqb}
+use lib.Dec.{eqb}
 use lib.ListN.{length, take, drop, length-append, length-drop, length-take}
-use lib.Seq.{take_at, length-take-le}
+use lib.Seq.{length-take-le}
 use Rattle.points.specs.declared.Accord.{Accord}
 use Rattle.machine.specs.declared.Receiver.{Receiver}
-use Rattle.reasons.specs.Reason.{given_of}
 use Rattle.openings.specs.declared.Opened.{Opened}
 use Rattle.openings.specs.Given.{start_at}
 use Rattle.openings.specs.Opening.{Opens}
 use Rattle.receiver_meaning.specs.Piece.{Piece, piece_of, marked_piece}
 use Rattle.records.specs.Values.{bytes_of}
-use Rattle.recorder.specs.declared.Taped.{Taped}
 use Rattle.recorder.specs.Recorded.{open_records, opening_recorded}
-use Rattle.recorder.specs.Taping.{Ran}
 use Rattle.recorder.specs.Doors.{taped_hearing, taped_finishing}
-use Rattle.recorder.specs.Promise.{Is, OpenTaped}
+use Rattle.recorder.specs.Promise.{OpenTaped}
 use Rattle.recorder.proofs.Opens.{open-space}
 use Rattle.page.specs.Page.{Puts}
 use Rattle.phrases.proofs.Phrases.{puts-as, nothing_put}
-use Rattle.answers.specs.Answer.{number_line, heard_line, unread_line}
+use Rattle.answers.specs.Answer.{number_line, unread_line}
 use Rattle.requests.specs.declared.Request.{Request}
 use Rattle.requests.specs.declared.Request.TheVariants as request
-use Rattle.requests.specs.contracts.Request.{the_type}
 use Rattle.requests.specs.Named.{Named}
 use Rattle.requests.specs.Verb.{Fit}
 use Rattle.protocol.specs.Request.{request_of}
@@ -55,29 +47,6 @@ pub front-few : (ws out o : List ℕ) → o ≡ ws ++ drop (length ws) out → l
 front-few ws out o is kept =
     let a : length o ≡ length ws + (length out - length ws) = ap length is ∙ length-append ws (drop (length ws) out) ∙ rw length-drop in
     omega arith
-
-pub is-few : (ran : Ran) (out bytes : List ℕ) (t : Taped) (o b : List ℕ) → Is ran out bytes t o b → length o ≡ length out → t.written ≤ length out
-is-few ran out bytes t o b is kept = omega (arith, is.written, front-few ran.words out o is.output kept)
-
--- ---- a call
-
-module _ (begun : Bool) (ran : Ran) (room bytes o b : List ℕ) (t : Taped) (is : Is ran room bytes t o b) (kept : length b ≡ length bytes) where
-  words_are : take t.written o ≡ ran.words
-  words_are = rw (is.written, is.output) (take_at ran.words (drop (length ran.words) room) (length ran.words) refl)
-
-  pub tells : (page page' : List ℕ) (at : ℕ) → at ≤ length page → Puts page 0 (heard_line t.taken (given_of t.why) (take t.written o)) at page'
-      → Notes (taped begun ran) bytes page (record { receiver = t.receiver; begun = begun; recorded = t.recorded; at = at; ends = false }) b page'
-  tells page page' at h p =
-      record {
-        receiver = is.receiver;
-        begun = refl;
-        ends = refl;
-        recorded = is.recorded;
-        bytes-are = is.bytes-are;
-        puts = puts-as (rw (is.taken, is.given, words_are)) p;
-        fits = omega (arith, is.recorded, front-few (bytes_of ran.records) bytes b is.bytes-are kept);
-        near = h;
-      }
 
 -- ---- no call
 
@@ -162,39 +131,27 @@ module _ (rx : Receiver) (begun : Bool) (l : Named) (room : ℕ) where
   unfolding noting
   finish-noted {cap = cap} e h = ap (λ (m : ℕ). taped begun (taped_finishing rx m room)) (length-take-le cap l.words h) ∙ noted-as e
 
--- the verbs that are no receiver's, by their tags
-is_other : ℕ → Bool
-is_other n = eqb n 1 || (eqb n 2 || (eqb n 3 || (eqb n 9 || (eqb n 10 || (eqb n 11 || (eqb n 12 || eqb n 14))))))
-
-other_tag : (n : ℕ) → OneOf (1 ∷ 2 ∷ 3 ∷ 9 ∷ 10 ∷ 11 ∷ 12 ∷ 14 ∷ []) n → is_other n ≡ true
-unfolding is_other
-other_tag n (inl e) = rw e
-other_tag n (inr (inl e)) = rw e
-other_tag n (inr (inr (inl e))) = rw e
-other_tag n (inr (inr (inr (inl e)))) = rw e
-other_tag n (inr (inr (inr (inr (inl e))))) = rw e
-other_tag n (inr (inr (inr (inr (inr (inl e)))))) = rw e
-other_tag n (inr (inr (inr (inr (inr (inr (inl e))))))) = rw e
-other_tag n (inr (inr (inr (inr (inr (inr (inr e))))))) = rw e
-
-pub other-noted : (rx : Receiver) (begun : Bool) (l : Named) (room : ℕ) (asked : Request) → OneOf (1 ∷ 2 ∷ 3 ∷ 9 ∷ 10 ∷ 11 ∷ 12 ∷ 14 ∷ []) (tag_of the_type asked)
-    → stays rx begun unread_line ≡ noting rx begun asked l room
-unfolding noting is_other
-other-noted rx begun l room request.Nothing h = absurd (subst T (sym (other_tag 0 h)) tt)
-other-noted rx begun l room request.Unread h = refl
-other-noted rx begun l room (request.Sender k) h = refl
-other-noted rx begun l room (request.Send w cap) h = refl
-other-noted rx begun l room (request.Plain k) h = absurd (subst T (sym (other_tag 4 h)) tt)
-other-noted rx begun l room (request.Free k w) h = absurd (subst T (sym (other_tag 5 h)) tt)
-other-noted rx begun l room (request.At k w s) h = absurd (subst T (sym (other_tag 6 h)) tt)
-other-noted rx begun l room (request.Piece cap n) h = absurd (subst T (sym (other_tag 7 h)) tt)
-other-noted rx begun l room (request.Finish cap) h = absurd (subst T (sym (other_tag 8 h)) tt)
-other-noted rx begun l room (request.Sample x y) h = refl
-other-noted rx begun l room request.Pending h = refl
-other-noted rx begun l room (request.List cap n) h = refl
-other-noted rx begun l room request.Missing h = refl
-other-noted rx begun l room (request.Marked cap k n) h = absurd (subst T (sym (other_tag 13 h)) tt)
-other-noted rx begun l room (request.Card accepted) h = refl
+-- the verbs that are no receiver's
+module _ (rx : Receiver) (begun : Bool) (l : Named) (room : ℕ) where
+  pub other-noted : (asked : Request) → (asked ≡ request.Nothing → ⊥) → ((k : Accord) → asked ≡ request.Plain k → ⊥) → ((k : Accord) (w : ℕ) → asked ≡ request.Free k w → ⊥)
+      → ((k : Accord) (w s : ℕ) → asked ≡ request.At k w s → ⊥) → ((cap n : ℕ) → asked ≡ request.Piece cap n → ⊥) → ((cap : ℕ) → asked ≡ request.Finish cap → ⊥)
+      → ((cap m n : ℕ) → asked ≡ request.Marked cap m n → ⊥) → stays rx begun unread_line ≡ noting rx begun asked l room
+  unfolding noting
+  other-noted request.Nothing n p f a c e m = absurd (n refl)
+  other-noted request.Unread n p f a c e m = refl
+  other-noted (request.Sender k) n p f a c e m = refl
+  other-noted (request.Send w cap) n p f a c e m = refl
+  other-noted (request.Plain k) n p f a c e m = absurd (p k refl)
+  other-noted (request.Free k w) n p f a c e m = absurd (f k w refl)
+  other-noted (request.At k w s) n p f a c e m = absurd (a k w s refl)
+  other-noted (request.Piece cap i) n p f a c e m = absurd (c cap i refl)
+  other-noted (request.Finish cap) n p f a c e m = absurd (e cap refl)
+  other-noted (request.Sample x y) n p f a c e m = refl
+  other-noted request.Pending n p f a c e m = refl
+  other-noted (request.List cap i) n p f a c e m = refl
+  other-noted request.Missing n p f a c e m = refl
+  other-noted (request.Marked cap k i) n p f a c e m = absurd (m cap k i refl)
+  other-noted (request.Card accepted) n p f a c e m = refl
 
 -- ---- a line
 

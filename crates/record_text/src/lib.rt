@@ -24,7 +24,7 @@ use recorder::Taped;
 use requests::Request;
 
 // What a line left: the receiver, whether an opening is recorded, how many bytes there are of records and of the answer, and whether the
-// recording ends here.
+// recording ends here. Flags, since `Notes` says what the others are at every setting of them: the receiver also where the recording ends.
 #[derive(Clone, Copy)]
 pub struct Noted {
     pub receiver: Receiver,
@@ -55,11 +55,8 @@ fn unread(rx: Receiver, begun: bool, bytes: &[u8], page: &mut [u8]) -> Noted
     ensures { Notes (stays rx begun unread_line) bytes.now page.old result bytes.now page.new }
 {
     Noted {
-        receiver: rx,
-        begun,
-        recorded: 0,
         at: answers::unread(page, 0),
-        ends: false,
+        ..idle(rx, begun, false)
     }
 }
 
@@ -81,23 +78,17 @@ fn opening(
     }
     let n = recorder::record_open(accord, window, start, bytes);
     let o = openings::open_receiver(accord, window, openings::start_at(start));
-    let receiver = o.receiver;
     let at = answers::number(page, 0, n as u64);
     if n != 0 {
         return Noted {
-            receiver,
-            begun: false,
-            recorded: 0,
             at,
-            ends: false,
+            ..idle(o.receiver, false, false)
         };
     }
     Noted {
-        receiver,
-        begun: true,
         recorded: 4,
         at,
-        ends: false,
+        ..idle(o.receiver, true, false)
     }
 }
 
@@ -105,10 +96,7 @@ fn opening(
 fn start_number(state: u32) -> u32
     ensures { result ≡ start_number state }
 {
-    if state == FREE {
-        return 17;
-    }
-    state
+    if state == FREE { 17 } else { state }
 }
 
 // The answer to a recorded call, with the words that it wrote.
@@ -117,16 +105,11 @@ fn tell(begun: bool, t: Taped, out: &[u32], page: &mut [u8]) -> Noted
     ensures { (ran : Ran) (room bytes b : List ℕ) → Is ran room bytes t out.now b → length b ≡ length bytes
         → Notes (taped begun ran) bytes page.old result b page.new }
 {
-    let why = t.why;
-    let n = t.written;
-    let at = answers::heard(page, 0, t.taken, why, &out[..n]);
-    let receiver = t.receiver;
+    let at = answers::heard(page, 0, t.taken, t.why, &out[..t.written]);
     Noted {
-        receiver,
-        begun,
         recorded: t.recorded,
         at,
-        ends: false,
+        ..idle(t.receiver, begun, false)
     }
 }
 
@@ -264,6 +247,5 @@ pub fn line(
     if part.long {
         return unread(rx, begun, bytes, page);
     }
-    let held = part.held;
-    obey(rx, begun, &line[..held], bytes, page)
+    obey(rx, begun, &line[..part.held], bytes, page)
 }

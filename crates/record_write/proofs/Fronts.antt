@@ -1,6 +1,5 @@
 -- Records at the front of bytes: what stores leave, and how many bytes records have.
 --   fronted        stores one after the other
---   symbol-put     those of a symbol, where its halves are at hand
 --   handed, small-bits, kept, kept-reads, kept_small   a coordinate as a call is handed it, and as a record has it
 --   small-heard, plain-record                          the record of a symbol of which nothing is missing
 --   marked-record, small-first, small-second           the record of a symbol of which a point is missing
@@ -13,7 +12,7 @@
 use mathlib.Core.Path.{◌≡◌, refl, sym, ap, subst, ◌∙◌}
 use mathlib.Core.Bool.{Bool, true, false, cond}
 use mathlib.Core.List.{List, [], ◌∷◌, ◌++◌, append_assoc}
-use Prim.Native.Nat.{ℕ, ◌+◌, ◌-◌, ◌*◌, ◌/◌, ◌%◌, ◌<◌, ◌≤◌}
+use Prim.Native.Nat.{ℕ, ◌+◌, ◌-◌, ◌*◌, ◌%◌, ◌<◌, ◌≤◌}
 use native.Mathlib.Numerals.{add-one}
 use native.Mathlib.Omega.{arith}
 use borrow.Author.Tests.{eqb-true, eqb-false, leb-false}
@@ -27,22 +26,11 @@ use Rattle.lists.proofs.Lent.{stored, placed}
 use Rattle.trellis.specs.Measure.{Two}
 use Rattle.nearest.specs.declared.Received.{Received}
 use Rattle.receiver_meaning.specs.Piece.{point_from, first_missing, second_missing}
-use Rattle.records.specs.Values.{Entry, entry, half_of, half_bytes, symbol_entry, marked_entry, word_entry, finish_entry, bytes_of}
+use Rattle.records.specs.Values.{Entry, symbol_entry, marked_entry, word_entry, finish_entry, bytes_of}
 use Rattle.record_write.specs.Front.{symbol_in, spot_of, symbol_record, symbol_space, space_of, word_entries, symbol_records, finish_records, Fronted, SmallSpot, Small}
 
 pub fronted : (rs : List Entry) (l : List ℕ) → length (bytes_of rs) ≤ length l → Fronted rs l (sets l 0 (bytes_of rs))
 fronted rs l h = stored (bytes_of rs) l h
-
--- the two bytes of a coordinate, whose half is at hand
-abbrev two_bytes : ℕ → List ℕ → List ℕ
-two_bytes a rest = (a % 256) ∷ (a / 256) ∷ rest
-
-pub symbol-put : (k : ℕ) (p : List ℕ) (x0 x1 x2 x3 : ℤ) (a b c d : ℕ) → a ≡ half_of x0 → b ≡ half_of x1 → c ≡ half_of x2 → d ≡ half_of x3 →
-    let r = entry k (p ++ half_bytes x0 (half_bytes x1 (half_bytes x2 (half_bytes x3 [])))) in
-    (l : List ℕ) → space_of (r ∷ []) ≤ length l → Fronted (r ∷ []) l (sets l 0 (k ∷ ((p ++ two_bytes a (two_bytes b (two_bytes c (two_bytes d [])))) ++ [])))
-unfolding bytes_of
-symbol-put k p x0 x1 x2 x3 a b c d e0 e1 e2 e3 l h =
-    rw (e0, e1, e2, e3) (fronted (entry k (p ++ half_bytes x0 (half_bytes x1 (half_bytes x2 (half_bytes x3 [])))) ∷ []) l h)
 
 -- ---- a coordinate as a call is handed it, and as a record has it
 

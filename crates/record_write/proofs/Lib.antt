@@ -1,2 +1,1 @@
-pub mod Sixteen
 pub mod Fronts

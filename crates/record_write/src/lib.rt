@@ -2,21 +2,20 @@
 // Each writes at the front of the bytes that it is lent and leaves the rest as it was; what the bytes say is records/specs/Values.
 #![tactic(auto)]
 
-ghost use Rattle.std.specs.Prelude.{◌≡◌, cond, [], ◌∷◌, ◌+◌, ◌*◌, ◌%◌, ◌≤◌, ◌<◌, pos, nat_abs, leb, length};
-ghost use Rattle.records.specs.Values.{half_of, open_kind, open_entry, symbol_entry, marked_entry, word_entry, finish_entry};
+ghost use Rattle.std.specs.Prelude.{◌≡◌, cond, [], ◌∷◌, ◌+◌, ◌*◌, ◌%◌, ◌≤◌, ◌<◌, pos, nat_abs, leb, length, drop};
+ghost use Rattle.records.specs.Values.{half_bytes, open_kind, open_entry, symbol_entry, marked_entry, word_entry, finish_entry};
 ghost use Rattle.record_write.specs.Front.{symbol_in, symbol_record, symbol_space, word_entries, symbol_records, finish_records, Fronted, Small};
 
 use points::{Accord, Map};
+use records::{FINISH, MARKED, OPEN, OPEN_SQUARE, SYMBOL, WORD};
 
-// A coordinate as a number of 16 bits.
-fn bits(x: i32) -> u32
+// A coordinate: its low 16 bits, low byte first.
+fn half(x: i32) -> [u8; 2]
     requires { nat_abs x ≤ 32768 }
-    ensures { (result ≡ half_of x) × (result < 65536) }
+    ensures { result ≡ half_bytes x [] }
 {
-    if x < 0 {
-        return (x + 65536) as u32;
-    }
-    x as u32
+    let [lo, hi, ..] = x.to_le_bytes();
+    [lo, hi]
 }
 
 // The kind that opens a line of this map.
@@ -24,85 +23,68 @@ fn open_kind(map: Map) -> u8
     ensures { result ≡ open_kind map }
 {
     match map {
-        Map::Round => 1,
-        Map::Square => 6,
+        Map::Round => OPEN,
+        Map::Square => OPEN_SQUARE,
     }
 }
 
 // The map and the numbers of an opening.
+#[tactic(auto, unfolding(records::specs::Values::bytes_of))]
 pub fn put_open(k: Accord, window: u32, start: u32, bytes: &mut [u8])
     requires { (4 ≤ length bytes.old) × (k.u < 256) × (window < 256) × (start < 256) }
     ensures { Fronted (open_entry k window start ∷ []) bytes.old bytes.new }
 {
-    let map = k.map;
-    bytes[0] = open_kind(map);
-    bytes[1] = k.u as u8;
-    bytes[2] = window as u8;
-    bytes[3] = start as u8;
+    bytes[..4].copy_from_slice(&[open_kind(k.map), k.u as u8, window as u8, start as u8]);
 }
 
-// The coordinates of a symbol of which nothing is missing.
+// The coordinates of a symbol.
+fn put_coordinates(x0: i32, x1: i32, x2: i32, x3: i32, bytes: &mut [u8])
+    requires { (8 ≤ length bytes.old) × (nat_abs x0 ≤ 32768) × (nat_abs x1 ≤ 32768) × (nat_abs x2 ≤ 32768) × (nat_abs x3 ≤ 32768) }
+    ensures { bytes.new ≡ half_bytes x0 (half_bytes x1 (half_bytes x2 (half_bytes x3 (drop 8 bytes.old)))) }
+{
+    let [a, b] = half(x0);
+    let [c, d] = half(x1);
+    let [e, f] = half(x2);
+    let [g, h] = half(x3);
+    bytes[..8].copy_from_slice(&[a, b, c, d, e, f, g, h]);
+}
+
+// A symbol of which nothing is missing.
+#[tactic(auto, unfolding(records::specs::Values::bytes_of))]
 fn put_symbol(x0: i32, x1: i32, x2: i32, x3: i32, bytes: &mut [u8])
     requires { (9 ≤ length bytes.old) × (nat_abs x0 ≤ 32768) × (nat_abs x1 ≤ 32768) × (nat_abs x2 ≤ 32768) × (nat_abs x3 ≤ 32768) }
     ensures { Fronted (symbol_entry x0 x1 x2 x3 ∷ []) bytes.old bytes.new }
 {
-    let a = bits(x0);
-    let b = bits(x1);
-    let c = bits(x2);
-    let d = bits(x3);
-    bytes[0] = 2;
-    bytes[1] = (a % 256) as u8;
-    bytes[2] = (a / 256) as u8;
-    bytes[3] = (b % 256) as u8;
-    bytes[4] = (b / 256) as u8;
-    bytes[5] = (c % 256) as u8;
-    bytes[6] = (c / 256) as u8;
-    bytes[7] = (d % 256) as u8;
-    bytes[8] = (d / 256) as u8;
+    bytes[0] = SYMBOL;
+    put_coordinates(x0, x1, x2, x3, &mut bytes[1..]);
 }
 
-// The mark of another, and its coordinates.
+// Another, behind its mark.
+#[tactic(auto, unfolding(records::specs::Values::bytes_of))]
 fn put_marked(mark: u8, x0: i32, x1: i32, x2: i32, x3: i32, bytes: &mut [u8])
     requires { (10 ≤ length bytes.old) × (nat_abs x0 ≤ 32768) × (nat_abs x1 ≤ 32768) × (nat_abs x2 ≤ 32768) × (nat_abs x3 ≤ 32768) }
     ensures { Fronted (marked_entry mark x0 x1 x2 x3 ∷ []) bytes.old bytes.new }
 {
-    let a = bits(x0);
-    let b = bits(x1);
-    let c = bits(x2);
-    let d = bits(x3);
-    bytes[0] = 5;
+    bytes[0] = MARKED;
     bytes[1] = mark;
-    bytes[2] = (a % 256) as u8;
-    bytes[3] = (a / 256) as u8;
-    bytes[4] = (b % 256) as u8;
-    bytes[5] = (b / 256) as u8;
-    bytes[6] = (c % 256) as u8;
-    bytes[7] = (c / 256) as u8;
-    bytes[8] = (d % 256) as u8;
-    bytes[9] = (d / 256) as u8;
+    put_coordinates(x0, x1, x2, x3, &mut bytes[2..]);
 }
 
+#[tactic(auto, unfolding(records::specs::Values::bytes_of))]
 fn put_word(w: u32, bytes: &mut [u8])
     requires { 5 ≤ length bytes.old }
     ensures { Fronted (word_entry w ∷ []) bytes.old bytes.new }
 {
-    bytes[0] = 3;
-    bytes[1] = (w % 256) as u8;
-    bytes[2] = (w / 256 % 256) as u8;
-    bytes[3] = (w / 65536 % 256) as u8;
-    bytes[4] = (w / 16777216) as u8;
+    let [a, b, c, d] = w.to_le_bytes();
+    bytes[..5].copy_from_slice(&[WORD, a, b, c, d]);
 }
 
 pub fn put_words(words: &[u32], bytes: &mut [u8])
     requires { 5 * length words.now ≤ length bytes.old }
     ensures { Fronted (word_entries words.now) bytes.old bytes.new }
 {
-    let mut i: usize = 0;
-    let mut at: usize = 0;
-    while i < words.len() {
-        put_word(words[i], &mut bytes[at..]);
-        at += 5;
-        i += 1;
+    for (i, w) in words.iter().enumerate() {
+        put_word(*w, &mut bytes[5 * i..]);
     }
 }
 
@@ -159,7 +141,7 @@ fn put_end(bytes: &mut [u8])
     requires { 1 ≤ length bytes.old }
     ensures { Fronted (finish_entry ∷ []) bytes.old bytes.new }
 {
-    bytes[0] = 4;
+    bytes[0] = FINISH;
 }
 
 // A finish, then the words that it wrote.

@@ -7,22 +7,20 @@
 use mathlib.Core.Path.{◌≡◌, refl, sym, ap, ap₂, ◌∙◌}
 use mathlib.Core.Bool.{true, false, cond}
 use mathlib.Core.List.{List, [], ◌∷◌, ◌++◌, append-nil}
-use Prim.Native.Nat.{ℕ, ◌+◌, ◌-◌, ◌*◌, ◌%◌, ◌<◌, ◌≤◌}
+use Prim.Native.Nat.{ℕ, ◌+◌, ◌-◌, ◌*◌, ◌/◌, ◌%◌, ◌<◌, ◌≤◌}
 use native.Mathlib.Nat.{add-zero}
 use native.Mathlib.Omega.{arith}
 use lib.IntN.{ℤ}
 use lib.ListN.{get_or, length, take, drop, length-drop, take-append-drop, drop_of_length-le}
 use lib.Seq.{length-take-le, drop-drop}
+use Rattle.std.specs.Prelude.{Ok}
 use Rattle.trellis.specs.Measure.{Two}
 use Rattle.nearest.specs.declared.Received.{Received}
 use Rattle.machine.specs.declared.Core.{Core}
 use Rattle.machine.specs.declared.Receiver.{Receiver}
 use Rattle.machine.specs.Machine.{Outcome, sound}
 use Rattle.machine.specs.Parts.{whole}
-use Rattle.reasons.specs.declared.Why.{Why}
-use Rattle.reasons.specs.declared.Why.TheVariants.{Done}
-use Rattle.reasons.specs.Reason.{reason, given_of, is_done}
-use Rattle.reasons.proofs.Apart.{done-given}
+use Rattle.reasons.specs.Reason.{given_of, is_done}
 use Rattle.receiver_meaning.specs.Piece.{symbols_with, mark_of, later_marks}
 use Rattle.piece_input.proofs.Marks.{mark-from, later-from}
 use Rattle.pieces.proofs.Lent.{part, lent_fits, back_is, back-take, back-drop, back-length}
@@ -48,8 +46,6 @@ pub record Stand : Type 0 where
   pub taken : ℕ
   pub written : ℕ
   pub recorded : ℕ
-  pub why : Why
-  pub i : ℕ
 
 -- the end of the whole piece
 abbrev pub all_of : Given → Ran
@@ -57,20 +53,18 @@ all_of z = taping (symbols_with z.ms z.xs) z.rx 0 [] [] (length z.out) (length z
 
 pub record Going (z : Given) (s : Stand) : Type 0 where
   pub even : length z.xs % 4 ≡ 0
-  pub within : s.i ≤ length z.xs
-  pub count : 4 * s.taken ≡ s.i
+  pub within : 4 * s.taken ≤ length z.xs
   pub room : s.written ≤ length z.out
   pub long : length s.out ≡ length z.out
   pub space : s.recorded ≤ length z.bytes
   pub wide : length s.bytes ≡ length z.bytes
   pub fit : sound s.rx ≡ true
   pub picks : length s.rx.picks ≡ 72
-  pub going : given_of s.why ≡ reason 0
   pub rest : drop s.written s.out ≡ drop s.written z.out
   pub rest-bytes : drop s.recorded s.bytes ≡ drop s.recorded z.bytes
   pub records : List Entry
   pub are : take s.recorded s.bytes ≡ bytes_of records
-  pub same : all_of z ≡ taping (symbols_with (drop s.taken z.ms) (drop s.i z.xs)) s.rx s.taken (take s.written s.out) records (length z.out) (length z.bytes)
+  pub same : all_of z ≡ taping (symbols_with (drop s.taken z.ms) (drop (4 * s.taken) z.xs)) s.rx s.taken (take s.written s.out) records (length z.out) (length z.bytes)
 
 -- the symbol at the front of some coordinates, with its mark, and those after it
 front-symbol : (ms : List ℕ) (zs : List ℤ) → 4 ≤ length zs → symbols_with ms zs ≡ symbol_in (mark_of ms) (take 4 zs) ∷ symbols_with (later_marks ms) (drop 4 zs)
@@ -103,20 +97,18 @@ module _ (y : Two Received) (zs : List (Two Received)) (rx : Receiver) (n : ℕ)
 
 module _ (z : Given) where
   pub start : length z.xs % 4 ≡ 0 → sound z.rx ≡ true → length z.rx.picks ≡ 72 →
-      Going z (record { out = z.out; bytes = z.bytes; rx = z.rx; taken = 0; written = 0; recorded = 0; why = Done; i = 0 })
+      Going z (record { out = z.out; bytes = z.bytes; rx = z.rx; taken = 0; written = 0; recorded = 0 })
   unfolding bytes_of
   start even fit of-72 =
       record {
         even = even;
         within = omega arith;
-        count = refl;
         room = omega arith;
         long = refl;
         space = omega arith;
         wide = refl;
         fit = fit;
         picks = of-72;
-        going = refl;
         rest = refl;
         rest-bytes = refl;
         records = [];
@@ -131,23 +123,23 @@ module _ (z : Given) where
     space-is : space_of g.records ≡ s.recorded
     space-is = ap length (sym g.are) ∙ length-take-le s.recorded s.bytes (omega (arith, g.space, g.wide))
 
-  pub end : (core : Core) (sums registers picks out bytes : List ℕ) (taken w v : ℕ) (why : Why) (i : ℕ) →
-      Going z (record { out = out; bytes = bytes; rx = whole core sums registers picks; taken = taken; written = w; recorded = v; why = why; i = i }) →
-      length z.xs ≤ i →
-      RunsTaped (all_of z) z.out z.bytes (record { core = core; taken = taken; written = w; recorded = v; why = why }) sums registers picks out bytes
+  pub end : (core : Core) (sums registers picks out bytes : List ℕ) (taken w v : ℕ) →
+      Going z (record { out = out; bytes = bytes; rx = whole core sums registers picks; taken = taken; written = w; recorded = v }) →
+      length z.xs / 4 ≤ taken →
+      RunsTaped (all_of z) z.out z.bytes (record { core = core; taken = length z.xs / 4; written = w; recorded = v; why = Ok tt }) sums registers picks out bytes
   unfolding taping
-  end core sums registers picks out bytes taken w v why i g past =
-      let s : Stand = record { out = out; bytes = bytes; rx = whole core sums registers picks; taken = taken; written = w; recorded = v; why = why; i = i } in
-      let ran : all_of z ≡ record { receiver = s.rx; taken = taken; words = take w out; records = g.records; why = Done } =
+  end core sums registers picks out bytes taken w v g past =
+      let s : Stand = record { out = out; bytes = bytes; rx = whole core sums registers picks; taken = taken; written = w; recorded = v } in
+      let ran : all_of z ≡ record { receiver = s.rx; taken = taken; words = take w out; records = g.records; why = Ok tt } =
       g.same ∙ ap (λ (zs : List ℤ). taping (symbols_with (drop taken z.ms) zs) s.rx taken (take w out) g.records (length z.out) (length z.bytes))
-      (drop_of_length-le z.xs {i = i} past) in
+      (drop_of_length-le z.xs {i = 4 * taken} (omega (arith, g.even, past))) in
       rw ran
       (record {
         receiver = refl;
-        taken = refl;
+        taken = omega (arith, g.within, past);
         written = sym (wrote s g);
         recorded = sym (space-is s g);
-        given = g.going;
+        given = refl;
         output = rw (wrote s g, ← g.rest) (sym (take-append-drop w out));
         bytes-are = rw (space-is s g, ← g.rest-bytes, ← g.are) (sym (take-append-drop v bytes));
       })
@@ -164,18 +156,18 @@ lent_from w l = take (length l - w) (drop w l)
 abbrev pub returned : ℕ → List ℕ → List ℕ → List ℕ
 returned w l ys = take w l ++ (ys ++ drop (length l - w) (drop w l))
 
-module _ (z : Given) (s : Stand) (g : Going z s) (more : s.i < length z.xs) where
-  pub four : s.i + 4 ≤ length z.xs
-  four = omega (arith, g.even, g.count, g.within)
+module _ (z : Given) (s : Stand) (g : Going z s) (more : s.taken < length z.xs / 4) where
+  pub four : 4 * s.taken + 4 ≤ length z.xs
+  four = omega (arith, g.even, more)
 
-  pub four-long : length (four_at z.xs s.i) ≡ 4
+  pub four-long : length (four_at z.xs (4 * s.taken)) ≡ 4
   four-long =
-      let n : s.i + 4 - s.i ≡ 4 = omega arith in
-      rw n (length-take-le 4 (drop s.i z.xs) (rw length-drop (omega (arith, four))))
+      let n : 4 * s.taken + 4 - 4 * s.taken ≡ 4 = omega arith in
+      rw n (length-take-le 4 (drop (4 * s.taken) z.xs) (rw length-drop (omega (arith, four))))
 
 pub record Turn (z : Given) (s : Stand) : Type 0 where
   pub going : Going z s
-  pub more : s.i < length z.xs
+  pub more : s.taken < length z.xs / 4
   pub mark : ℕ
   pub mark-is : mark ≡ get_or z.ms s.taken 0
   pub step : Step
@@ -184,7 +176,7 @@ pub record Turn (z : Given) (s : Stand) : Type 0 where
   pub picks : List ℕ
   pub ys : List ℕ
   pub zs : List ℕ
-  pub is : StepIs s.rx (symbol_in mark (four_at z.xs s.i)) (lent_from s.written s.out) (lent_from s.recorded s.bytes) step sums registers picks ys zs
+  pub is : StepIs s.rx (symbol_in mark (four_at z.xs (4 * s.taken))) (lent_from s.written s.out) (lent_from s.recorded s.bytes) step sums registers picks ys zs
   pub kept : length ys ≡ length (lent_from s.written s.out)
   pub kept-bytes : length zs ≡ length (lent_from s.recorded s.bytes)
 
@@ -196,7 +188,7 @@ module _ (z : Given) (s : Stand) (t : Turn z s) where
   r = t.step
 
   abbrev y : Two Received
-  y = symbol_in t.mark (four_at z.xs s.i)
+  y = symbol_in t.mark (four_at z.xs (4 * s.taken))
 
   abbrev left : ℕ
   left = length (lent_from s.written s.out)
@@ -211,7 +203,7 @@ module _ (z : Given) (s : Stand) (t : Turn z s) where
   new = records_of y o
 
   abbrev ahead : List (Two Received)
-  ahead = symbols_with (drop (s.taken + 1) z.ms) (drop (s.i + 4) z.xs)
+  ahead = symbols_with (drop (s.taken + 1) z.ms) (drop (4 * (s.taken + 1)) z.xs)
 
   -- the output and the bytes after it
   abbrev pub out_next : List ℕ
@@ -220,11 +212,12 @@ module _ (z : Given) (s : Stand) (t : Turn z s) where
   abbrev pub bytes_next : List ℕ
   bytes_next = returned s.recorded s.bytes t.zs
 
-  symbols-are : symbols_with (drop s.taken z.ms) (drop s.i z.xs) ≡ y ∷ ahead
+  symbols-are : symbols_with (drop s.taken z.ms) (drop (4 * s.taken) z.xs) ≡ y ∷ ahead
   symbols-are =
-      let n : s.i + 4 - s.i ≡ 4 = omega arith in
-      front-symbol (drop s.taken z.ms) (drop s.i z.xs) (rw length-drop (omega (arith, four z s g t.more)))
-      ∙ rw (n, drop-drop 4 s.i z.xs, mark-from z.ms s.taken, later-from z.ms s.taken, t.mark-is)
+      let n : 4 * s.taken + 4 - 4 * s.taken ≡ 4 = omega arith in
+      let on : 4 * (s.taken + 1) ≡ 4 * s.taken + 4 = omega arith in
+      front-symbol (drop s.taken z.ms) (drop (4 * s.taken) z.xs) (rw length-drop (omega (arith, four z s g t.more)))
+      ∙ rw (on, n, drop-drop 4 (4 * s.taken) z.xs, mark-from z.ms s.taken, later-from z.ms s.taken, t.mark-is)
 
   here : taped_at s.rx y (length z.out - length (take s.written s.out)) (length z.bytes - space_of g.records) ≡ o
   here =
@@ -269,8 +262,6 @@ module _ (z : Given) (s : Stand) (t : Turn z s) where
         taken = s.taken + 1;
         written = s.written + r.written;
         recorded = s.recorded + r.recorded;
-        why = r.why;
-        i = s.i + 4;
       }
 
   pub go_on : is_done r.why ≡ true → length t.picks ≡ 72 → Going z next
@@ -279,13 +270,11 @@ module _ (z : Given) (s : Stand) (t : Turn z s) where
       let k : new ≡ symbol_records y o.words = rw d in
       record {
         even = g.even;
-        within = four z s g t.more;
-        count = omega (arith, g.count);
+        within = omega (arith, four z s g t.more);
         room = more-fits;
         long = more-length;
         space = more-space;
         wide = more-wide;
-        going = done-given r.why done;
         fit = ap sound t.is.receiver ∙ taped-sound s.rx g.fit y left left-bytes;
         picks = of-72;
         rest = rw t.is.written (back-drop s.out z.out o.words t.ys s.written g.long g.room g.rest t.is.output t.kept);

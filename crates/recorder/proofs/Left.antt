@@ -4,6 +4,7 @@ use mathlib.Core.Bool.{Bool, true, false, cond, ◌&&◌}
 use mathlib.Core.List.{[]}
 use Prim.Native.Nat.{ℕ}
 use lib.Dec.{ltb}
+use Rattle.std.specs.Prelude.{Err}
 use Rattle.trellis.specs.Measure.{Two}
 use Rattle.nearest.specs.declared.Received.{Received}
 use Rattle.machine.specs.declared.Receiver.{Receiver}
@@ -25,7 +26,7 @@ module _ (rx : Receiver) (y : Two Received) (room bytes : ℕ) where
   pub taped-refused : Left (taped_at rx y room bytes)
   unfolding taped_at
   taped-refused = go (is_done said.why && ltb bytes (space_of (symbol_records y said.words))) where
-    go : (b : Bool) → Left (cond b (refused rx NoRoom) said)
+    go : (b : Bool) → Left (cond b (refused rx (Err NoRoom)) said)
     go true d = (refl, refl)
     go false d = symbol-refused rx y room d
 
@@ -33,6 +34,6 @@ module _ (rx : Receiver) (f : sound rx ≡ true) (y : Two Received) (room bytes 
   pub taped-sound : sound (taped_at rx y room bytes).receiver ≡ true
   unfolding taped_at
   taped-sound = go (is_done (symbol_at rx y room).why && ltb bytes (space_of (symbol_records y (symbol_at rx y room).words))) where
-    go : (b : Bool) → sound (cond b (refused rx NoRoom) (symbol_at rx y room)).receiver ≡ true
+    go : (b : Bool) → sound (cond b (refused rx (Err NoRoom)) (symbol_at rx y room)).receiver ≡ true
     go true = f
     go false = symbol-sound rx f y room

@@ -14,6 +14,7 @@ use lib.Dec.{T, ltb}
 use lib.IntN.{ℤ}
 use lib.ListN.{length, take, drop, length-append, length-drop, take-append-drop}
 use lib.Seq.{length-take-le}
+use Rattle.std.specs.Prelude.{Result, Ok, Err, ⊤}
 use Rattle.trellis.specs.Measure.{Two}
 use Rattle.nearest.specs.declared.Received.{Received}
 use Rattle.nearest.specs.declared.Received.TheVariants.{Heard as At, Missing}
@@ -23,9 +24,9 @@ use Rattle.machine.specs.declared.Receiver.{Receiver}
 use Rattle.machine.specs.Machine.{Outcome, refused}
 use Rattle.machine.specs.Parts.{whole}
 use Rattle.reasons.specs.declared.Why.{Why}
-use Rattle.reasons.specs.declared.Why.TheVariants.{Done, NoRoom}
+use Rattle.reasons.specs.declared.Why.TheVariants.{NoRoom}
 use Rattle.reasons.specs.Reason.{given_of, is_done}
-use Rattle.reasons.proofs.Apart.{given-one, done-given}
+use Rattle.reasons.proofs.Apart.{given-one, done-given, refused-err}
 use Rattle.receiver_meaning.specs.Told.{fault_of}
 use Rattle.receiver_meaning.specs.Piece.{marked_symbol, symbols_with}
 use Rattle.receiver_meaning.proofs.Telling.{in-range}
@@ -45,7 +46,7 @@ use Rattle.recorder.proofs.Symbols.{enough, short}
 
 -- how the run of it goes, by its outcome
 abbrev took : Outcome → Ran
-took o = record { receiver = o.receiver; taken = 1; words = o.words; why = Done }
+took o = record { receiver = o.receiver; taken = 1; words = o.words; why = Ok tt }
 
 abbrev stayed : Receiver → Outcome → Ran
 stayed rx o = record { receiver = rx; taken = 0; words = []; why = o.why }
@@ -105,16 +106,16 @@ module _ (rx : Receiver) (n : ℕ) (xs : List ℤ) (room : List ℕ) (a : Asked 
     go true e = sym (done-given o.why e)
     go false e = refl
 
-  short-as : length room ≡ 0 → (m bytes : ℕ) → bytes < symbol_space y → taped_at rx y m bytes ≡ refused rx (cond (is_done a.heard.why) NoRoom a.heard.why)
+  short-as : length room ≡ 0 → (m bytes : ℕ) → bytes < symbol_space y → taped_at rx y m bytes ≡ refused rx (cond (is_done a.heard.why) (Err NoRoom) a.heard.why)
   short-as z m bytes few =
       let e : (symbol_at rx y 0).why ≡ a.heard.why = ap (λ (n : ℕ). (symbol_at rx y n).why) (sym z) ∙ sym why-is in
-      short rx y m bytes few ∙ ap (λ (v : Why). refused rx (cond (is_done v) NoRoom v)) e
+      short rx y m bytes few ∙ ap (λ (v : Result ⊤ Why). refused rx (cond (is_done v) (Err NoRoom) v)) e
 
-  pub refuses-eight : length room ≡ 0 → is_done a.heard.why ≡ true → Refuses rx y NoRoom
+  pub refuses-eight : length room ≡ 0 → is_done a.heard.why ≡ true → Refuses rx y (Err NoRoom)
   refuses-eight z e = (refl, λ m bytes few. short-as z m bytes few ∙ rw e)
 
-  pub refuses-so : length room ≡ 0 → is_done a.heard.why ≡ false → Refuses rx y a.heard.why
-  refuses-so z e = (e, λ m bytes few. short-as z m bytes few ∙ rw e)
+  pub refuses-so : length room ≡ 0 → (w : Why) → a.heard.why ≡ Err w → Refuses rx y (Err w)
+  refuses-so z w e = (refused-err w, λ m bytes few. short-as z m bytes few ∙ rw (e, refused-err w))
 
   -- how it went, by whether it was taken
   refused-is : is_done o.why ≡ false → Went (stayed rx o)
@@ -137,7 +138,7 @@ module _ (rx : Receiver) (n : ℕ) (xs : List ℤ) (room : List ℕ) (a : Asked 
 
 -- ---- the ends of a symbol
 
-pub step-short : (core : Core) (sums registers picks out bytes : List ℕ) (y : Two Received) (w : Why) → Refuses (whole core sums registers picks) y w → length bytes < symbol_space y →
+pub step-short : (core : Core) (sums registers picks out bytes : List ℕ) (y : Two Received) (w : Result ⊤ Why) → Refuses (whole core sums registers picks) y w → length bytes < symbol_space y →
     StepIs (whole core sums registers picks) y out bytes (record { core = core; written = 0; recorded = 0; why = w }) sums registers picks out bytes
 unfolding bytes_of
 step-short core sums registers picks out bytes y w r few =

@@ -11,13 +11,14 @@ use native.Mathlib.Omega.{arith}
 use borrow.Author.Tests.{eqb-true}
 use lib.Dec.{eqb, ltb}
 use lib.ListN.{length, drop, length-append}
+use Rattle.std.specs.Prelude.{Ok, Err}
 use Rattle.calls.specs.Calls.{fresh, rest}
 use Rattle.trellis.specs.Measure.{Two}
 use Rattle.nearest.specs.declared.Received.{Received}
 use Rattle.machine.specs.declared.Receiver.{Receiver}
 use Rattle.machine.specs.Machine.{Outcome, refused, shut, machine_of, machine_after}
 use Rattle.machine.proofs.Owed.{machine-same, sound-told}
-use Rattle.reasons.specs.declared.Why.TheVariants.{Done, NoRoom, Uneven}
+use Rattle.reasons.specs.declared.Why.TheVariants.{NoRoom, Uneven}
 use Rattle.reasons.specs.Reason.{Reason, reason, given_of, is_done}
 use Rattle.receiver_meaning.specs.Told.{Told, speaker_of, judge_symbol, Fine, with_heard}
 use Rattle.receiver_meaning.specs.Piece.{Piece}
@@ -78,9 +79,9 @@ module _ (t : Told) (ys : List (Two Received)) (f : Fine (with_heard t ys)) (y :
   recorded-judged : JudgedAs t ys y (judge_recorded t ys y room bytes) (taped_at rx y room bytes)
   unfolding taped_at judge_recorded k
   recorded-judged =
-      subst (λ (b : Bool). JudgedAs t ys y (cond (eqb j.number 0 && tight ws) (reason 8) j) (cond b (refused rx NoRoom) o)) (sym tests) (go (eqb j.number 0 && tight ws))
+      subst (λ (b : Bool). JudgedAs t ys y (cond (eqb j.number 0 && tight ws) (reason 8) j) (cond b (refused rx (Err NoRoom)) o)) (sym tests) (go (eqb j.number 0 && tight ws))
     where
-      go : (b : Bool) → JudgedAs t ys y (cond b (reason 8) j) (cond b (refused rx NoRoom) o)
+      go : (b : Bool) → JudgedAs t ys y (cond b (reason 8) j) (cond b (refused rx (Err NoRoom)) o)
       go true = record { given = refl; words = λ z. absurd (omega arith); receiver = λ z. absurd (omega arith); fine = λ z. absurd (omega arith) }
       go false = record { given = k.given; words = k.words; receiver = k.receiver; fine = k.fine }
 
@@ -195,7 +196,7 @@ hearing-owes t f p room bytes = rw (sound-told t f) (go p.fits)
         (subst (λ (m : ℕ). RunsAs t (walk_recorded t t.heard p.symbols (room - 0) m) 0 [] [] (taping p.symbols (machine_of t) 0 [] [] room bytes)) (sub-zero bytes)
         (runs t p.symbols t.heard f 0 [] [] room bytes))
 
-    go : (b : Bool) → OwedBy (cond b (taping p.symbols (machine_of t) 0 [] [] room bytes) (stopped (machine_of t) Uneven))
+    go : (b : Bool) → OwedBy (cond b (taping p.symbols (machine_of t) 0 [] [] room bytes) (stopped (machine_of t) (Err Uneven)))
         (cond b (record { reason = w.why; taken = w.taken; words = w.words; records = w.records; told = with_heard t w.heard })
         (record { reason = reason 10; taken = 0; words = []; records = []; told = t }))
     go true =
@@ -258,7 +259,7 @@ finishing-tapes t f room bytes = go (ltb room (length ws)) (finishing-owes t f r
 
     -- what the recorder makes of the receiver's answer, where its bytes are too short and where not
     made : Bool → Ran
-    made b = cond b (stopped rx NoRoom) (record { receiver = h.receiver; taken = 0; words = h.words; records = finish_records h.words; why = Done })
+    made b = cond b (stopped rx (Err NoRoom)) (record { receiver = h.receiver; taken = 0; words = h.words; records = finish_records h.words; why = Ok tt })
 
     short : (b : Bool) → EndedBy h rx (record { reason = reason 0; words = ws; closes = true }) → EndsAs (made b) rx (cond b refusal success)
     short true k = record { given = refl; taken = refl; words = refl; records = refl; receiver = refl }

@@ -2,12 +2,11 @@
 --   few     the words fit
 --   back    the whole afterwards
 --   front   its first places are the words
---   copied  a list copied over as many places
 use mathlib.Core.Path.{◌≡◌, sym, ap, ◌∙◌}
-use mathlib.Core.List.{List, [], ◌++◌, append_assoc, append-nil}
+use mathlib.Core.List.{List, ◌++◌, append_assoc}
 use Prim.Native.Nat.{ℕ, ◌+◌, ◌-◌, ◌≤◌}
 use native.Mathlib.Omega.{arith}
-use lib.ListN.{length, take, drop, length-append, length-drop, take-append-drop, drop_of_length-le}
+use lib.ListN.{length, take, drop, length-append, length-drop, take-append-drop}
 use lib.Seq.{length-take-le, take-append_seam, drop-append-le}
 
 module _ (out W ys : List ℕ) (m : ℕ) (m-in : m ≤ length out) (is : ys ≡ W ++ drop (length W) (take m out)) (kept : length ys ≡ length (take m out)) where
@@ -25,6 +24,3 @@ module _ (out W ys : List ℕ) (m : ℕ) (m-in : m ≤ length out) (is : ys ≡ 
 
   pub front : take (length W) (ys ++ drop m out) ≡ W
   front = rw back (take-append_seam W (drop (length W) out))
-
-pub copied : (l z k : List ℕ) → length l ≡ 72 → length z ≡ 72 → k ≡ l ++ drop (length l) z → k ++ [] ≡ l
-copied l z k m n is = append-nil k ∙ is ∙ rw (drop_of_length-le z {i = length l} (omega arith)) (append-nil l)

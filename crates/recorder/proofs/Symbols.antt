@@ -11,6 +11,7 @@ use borrow.Author.Tests.{ltb-true, ltb-false, lt-ltb, le-ltb}
 use lib.Dec.{ltb}
 use lib.ListN.{length, take}
 use lib.Seq.{length-take-le}
+use Rattle.std.specs.Prelude.{Result, Ok, Err, ⊤}
 use Rattle.trellis.specs.Measure.{Two}
 use Rattle.trellis.specs.Words.{word, words_from, turn_after}
 use Rattle.trellis.proofs.Speak.{speak-length}
@@ -21,7 +22,7 @@ use Rattle.machine.specs.Machine.{Outcome, refused, taking, next_steps, way_from
 use Rattle.machine.proofs.Agree.{agreed-few}
 use Rattle.machine.proofs.Way.{way-length}
 use Rattle.reasons.specs.declared.Why.{Why}
-use Rattle.reasons.specs.declared.Why.TheVariants.{Done, BadSample, Full, NoRoom}
+use Rattle.reasons.specs.declared.Why.TheVariants.{BadSample, Full, NoRoom}
 use Rattle.reasons.specs.Reason.{is_done}
 use Rattle.receiver_meaning.specs.Told.{fault_of}
 use Rattle.pieces.specs.Running.{symbol_at}
@@ -42,24 +43,24 @@ module _ (rx : Receiver) (y : Two Received) where
 
   -- an outcome where the bytes are given
   abbrev within : ℕ → Outcome → Outcome
-  within bytes o = cond (is_done o.why && ltb bytes (space_of (symbol_records y o.words))) (refused rx NoRoom) o
+  within bytes o = cond (is_done o.why && ltb bytes (space_of (symbol_records y o.words))) (refused rx (Err NoRoom)) o
 
   -- what is said once it is neither 5 nor 6
   abbrev roomy : Bool → Outcome
-  roomy b = cond b (refused rx NoRoom) (record { receiver = grown rx y; words = words; why = Done })
+  roomy b = cond b (refused rx (Err NoRoom)) (record { receiver = grown rx y; words = words; why = Ok tt })
 
   -- both ways of asking, by cases on 5, 6
-  by_cases : (P : Outcome → Outcome → Type 0) (room other : ℕ) → ((w : Why) → is_done w ≡ false → P (refused rx w) (refused rx w)) →
+  by_cases : (P : Outcome → Outcome → Type 0) (room other : ℕ) → ((w : Result ⊤ Why) → is_done w ≡ false → P (refused rx w) (refused rx w)) →
       P (roomy (ltb room (agreed_of rx y))) (roomy (ltb other (agreed_of rx y))) → P (symbol_at rx y room) (symbol_at rx y other)
   unfolding symbol_at taking
   by_cases P room other not rest = go (ltb (fault_of y) 4) (ltb rx.core.window (kept_of rx y))
     where
       full : Bool → Bool → ℕ → Outcome
-      full a c m = cond a (refused rx (BadSample (fault_of y))) (cond c (refused rx Full) (roomy (ltb m (agreed_of rx y))))
+      full a c m = cond a (refused rx (Err (BadSample (fault_of y)))) (cond c (refused rx (Err Full)) (roomy (ltb m (agreed_of rx y))))
 
       go : (a c : Bool) → P (full a c room) (full a c other)
-      go true c = not (BadSample (fault_of y)) refl
-      go false true = not Full refl
+      go true c = not (Err (BadSample (fault_of y))) refl
+      go false true = not (Err Full) refl
       go false false = rest
 
   -- what both rooms hold
@@ -77,17 +78,17 @@ module _ (rx : Receiver) (y : Two Received) where
       go true e = rw (lt-ltb (fitting room bytes) n (omega (arith, ltb-true room n e)))
       go false e = last (ltb bytes (space_of (symbol_records y words))) refl
         where
-          last : (b : Bool) → ltb bytes (space_of (symbol_records y words)) ≡ b → cond b (refused rx NoRoom) (roomy false) ≡ roomy (ltb (fitting room bytes) n)
+          last : (b : Bool) → ltb bytes (space_of (symbol_records y words)) ≡ b → cond b (refused rx (Err NoRoom)) (roomy false) ≡ roomy (ltb (fitting room bytes) n)
           last true k =
               rw (lt-ltb (fitting room bytes) n (omega (arith, symbol-space y words, released-many, ltb-true bytes (space_of (symbol_records y words)) k)))
           last false k =
               let l = ltb-false bytes (space_of (symbol_records y words)) k in
               rw (le-ltb (fitting room bytes) n (omega (arith, symbol-space y words, released-many, l, ltb-false room n e)))
 
-  pub short : (room bytes : ℕ) → bytes < symbol_space y → taped_at rx y room bytes ≡ refused rx (cond (is_done (symbol_at rx y 0).why) NoRoom (symbol_at rx y 0).why)
+  pub short : (room bytes : ℕ) → bytes < symbol_space y → taped_at rx y room bytes ≡ refused rx (cond (is_done (symbol_at rx y 0).why) (Err NoRoom) (symbol_at rx y 0).why)
   unfolding taped_at
   short room bytes h =
-      by_cases (λ p q. within bytes p ≡ refused rx (cond (is_done q.why) NoRoom q.why)) room 0 (λ w d. rw d) (go (ltb room n) (ltb 0 n))
+      by_cases (λ p q. within bytes p ≡ refused rx (cond (is_done q.why) (Err NoRoom) q.why)) room 0 (λ w d. rw d) (go (ltb room n) (ltb 0 n))
     where
       n : ℕ
       n = agreed_of rx y
@@ -95,7 +96,7 @@ module _ (rx : Receiver) (y : Two Received) where
       none : ltb bytes (space_of (symbol_records y words)) ≡ true
       none = lt-ltb bytes (space_of (symbol_records y words)) (omega (arith, symbol-space y words))
 
-      go : (a b : Bool) → within bytes (roomy a) ≡ refused rx (cond (is_done (roomy b).why) NoRoom (roomy b).why)
+      go : (a b : Bool) → within bytes (roomy a) ≡ refused rx (cond (is_done (roomy b).why) (Err NoRoom) (roomy b).why)
       go true true = refl
       go true false = refl
       go false true = rw none

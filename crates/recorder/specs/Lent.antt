@@ -3,7 +3,7 @@
 --   Refuses    what is said to a symbol whose own record has no room
 --   StepIs     what one symbol gives is its outcome
 --   RunsTaped  a run's result, the lists that were lent to it, the output and the bytes are those of `taping`
-use Rattle.std.specs.Prelude.{ℕ, ◌<◌, ◌≡◌, false, List, length}
+use Rattle.std.specs.Prelude.{ℕ, ◌<◌, ◌≡◌, false, List, length, Result, ⊤}
 use Rattle.trellis.specs.Measure.{Two}
 use Rattle.nearest.specs.declared.Received.{Received}
 use Rattle.machine.specs.declared.Receiver.{Receiver}
@@ -17,7 +17,7 @@ use Rattle.recorder.specs.declared.piece.Step.{Step}
 use Rattle.recorder.specs.declared.piece.Kept.{Kept}
 use Rattle.recorder.specs.Taping.{taped_at, records_of, Ran}
 
-abbrev pub Refuses : Receiver → Two Received → Why → Type 0
+abbrev pub Refuses : Receiver → Two Received → Result ⊤ Why → Type 0
 Refuses rx y w = (is_done w ≡ false) × ((room bytes : ℕ) → bytes < symbol_space y → taped_at rx y room bytes ≡ refused rx w)
 
 -- the symbol y came to the outcome q

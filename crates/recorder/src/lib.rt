@@ -5,8 +5,9 @@
 
 pub mod piece;
 
-ghost use Rattle.std.specs.Prelude.{◌≡◌};
-ghost use Rattle.receiver_meaning.specs.Piece.{piece_with, marked_piece, piece_of};
+ghost use Rattle.std.specs.Prelude.{◌≡◌, Err};
+ghost use Rattle.receiver_meaning.specs.Piece.{marked_piece, piece_of};
+ghost use Rattle.piece_input.specs.Marks.{piece_by};
 ghost use Rattle.receiver.specs.Promise.{parts_of};
 ghost use Rattle.recorder.specs.Promise.{OpenTaped, TapesLent, Tapes, FinishTaped};
 
@@ -22,11 +23,11 @@ pub struct Taped {
     pub taken: usize,
     pub written: usize,
     pub recorded: usize,
-    pub why: Why,
+    pub why: Result<(), Why>,
 }
 
 // The record of an opening, and its number: 8 where the bytes are too short for it, then what the opening itself gives. The start is a
-// number, 16 the free one. A refusal writes no byte.
+// number, 16 the free one. A refusal writes no byte. `OpenTaped` is over the number that C is given, so a number is the answer.
 pub fn record_open(accord: Accord, window: u32, start: u32, bytes: &mut [u8]) -> u32
     ensures { OpenTaped accord window start bytes.old result bytes.new }
 {
@@ -34,8 +35,7 @@ pub fn record_open(accord: Accord, window: u32, start: u32, bytes: &mut [u8]) ->
         return 8;
     }
     let o = openings::open_receiver(accord, window, openings::start_at(start));
-    let why = o.why;
-    let n = reasons::number(why);
+    let n = reasons::number(o.why);
     if n != 0 {
         return n;
     }
@@ -44,23 +44,22 @@ pub fn record_open(accord: Accord, window: u32, start: u32, bytes: &mut [u8]) ->
 }
 
 fn nothing_kept(core: Core, why: Why) -> Kept
-    ensures { result ≡ record { core = core; taken = 0; written = 0; recorded = 0; why = why } }
+    ensures { result ≡ record { core = core; taken = 0; written = 0; recorded = 0; why = Err why } }
 {
     Kept {
-        core: core,
+        core,
         taken: 0,
         written: 0,
         recorded: 0,
-        why: why,
+        why: Err(why),
     }
 }
 
-// A piece, with the marks where `marked` says so, to a receiver in its parts, whose lists are lent, as `receiver::hear_piece_lent` takes it.
+// A piece, with its marks where it has any, to a receiver in its parts, whose lists are lent, as `receiver::hear_piece_lent` takes it.
 pub fn hear_piece_lent(
     live: bool,
     core: Core,
-    marked: bool,
-    marks: &[u8],
+    marks: Option<&[u8]>,
     samples: &[i32],
     sums: &mut [u32; 16],
     registers: &mut [u64; 48],
@@ -68,66 +67,52 @@ pub fn hear_piece_lent(
     out: &mut [u32],
     bytes: &mut [u8],
 ) -> Kept
-    ensures { TapesLent (parts_of live core sums.old registers.old picks.old) (piece_with marked marks.now samples.now)
+    ensures { TapesLent (parts_of live core sums.old registers.old picks.old) (piece_by marks.entry samples.now)
         out.old bytes.old
         result sums.new registers.new picks.new out.new bytes.new }
 {
-    if picks.len() != 72 {
+    if picks.len() != 72 || !openings::parts_fit(live, core, sums) {
         return nothing_kept(core, Why::Closed);
     }
-    if !openings::parts_fit(live, core, sums) {
-        return nothing_kept(core, Why::Closed);
-    }
-    if !piece_input::fits(marked, marks, samples.len()) {
+    if !piece_input::fits(marks, samples.len()) {
         return nothing_kept(core, Why::Uneven);
     }
-    piece::record_symbols(
-        core, marked, marks, samples, sums, registers, picks, out, bytes,
-    )
+    piece::record_symbols(core, marks, samples, sums, registers, picks, out, bytes)
 }
 
-// A piece to a whole receiver.
+// A piece to a whole receiver, as the receiver's own door lends its arrays. What the two share is the call; each gives an answer of its own.
 fn hear_piece(
-    rx: Receiver,
-    marked: bool,
-    marks: &[u8],
+    mut rx: Receiver,
+    marks: Option<&[u8]>,
     samples: &[i32],
     out: &mut [u32],
     bytes: &mut [u8],
 ) -> Taped
-    ensures { Tapes rx (piece_with marked marks.now samples.now) out.old bytes.old result out.new bytes.new }
+    ensures { Tapes rx (piece_by marks.entry samples.now) out.old bytes.old result out.new bytes.new }
 {
-    let live = rx.live;
-    let core = rx.core;
-    let mut sums = rx.sums;
-    let mut registers = rx.registers;
-    let mut picks = rx.picks;
-    let h = hear_piece_lent(
-        live,
+    let Kept {
         core,
-        marked,
+        taken,
+        written,
+        recorded,
+        why,
+    } = hear_piece_lent(
+        rx.live,
+        rx.core,
         marks,
         samples,
-        &mut sums,
-        &mut registers,
-        &mut picks,
+        &mut rx.sums,
+        &mut rx.registers,
+        &mut rx.picks,
         out,
         bytes,
     );
-    let after = h.core;
-    let why = h.why;
     Taped {
-        receiver: Receiver {
-            live: live,
-            core: after,
-            sums: sums,
-            registers: registers,
-            picks: picks,
-        },
-        taken: h.taken,
-        written: h.written,
-        recorded: h.recorded,
-        why: why,
+        receiver: Receiver { core, ..rx },
+        taken,
+        written,
+        recorded,
+        why,
     }
 }
 
@@ -135,8 +120,7 @@ fn hear_piece(
 pub fn hear(rx: Receiver, samples: &[i32], out: &mut [u32], bytes: &mut [u8]) -> Taped
     ensures { Tapes rx (piece_of samples.now) out.old bytes.old result out.new bytes.new }
 {
-    let none = [0u8; 0];
-    hear_piece(rx, false, &none, samples, out, bytes)
+    hear_piece(rx, None, samples, out, bytes)
 }
 
 // The same with a mark for each symbol. The record of one with a missing point has its mark, and zeros in the places of that point.
@@ -149,18 +133,18 @@ pub fn hear_marked(
 ) -> Taped
     ensures { Tapes rx (marked_piece marks.now samples.now) out.old bytes.old result out.new bytes.new }
 {
-    hear_piece(rx, true, marks, samples, out, bytes)
+    hear_piece(rx, Some(marks), samples, out, bytes)
 }
 
 fn stopped(rx: Receiver, why: Why) -> Taped
-    ensures { result ≡ record { receiver = rx; taken = 0; written = 0; recorded = 0; why = why } }
+    ensures { result ≡ record { receiver = rx; taken = 0; written = 0; recorded = 0; why = Err why } }
 {
     Taped {
         receiver: rx,
         taken: 0,
         written: 0,
         recorded: 0,
-        why: why,
+        why: Err(why),
     }
 }
 
@@ -171,23 +155,19 @@ pub fn finish(rx: Receiver, out: &mut [u32], bytes: &mut [u8]) -> Taped
     if !openings::is_open(rx) {
         return stopped(rx, Why::Closed);
     }
-    let core = rx.core;
-    if bytes.len() < 1 + 5 * core.pending {
+    if bytes.len() < 1 + 5 * rx.core.pending {
         return stopped(rx, Why::NoRoom);
     }
     let a = receiver::finish(rx, out);
-    let why = a.why;
-    if !reasons::is_done(why) {
+    if let Err(why) = a.why {
         return stopped(rx, why);
     }
-    let closed = a.receiver;
-    let written = a.written;
-    record_write::put_finish(&out[..written], bytes);
+    record_write::put_finish(&out[..a.written], bytes);
     Taped {
-        receiver: closed,
+        receiver: a.receiver,
         taken: 0,
-        written: written,
-        recorded: 1 + 5 * written,
-        why: why,
+        written: a.written,
+        recorded: 1 + 5 * a.written,
+        why: Ok(()),
     }
 }

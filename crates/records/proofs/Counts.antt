@@ -1,5 +1,5 @@
 -- Counts at the end of 64 bits.
---   capped_small, capped-last   a count that has room, and one that has none
+--   capped_small                a count that has room
 --   capped-more                 a capped count and some more is the count and some more, capped
 use mathlib.Core.Path.{◌≡◌, refl}
 use mathlib.Core.Bool.{Bool, true, false, cond}
@@ -16,10 +16,6 @@ capped_small n h = go (ltb n 18446744073709551615) refl
     go : (b : Bool) → ltb n 18446744073709551615 ≡ b → cond b n 18446744073709551615 ≡ n
     go true e = refl
     go false e = let k : 18446744073709551615 ≤ n = ltb-false n 18446744073709551615 e in omega arith
-
-pub capped-last : (n : ℕ) → n ≤ 18446744073709551615 → 18446744073709551615 ≤ n → n ≡ capped (n + 1)
-unfolding capped
-capped-last n h l = let e : n ≡ 18446744073709551615 = omega arith in rw (le-ltb (n + 1) 18446744073709551615 (omega arith)) e
 
 pub capped-more : (n m : ℕ) → capped (capped n + m) ≡ capped (n + m)
 unfolding capped

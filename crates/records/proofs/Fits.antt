@@ -2,7 +2,6 @@
 --   both_true       two tests that hold together
 --   fits-append     a body in two parts; fits-front: its front fits where the whole does
 --   fits_next       one byte more, asked of a frame that holds the bytes before it
---   plain_fits      other kinds ask nothing
 --   fit-here, unfit-here, fit-end   the body from the byte i on
 use mathlib.Core.Path.{◌≡◌, refl, sym, ap, ◌∙◌}
 use mathlib.Core.Bool.{Bool, true, false, ◌&&◌}
@@ -10,7 +9,6 @@ use mathlib.Core.List.{List, [], ◌∷◌, ◌++◌}
 use Prim.Native.Nat.{ℕ, suc, ◌+◌, ◌≤◌, ◌<◌}
 use native.Mathlib.Numerals.{add-one}
 use native.Mathlib.Omega.{arith}
-use lib.Dec.{eqb}
 use lib.ListN.{get_or, length, take, drop, drop_of_length-le}
 use lib.Seq.{get_or-take, drop-cons}
 use Rattle.records.specs.Values.{byte_fits, fits_from, body_fits}
@@ -61,14 +59,6 @@ unfolding fits_from
 fits_next k xs b body e h =
     let m = get_or (xs ++ b ∷ []) 0 0 in
     fits-append k xs (b ∷ []) ∙ ap (λ (t : Bool). t && (byte_fits k m (length xs) b && true)) h ∙ and-true (byte_fits k m (length xs) b) ∙ same-mark k xs b body e
-
-plain-from : (k m i : ℕ) (bs : List ℕ) → eqb k 5 ≡ false → fits_from k m i bs ≡ true
-unfolding fits_from byte_fits
-plain-from k m i [] e = refl
-plain-from k m i (b ∷ bs) e = rw e (plain-from k m (suc i) bs e)
-
-pub plain_fits : (k : ℕ) (bs : List ℕ) → eqb k 5 ≡ false → body_fits k bs ≡ true
-plain_fits k bs e = plain-from k (get_or bs 0 0) 0 bs e
 
 -- ---- a body that lies there whole, from its byte i on
 

@@ -12,7 +12,20 @@ ghost use Rattle.records.specs.Frames.{capped, stage_at, begun, may_grow, grown,
 
 use points::Map;
 
-// What a record is for.
+// The kinds of records, as the bytes that a capture has for them.
+pub const OPEN: u8 = 1;
+
+pub const SYMBOL: u8 = 2;
+
+pub const WORD: u8 = 3;
+
+pub const FINISH: u8 = 4;
+
+pub const MARKED: u8 = 5;
+
+pub const OPEN_SQUARE: u8 = 6;
+
+// What a record is for. `Unknown` is a role and no None: `values_text`, `by_role` and `words_after` say what such a record does too.
 #[derive(Clone, Copy)]
 pub enum Role {
     Open,
@@ -48,7 +61,7 @@ pub enum Stage {
 }
 
 // The record that is being read: its kind, the `have` bytes of its body that have come, and `at`, the offset of its kind byte. `phase` is what
-// may stand after it, `fed` how many bytes have come.
+// may stand after it, `fed` how many bytes have come. The body is nine bytes with a count beside them: nothing allocates, and C's words have it so.
 #[derive(Clone, Copy)]
 pub struct Frame {
     pub stage: Stage,
@@ -61,83 +74,29 @@ pub struct Frame {
 }
 
 // The table of kinds.
+#[tactic(auto, unfolding(crate::specs::Kinds::kind_of))]
 pub fn kind_of(k: u8) -> Kind
     ensures { result ≡ kind_of k }
 {
-    if k == 1 {
-        return Kind {
-            role: Role::Open,
-            size: 3,
-        };
-    }
-    if k == 2 {
-        return Kind {
-            role: Role::Symbol,
-            size: 8,
-        };
-    }
-    if k == 3 {
-        return Kind {
-            role: Role::Word,
-            size: 4,
-        };
-    }
-    if k == 4 {
-        return Kind {
-            role: Role::Finish,
-            size: 0,
-        };
-    }
-    if k == 5 {
-        return Kind {
-            role: Role::Symbol,
-            size: 9,
-        };
-    }
-    if k == 6 {
-        return Kind {
-            role: Role::Open,
-            size: 3,
-        };
-    }
-    Kind {
-        role: Role::Unknown,
-        size: 0,
-    }
+    let (role, size) = match k {
+        OPEN | OPEN_SQUARE => (Role::Open, 3),
+        SYMBOL => (Role::Symbol, 8),
+        MARKED => (Role::Symbol, 9),
+        WORD => (Role::Word, 4),
+        FINISH => (Role::Finish, 0),
+        _ => (Role::Unknown, 0),
+    };
+    Kind { role, size }
 }
 
 pub fn may_stand(phase: Phase, role: Role) -> bool
     ensures { result ≡ may_stand phase role }
 {
-    match phase {
-        Phase::Start => match role {
-            Role::Open => true,
-            Role::Symbol => false,
-            Role::Word => false,
-            Role::Finish => false,
-            Role::Unknown => false,
-        },
-        Phase::Opened => match role {
-            Role::Open => false,
-            Role::Symbol => true,
-            Role::Word => false,
-            Role::Finish => true,
-            Role::Unknown => false,
-        },
-        Phase::Running => match role {
-            Role::Open => false,
-            Role::Symbol => true,
-            Role::Word => true,
-            Role::Finish => true,
-            Role::Unknown => false,
-        },
-        Phase::Over => match role {
-            Role::Open => false,
-            Role::Symbol => false,
-            Role::Word => true,
-            Role::Finish => false,
-            Role::Unknown => false,
-        },
+    match role {
+        Role::Open => matches!(phase, Phase::Start),
+        Role::Symbol | Role::Finish => matches!(phase, Phase::Opened | Phase::Running),
+        Role::Word => matches!(phase, Phase::Running | Phase::Over),
+        Role::Unknown => false,
     }
 }
 
@@ -147,17 +106,17 @@ pub fn after(phase: Phase, role: Role) -> Phase
     match role {
         Role::Open => Phase::Opened,
         Role::Symbol => Phase::Running,
-        Role::Word => phase,
         Role::Finish => Phase::Over,
-        Role::Unknown => phase,
+        Role::Word | Role::Unknown => phase,
     }
 }
 
 // One more. At the end of 64 bits the count stays where it is.
+#[tactic(auto, unfolding(crate::specs::Frames::capped))]
 pub fn counted(n: u64) -> u64
     ensures { result ≡ capped (n + 1) }
 {
-    if n < u64::MAX { n + 1 } else { n }
+    n.saturating_add(1)
 }
 
 pub fn stage_at(have: usize, size: usize) -> Stage
@@ -179,115 +138,93 @@ pub fn start() -> Frame
         phase: Phase::Start,
         kind: 0,
         have: 0,
-        body: [0u8; 9],
+        body: [0; 9],
         at: 0,
         fed: 0,
     }
 }
 
 // A kind byte.
+#[tactic(auto, unfolding(crate::specs::Frames::begun))]
 fn begin(f: Frame, k: u8) -> Frame
     ensures { result ≡ begun f k }
 {
-    let phase = f.phase;
-    let body = f.body;
-    let kind = kind_of(k);
-    let role = kind.role;
-    if !may_stand(phase, role) {
+    let Kind { role, size } = kind_of(k);
+    let begun = Frame {
+        kind: k,
+        have: 0,
+        at: f.fed,
+        fed: counted(f.fed),
+        ..f
+    };
+    if !may_stand(f.phase, role) {
         return Frame {
             stage: Stage::Bad,
-            phase: phase,
-            kind: k,
-            have: 0,
-            body: body,
-            at: f.fed,
-            fed: counted(f.fed),
+            ..begun
         };
     }
     Frame {
-        stage: stage_at(0, kind.size),
-        phase: after(phase, role),
-        kind: k,
-        have: 0,
-        body: body,
-        at: f.fed,
-        fed: counted(f.fed),
+        stage: stage_at(0, size),
+        phase: after(f.phase, role),
+        ..begun
     }
 }
 
 // Whether b may be the byte i of a body that begins with `mark`. A symbol of which points are missing has a mark first, and zeros in their
 // places; nothing else is asked.
+#[tactic(auto, unfolding(crate::specs::Values::byte_fits))]
 pub fn byte_fits(kind: u8, mark: u8, i: usize, b: u8) -> bool
     ensures { result ≡ byte_fits kind mark i b }
 {
-    if kind != 5 {
+    if kind != MARKED {
         return true;
     }
-    if i == 0 {
-        return 1 <= b && b <= 3;
+    match i {
+        0 => matches!(b, 1..=3),
+        1..=4 => b == 0 || mark % 2 != 1,
+        _ => b == 0 || mark < 2,
     }
-    if b == 0 {
-        return true;
-    }
-    if i < 5 {
-        return mark % 2 != 1;
-    }
-    mark < 2
 }
 
 // Whether the byte b may come next in a body. (A frame that has nine bytes and waits for more is none that `push` gave.)
+#[tactic(auto, unfolding(crate::specs::Frames::may_grow))]
 fn may_grow(f: Frame, b: u8) -> bool
     ensures { result ≡ may_grow f b }
 {
-    let i = f.have;
-    let body = f.body;
-    let mark = body[0];
-    if i >= 9 {
-        return false;
-    }
-    byte_fits(f.kind, mark, i, b)
+    f.have < 9 && byte_fits(f.kind, f.body[0], f.have, b)
 }
 
 // A byte of a body.
+#[tactic(auto, unfolding(crate::specs::Frames::grown, crate::specs::Frames::may_grow))]
 fn grow(f: Frame, b: u8) -> Frame
     ensures { result ≡ grown f b }
 {
-    let phase = f.phase;
-    let have = f.have;
-    let mut body = f.body;
     if !may_grow(f, b) {
         return Frame {
             stage: Stage::Bad,
-            phase: phase,
-            kind: f.kind,
-            have: have,
-            body: body,
-            at: f.at,
-            fed: f.fed,
+            ..f
         };
     }
-    body[have] = b;
-    let kind = kind_of(f.kind);
+    let mut body = f.body;
+    body[f.have] = b;
+    let have = f.have + 1;
     Frame {
-        stage: stage_at(have + 1, kind.size),
-        phase: phase,
-        kind: f.kind,
-        have: have + 1,
-        body: body,
-        at: f.at,
+        stage: stage_at(have, kind_of(f.kind).size),
+        have,
+        body,
         fed: counted(f.fed),
+        ..f
     }
 }
 
 // One byte more. Once the capture is malformed, bytes are swallowed.
+#[tactic(auto, unfolding(crate::specs::Frames::pushed))]
 pub fn push(f: Frame, b: u8) -> Frame
     ensures { result ≡ pushed f b }
 {
-    let stage = f.stage;
-    match stage {
-        Stage::Fresh => begin(f, b),
+    match f.stage {
+        Stage::Fresh | Stage::Whole => begin(f, b),
         Stage::Part => grow(f, b),
-        Stage::Whole => begin(f, b),
         Stage::Bad => f,
     }
 }
@@ -296,31 +233,32 @@ pub fn push(f: Frame, b: u8) -> Frame
 pub fn map_in(k: u8) -> Map
     ensures { result ≡ map_in k }
 {
-    if k == 6 { Map::Square } else { Map::Round }
+    if k == OPEN_SQUARE {
+        Map::Square
+    } else {
+        Map::Round
+    }
 }
 
 // How many bytes stand before a symbol's coordinates: its mark, in a record of kind 5.
 pub fn lead(k: u8) -> usize
     ensures { (result ≡ lead_of k) × (result ≤ 1) }
 {
-    if k == 5 { 1 } else { 0 }
+    if k == MARKED { 1 } else { 0 }
 }
 
 // A coordinate: a signed number of 16 bits, low byte first.
+#[tactic(auto, unfolding(crate::specs::Values::coordinate_of))]
 pub fn coordinate(lo: u8, hi: u8) -> i32
     ensures { (result ≡ coordinate_of lo hi) × (nat_abs result ≤ 32768) }
 {
-    let v = lo as u32 + 256 * hi as u32;
-    if v < 32768 {
-        v as i32
-    } else {
-        v as i32 - 65536
-    }
+    i32::from(i16::from_le_bytes([lo, hi]))
 }
 
 // A number of 32 bits, low byte first.
+#[tactic(auto, unfolding(crate::specs::Values::number_of))]
 pub fn number(a: u8, b: u8, c: u8, d: u8) -> u32
     ensures { result ≡ number_of a b c d }
 {
-    a as u32 + 256 * b as u32 + 65536 * c as u32 + 16777216 * d as u32
+    u32::from_le_bytes([a, b, c, d])
 }

@@ -12,6 +12,7 @@ use borrow.Author.Tests.{eq-eqb, ne_eqb, lt-ltb, le-ltb, ltb-true, ltb-false, le
 use lib.Dec.{eqb, ltb}
 use lib.ListN.{length, get_or, set}
 use lib.Seq.{ext_get_or}
+use Rattle.lists.specs.Tabled.{tabled}
 use Rattle.lists.proofs.Filled.{tabled-length, tabled-at, tabled-same, tabled-set, all_listed}
 use Rattle.registers.specs.Registers.{longer, word_before, words_before, carried, moved_at, moved_words, place_moved, moved_of}
 use Rattle.registers.specs.Put.{place_put, put_below, put_word}
@@ -73,9 +74,13 @@ module _ (b : ℕ) (f : ℕ → ℕ) (registers : List ℕ) where
 
 -- ── the registers moved ──
 module _ (registers steps : List ℕ) where
-  first-is : (ways : List ℕ) → ways ≡ words_before registers steps 0 → (s : ℕ) → s < 16 → longer (get_or ways s 0) (get_or steps s 0 % 8) ≡ moved_at registers steps 0 s
+  first-is : (ways below : List ℕ) → ways ≡ words_before registers steps 0 → below ≡ tabled (λ s. get_or steps s 0 % 8 * 2 ^ 61) 16 → (s : ℕ) → s < 16 →
+      longer (get_or ways s 0) (get_or below s 0 / 2 ^ 61 % 8) ≡ moved_at registers steps 0 s
   unfolding words_before carried
-  first-is ways e s h = ap (λ (w : ℕ). longer w (get_or steps s 0 % 8)) (ap (λ (l : List ℕ). get_or l s 0) e ∙ tabled-at (word_before registers steps 0) 16 s h)
+  first-is ways below e d s h =
+      let up : get_or steps s 0 % 8 * 2 ^ 61 / 2 ^ 61 % 8 ≡ get_or steps s 0 % 8 = omega arith in
+      ap₂ longer (ap (λ (l : List ℕ). get_or l s 0) e ∙ tabled-at (word_before registers steps 0) 16 s h)
+      (ap (λ (l : List ℕ). get_or l s 0 / 2 ^ 61 % 8) d ∙ ap (λ (x : ℕ). x / 2 ^ 61 % 8) (tabled-at (λ s. get_or steps s 0 % 8 * 2 ^ 61) 16 s h) ∙ up)
 
   up_is : (b : ℕ) (ways below : List ℕ) → ways ≡ words_before registers steps (suc b) → below ≡ words_before registers steps b → (s : ℕ) → s < 16 →
       longer (get_or ways s 0) (get_or below s 0 / 2 ^ 61 % 8) ≡ moved_at registers steps (suc b) s
@@ -134,20 +139,20 @@ module _ (registers steps : List ℕ) where
           go i (suc (suc (suc b))) l = absurd (omega arith)
 
 -- ── as the code does it ──
-module _ (n : ℕ) (registers steps ways : List ℕ) (is : ways ≡ words_before registers steps 0) (out : List ℕ) where
+module _ (n : ℕ) (registers steps ways below : List ℕ) (is : ways ≡ words_before registers steps 0) (low : below ≡ tabled (λ s. get_or steps s 0 % 8 * 2 ^ 61) 16) (out : List ℕ) where
   abbrev into : ℕ → ℕ
-  into s = longer (get_or ways s 0) (get_or steps s 0 % 8)
+  into s = longer (get_or ways s 0) (get_or below s 0 / 2 ^ 61 % 8)
 
-  pub shift_one : n ≤ 21 → out ≡ put_word 0 (λ s. longer (get_or ways s 0) (get_or steps s 0 % 8)) registers → out ≡ moved_of n registers steps
-  shift_one h e = e ∙ one-moved registers steps n into (first-is registers steps ways is) h
+  pub shift_one : n ≤ 21 → out ≡ put_word 0 (λ s. longer (get_or ways s 0) (get_or below s 0 / 2 ^ 61 % 8)) registers → out ≡ moved_of n registers steps
+  shift_one h e = e ∙ one-moved registers steps n into (first-is registers steps ways below is low) h
 
   module _ (middle p₁ : List ℕ) (is₁ : middle ≡ words_before registers steps 1) where
-    pub shift_two : 21 < n → n ≤ 42 → p₁ ≡ put_word 1 (λ s. longer (get_or middle s 0) (get_or ways s 0 / 2 ^ 61 % 8)) registers → out ≡ put_word 0 (λ s. longer (get_or ways s 0) (get_or steps s 0 % 8)) p₁ →
+    pub shift_two : 21 < n → n ≤ 42 → p₁ ≡ put_word 1 (λ s. longer (get_or middle s 0) (get_or ways s 0 / 2 ^ 61 % 8)) registers → out ≡ put_word 0 (λ s. longer (get_or ways s 0) (get_or below s 0 / 2 ^ 61 % 8)) p₁ →
         out ≡ moved_of n registers steps
-    shift_two h k e₁ e = e ∙ ap (put_word 0 into) e₁ ∙ two-moved registers steps n into (first-is registers steps ways is) _ (up_is registers steps 0 middle ways is₁ is) h k
+    shift_two h k e₁ e = e ∙ ap (put_word 0 into) e₁ ∙ two-moved registers steps n into (first-is registers steps ways below is low) _ (up_is registers steps 0 middle ways is₁ is) h k
 
     pub shift-three : (high p₂ : List ℕ) → high ≡ words_before registers steps 2 → 42 < n → p₂ ≡ put_word 2 (λ s. longer (get_or high s 0) (get_or middle s 0 / 2 ^ 61 % 8)) registers →
-        p₁ ≡ put_word 1 (λ s. longer (get_or middle s 0) (get_or ways s 0 / 2 ^ 61 % 8)) p₂ → out ≡ put_word 0 (λ s. longer (get_or ways s 0) (get_or steps s 0 % 8)) p₁ → out ≡ moved_of n registers steps
+        p₁ ≡ put_word 1 (λ s. longer (get_or middle s 0) (get_or ways s 0 / 2 ^ 61 % 8)) p₂ → out ≡ put_word 0 (λ s. longer (get_or ways s 0) (get_or below s 0 / 2 ^ 61 % 8)) p₁ → out ≡ moved_of n registers steps
     shift-three high p₂ is₂ h e₂ e₁ e =
         e ∙ ap (put_word 0 into) (e₁ ∙ ap (put_word 1 _) e₂)
-        ∙ all_moved registers steps n into (first-is registers steps ways is) _ (up_is registers steps 0 middle ways is₁ is) _ (up_is registers steps 1 high middle is₂ is₁) h
+        ∙ all_moved registers steps n into (first-is registers steps ways below is low) _ (up_is registers steps 0 middle ways is₁ is) _ (up_is registers steps 1 high middle is₂ is₁) h

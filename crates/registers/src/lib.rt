@@ -7,15 +7,18 @@
 // words that hold them are moved: one for up to 20, as on a quiet line.
 #![tactic(auto)]
 
-ghost use Rattle.std.specs.Prelude.{◌≡◌, ◌<◌, ◌≤◌, ◌/◌, ◌%◌, ◌^◌, get_or};
+ghost use Rattle.std.specs.Prelude.{◌≡◌, ◌<◌, ◌≤◌, ◌+◌, ◌-◌, ◌*◌, ◌/◌, ◌%◌, ◌^◌, get_or};
+ghost use Rattle.lists.specs.Tabled.{tabled};
 ghost use Rattle.registers.specs.Registers.{came_from, bit_in, subset_in, words_before, same_at, oldest, apart_of, lowest, parted_of, above_of, reach_of, longer, moved_of};
 ghost use Rattle.registers.specs.Put.{put_word};
+
+use std::array;
 
 // The state before, of a step.
 fn came_from(step: u8) -> usize
     ensures { (result ≡ came_from step) × (result < 16) }
 {
-    (step / 8 % 16) as usize
+    usize::from(step / 8 % 16)
 }
 
 // Word b of the states before all sixteen.
@@ -23,27 +26,16 @@ pub fn words_before(registers: &[u64; 48], steps: &[u8; 16], b: usize) -> [u64; 
     requires { b < 3 }
     ensures { result ≡ words_before registers.now steps.now b }
 {
-    let mut ways = [0u64; 16];
-    let mut s: usize = 0;
-    while s < 16 {
-        ways[s] = registers[16 * b + came_from(steps[s])];
-        s += 1;
-    }
-    ways
+    array::from_fn(|s| registers[16 * b + came_from(steps[s])])
 }
 
 // The bits in which sixteen words differ.
 fn apart(ways: &[u64; 16]) -> u64
     ensures { result ≡ apart_of ways.now }
 {
-    // as a slice the array shows its length
-    let all: &[u64] = ways;
-    let first = ways[0];
-    let mut bits: u64 = 0;
-    let mut s: usize = 0;
-    while s < 16 {
-        bits = bits | (ways[s] ^ first);
-        s += 1;
+    let mut bits = 0;
+    for word in ways {
+        bits |= word ^ ways[0];
     }
     bits
 }
@@ -52,18 +44,14 @@ fn apart(ways: &[u64; 16]) -> u64
 fn lowest_of(bits: u64, n: usize) -> u64
     ensures { result ≡ lowest bits n }
 {
-    if 64 <= n {
-        return bits;
-    }
-    bits & ((1u64 << n) - 1)
+    if n < 64 { bits & ((1 << n) - 1) } else { bits }
 }
 
 // How many of the lowest n bits reach up to the highest in which the words differ; 0 where they do not differ.
 fn parted(ways: &[u64; 16], n: usize) -> usize
     ensures { (result ≡ parted_of ways.now n) × (result ≤ 64) }
 {
-    let bits = lowest_of(apart(ways), n);
-    64 - u64::leading_zeros(bits) as usize
+    64 - lowest_of(apart(ways), n).leading_zeros() as usize
 }
 
 // How far the differences reach where a word stands above `base` bits: as far as those below it where it has none.
@@ -97,8 +85,6 @@ pub fn agreed(registers: &[u64; 48], steps: &[u8; 16], ways: &[u64; 16], pending
     requires { (pending ≤ 64) × (ways.now ≡ words_before registers.now steps.now 0) }
     ensures { result ≡ oldest (same_at registers.now steps.now) pending }
 {
-    // as a slice the array shows its length
-    let all: &[u8] = steps;
     let up = reach(registers, steps, ways, 3 * pending);
     pending - (up + 2) / 3
 }
@@ -120,46 +106,29 @@ pub fn subset_at(registers: &[u64; 48], s: usize, age: usize) -> usize
     4 * bit_in(registers, s, i + 2) + 2 * bit_in(registers, s, i + 1) + bit_in(registers, s, i)
 }
 
-// A word with three bits more. The three highest are forgotten.
-fn longer_by(word: u64, bits: u64) -> u64
-    requires { bits < 8 }
-    ensures { result ≡ longer word bits }
+// A word with N bits more. As many of the highest are forgotten.
+pub fn longer_by<const N: u32>(word: u64, bits: u64) -> u64
+    requires { (N < 64) × (bits < 2 ^ N) }
+    ensures { result ≡ word % 2 ^ (64 - N) * 2 ^ N + bits }
 {
-    (word << 3) | bits
+    (word << N) | bits
 }
 
 // Word b of all states, where the words before and those below them are given.
-fn move_up(registers: &mut [u64; 48], b: usize, ways: &[u64; 16], below: &[u64; 16])
+fn move_word(registers: &mut [u64; 48], b: usize, ways: &[u64; 16], below: &[u64; 16])
     requires { b < 3 }
     ensures { registers.new ≡ put_word b (λ s. longer (get_or ways.now s 0) (get_or below.now s 0 / 2 ^ 61 % 8)) registers.old }
 {
-    // as a slice the array shows its length
-    let all: &[u64] = registers;
-    let mut s: usize = 0;
-    while s < 16 {
-        registers[16 * b + s] = longer_by(ways[s], (below[s] >> 61) % 8);
-        s += 1;
+    for s in 0..16 {
+        registers[16 * b + s] = longer_by::<3>(ways[s], below[s] >> 61);
     }
 }
 
-// A byte as a word.
-fn wide(x: u8) -> u64
-    ensures { result ≡ x }
+// What stands below the first words: the subset of each step, as the highest bits of a word.
+fn subsets_in(steps: &[u8; 16]) -> [u64; 16]
+    ensures { result ≡ tabled (λ s. get_or steps.now s 0 % 8 * 2 ^ 61) 16 }
 {
-    x as u64
-}
-
-// The first word of all states, where the words before are given: the subset comes in.
-fn move_first(registers: &mut [u64; 48], ways: &[u64; 16], steps: &[u8; 16])
-    ensures { registers.new ≡ put_word 0 (λ s. longer (get_or ways.now s 0) (get_or steps.now s 0 % 8)) registers.old }
-{
-    // as a slice the array shows its length
-    let all: &[u64] = registers;
-    let mut s: usize = 0;
-    while s < 16 {
-        registers[s] = longer_by(ways[s], wide(steps[s] % 8));
-        s += 1;
-    }
+    array::from_fn(|s| u64::from(steps[s] % 8) << 61)
 }
 
 // All sixteen states by one symbol, where n are pending with it; `ways` is the first word of the states before. The highest word goes
@@ -168,18 +137,13 @@ pub fn shift(registers: &mut [u64; 48], steps: &[u8; 16], ways: &[u64; 16], n: u
     requires { ways.now ≡ words_before registers.old steps.now 0 }
     ensures { registers.new ≡ moved_of n registers.old steps.now }
 {
-    if n <= 21 {
-        move_first(registers, ways, steps);
-    } else {
+    if n > 21 {
         let middle = words_before(registers, steps, 1);
-        if n <= 42 {
-            move_up(registers, 1, &middle, ways);
-            move_first(registers, ways, steps);
-        } else {
+        if n > 42 {
             let high = words_before(registers, steps, 2);
-            move_up(registers, 2, &high, &middle);
-            move_up(registers, 1, &middle, ways);
-            move_first(registers, ways, steps);
+            move_word(registers, 2, &high, &middle);
         }
+        move_word(registers, 1, &middle, ways);
     }
+    move_word(registers, 0, ways, &subsets_in(steps));
 }

@@ -1,12 +1,10 @@
 -- A lump is a fold of the byte step, and the byte step is that of `records` with the judge behind it.
---   settle-no, settle-yes    the judge takes a record only where it has become whole
+--   settle-yes               the judge takes a record where it has become whole
 --   again, runs, done        the loop over a lump
 --   feedings-append          bytes in two lumps are the bytes in one
 --   feedings-follow          what a lump does: the frame after it, and the judge after the records that became whole
---   ended-fault, ended-cut, ended-due, ended-agree   the verdict by the code's tests
---   found-fault, found-bad   whether a fault is found
 use mathlib.Core.Path.{◌≡◌, refl, sym, ap, ◌∙◌}
-use mathlib.Core.Bool.{Bool, true, false}
+use mathlib.Core.Bool.{Bool, true}
 use mathlib.Core.List.{List, [], ◌∷◌, ◌++◌}
 use Prim.Native.Nat.{ℕ, ◌+◌, ◌≤◌, ◌<◌}
 use native.Mathlib.Omega.{arith}
@@ -20,20 +18,12 @@ use Rattle.records.specs.Values.{Entry, entry}
 use Rattle.records.specs.Frames.{pushed, entry_of, Read, following, ended as whole}
 use Rattle.record_fill.specs.Runs.{Advances}
 use Rattle.record_fill.proofs.Gathers.{run-some, run-most}
-use Rattle.replay_judge.specs.declared.Verdict.{Verdict}
-use Rattle.replay_judge.specs.declared.Verdict.TheVariants.{Missing, Malformed}
 use Rattle.replay_judge.specs.declared.Judge.{Judge}
-use Rattle.replay_judge.specs.declared.Due.TheVariants.{None, Word as Next}
-use Rattle.replay_judge.specs.Judging.{State, state_of, left, first_due, took}
-use Rattle.replay.specs.Meaning.{agreed}
-use Rattle.replay.specs.Course.{Course, course_of, is_whole, is_bad, settled, stepped, feedings, unless_left, ended, found}
+use Rattle.replay_judge.specs.Judging.{State, state_of, took}
+use Rattle.replay.specs.Course.{Course, course_of, is_whole, settled, stepped, feedings}
 use Rattle.replay.proofs.Own.{took-own}
 
 module _ (s : State) where
-  pub settle-no : (b : Bool) (r : Entry) → b ≡ false → s ≡ settled b s r
-  unfolding settled
-  settle-no b r e = rw e
-
   pub settle-yes : (b : Bool) (k : ℕ) (body : List ℕ) (n : State) → b ≡ true → n ≡ took s (entry k body) → n ≡ settled b s (entry k (take (kind_of k).size body))
   unfolding settled
   settle-yes b k body n e z = rw e (z ∙ took-own s k body)
@@ -101,47 +91,3 @@ runs f bs i n g h a =
     let d = length-drop i bs in
     let e = a.count in
     (omega (arith, e, run-some f (drop i bs) (omega (arith, d))), omega (arith, d, e, run-most f (drop i bs) (omega (arith, d))))
-
--- ---- the verdict
-
-module _ (f : Frame) (j : Judge) (due : List ℕ) where
-  pub ended-fault : agreed j.verdict ≡ false → j.verdict ≡ ended f j due
-  unfolding ended
-  ended-fault e = rw e
-
-  module _ (e : agreed j.verdict ≡ true) where
-    pub ended-cut : is_whole f.stage ≡ false → Malformed f.at ≡ ended f j due
-    unfolding ended
-    ended-cut h = rw (e, h)
-
-    module _ (h : is_whole f.stage ≡ true) where
-      at-end : ended f j due ≡ unless_left j.verdict j.records (left j.shown j.given due)
-      unfolding ended
-      at-end = rw (e, h)
-
-      next-none : (n : ℕ) → Next n ≡ None → ⊥
-      next-none n e = let z : ◌≡◌ {A = ℕ} 0 1 = cc in omega arith
-
-      agrees : (l : List ℕ) → first_due l ≡ None → j.verdict ≡ unless_left j.verdict j.records l
-      unfolding first_due
-      agrees [] k = refl
-      agrees (x ∷ l) k = absurd (next-none x k)
-
-      misses : (l : List ℕ) (w : ℕ) → first_due l ≡ Next w → Missing j.records w ≡ unless_left j.verdict j.records l
-      unfolding first_due
-      misses [] w k = absurd (next-none w (sym k))
-      misses (x ∷ l) w k = let y : x ≡ w = cc in rw y
-
-      pub ended-agree : first_due (left j.shown j.given due) ≡ None → j.verdict ≡ ended f j due
-      ended-agree k = agrees (left j.shown j.given due) k ∙ sym at-end
-
-      pub ended-due : (w : ℕ) → first_due (left j.shown j.given due) ≡ Next w → Missing j.records w ≡ ended f j due
-      ended-due w k = misses (left j.shown j.given due) w k ∙ sym at-end
-
-pub found-fault : (f : Frame) (v : Verdict) → agreed v ≡ false → true ≡ found f v
-unfolding found
-found-fault f v e = rw e
-
-pub found-bad : (f : Frame) (v : Verdict) (b : Bool) → agreed v ≡ true → b ≡ is_bad f.stage → b ≡ found f v
-unfolding found
-found-bad f v b e h = rw e h

@@ -13,6 +13,7 @@ use borrow.Author.Tests.{eqb-true}
 use lib.Dec.{eqb, ltb}
 use lib.ListN.{length, take, drop, replicate, length-append, length-drop}
 use lib.Seq.{take_at, drop-drop}
+use Rattle.std.specs.Prelude.{Result, ⊤}
 use Rattle.machine.specs.declared.Receiver.{Receiver}
 use Rattle.machine.specs.Machine.{shut, machine_of}
 use Rattle.reasons.specs.declared.Why.{Why}
@@ -107,7 +108,7 @@ module _ (s : State) (m : Seen) (p : Shows s m) where
   shows-fault : (v w : Verdict) → v ≡ capped_verdict w → Shows (code.faulted s v) (fault m w)
   shows-fault v w e = record { receiver = p.receiver; fine = p.fine; due = p.due; long = p.long; records = p.records; verdict = e }
 
-  refused-is : (w : Why) (n : ℕ) → (given_of w).number ≡ n → Shows (code.refused_by s w) (fault m (Refused m.number n))
+  refused-is : (w : Result ⊤ Why) (n : ℕ) → (given_of w).number ≡ n → Shows (code.refused_by s w) (fault m (Refused m.number n))
   refused-is w n e = shows-fault _ _ (rw (p.records, e))
 
   -- words written into the place of the words due are due

@@ -1,28 +1,24 @@
 -- One record: what the doors' promises make of the judge and the lists lent.
 --   open_is                     an open
 --   symbol-is, finish-is        a symbol and a finish where no word is due
---   undue-missing, undue-is     where one is due, and where none is
---   laid_done, laid-refused     the lists after an answer
---   role-is, symbol-role, finish-role, word-state   a record by its role
+--   missing, none_missing       where one is due, and where none is
+--   role-is, word-state         a record by its role
 --   took-agree, took-still      a record by the verdict so far
---   four                        the coordinates that the code reads
 use mathlib.Core.Path.{◌≡◌, refl, sym, ap, ap₂, subst, ◌∙◌}
 use mathlib.Core.Bool.{Bool, true, false, cond}
 use mathlib.Core.List.{List, [], ◌∷◌, ◌++◌}
-use Prim.Native.Nat.{ℕ, ◌+◌, ◌-◌, ◌≤◌}
+use Prim.Native.Nat.{ℕ, ◌+◌, ◌-◌}
 use native.Mathlib.Omega.{arith}
 use lib.Dec.{eqb}
-use lib.IntN.{ℤ, nat_abs}
+use lib.IntN.{ℤ}
 use lib.ListN.{get_or, length, drop}
-use mir.Syntax.{w32}
-use mir.Val.{to_z, of_z}
-use Rattle.points.proofs.Signed.{reads}
+use Rattle.std.specs.Prelude.{Result, Ok, Err, ⊤}
 use Rattle.points.specs.declared.Accord.{Accord}
 use Rattle.machine.specs.declared.Core.{Core}
 use Rattle.machine.specs.declared.Receiver.{Receiver}
 use Rattle.machine.specs.Machine.{sound, Outcome}
 use Rattle.reasons.specs.declared.Why.{Why}
-use Rattle.reasons.specs.declared.Why.TheVariants.{Done, Closed, Uneven}
+use Rattle.reasons.specs.declared.Why.TheVariants.{Closed, Uneven}
 use Rattle.reasons.specs.Reason.{Reason, given_of, is_done}
 use Rattle.receiver_meaning.specs.Piece.{Piece, marked_piece, marked_symbol}
 use Rattle.openings.specs.declared.Opened.{Opened}
@@ -37,17 +33,16 @@ use Rattle.receiver.proofs.Doors.{lent-live}
 use Rattle.receiver.proofs.Left.{finishes-left}
 use Rattle.records.specs.declared.Kind.{Kind}
 use Rattle.records.specs.declared.Role.{Role}
-use Rattle.records.specs.declared.Role.TheVariants.{Symbol, Finish}
 use Rattle.records.specs.Kinds.{kind_of}
 use Rattle.records.specs.Values.{Entry, lead_of, mark_in, coordinate_of, coordinates_of}
 use Rattle.replay_judge.specs.declared.Verdict.{Verdict}
-use Rattle.replay_judge.specs.declared.Verdict.TheVariants.{Agree, Differs, Missing}
+use Rattle.replay_judge.specs.declared.Verdict.TheVariants.{Agree, Differs, Extra, Missing, Refused, Malformed}
 use Rattle.replay_judge.specs.declared.Judge.{Judge}
-use Rattle.replay_judge.specs.declared.Due.TheVariants.{None, Word as Next}
+use Rattle.std.proofs.Common.{Some, None}
 use Rattle.replay_judge.specs.Judging.{State, state_of, left_of, first_due, ruled, showed, answered_by, took_word}
-use Rattle.replay_judge.specs.Judging.{opened, answered, hears, finishes, heard, finished, worded, by_role, upon, took}
+use Rattle.replay_judge.specs.Judging.{opened, answered, unless_due, hears, finishes, worded, by_role, upon, took}
 use Rattle.replay_judge.proofs.Dues.{missing-is, nothing-due}
-use Rattle.replay.specs.Lent.{Laid, undue}
+use Rattle.replay.specs.Lent.{Laid}
 
 -- two reasons that give the same number are both done or both not
 done-is : {v w : Reason} → v ≡ w → eqb v.number 0 ≡ eqb w.number 0
@@ -76,11 +71,11 @@ hearing-still rx m a b c d room = go (sound rx) (marked_piece (m ∷ []) (a ∷ 
 
     one : Bool → Ran
     one t =
-        cond t (record { receiver = o.receiver; taken = 1; words = o.words; why = Done })
+        cond t (record { receiver = o.receiver; taken = 1; words = o.words; why = Ok tt })
         (record { receiver = rx; taken = 0; words = []; why = o.why })
 
     all : Bool → Bool → Bool → Ran
-    all s f t = cond s (cond f (one t) (stopped rx Uneven)) (stopped rx Closed)
+    all s f t = cond s (cond f (one t) (stopped rx (Err Uneven))) (stopped rx (Err Closed))
 
     go : (s f t : Bool) → is_done o.why ≡ t → is_done (all s f t).why ≡ false → Still rx (all s f t)
     go false f t e h = record { receiver = refl; words = refl }
@@ -95,14 +90,14 @@ record Lists (sums registers picks sums₁ registers₁ picks₁ : List ℕ) : T
   registers-is : registers₁ ≡ registers
   picks-is : picks₁ ≡ picks
 
-module _ {why : Why} {rx : Receiver} {sums registers picks sums₁ registers₁ picks₁ : List ℕ} (l : Laid why rx sums registers picks sums₁ registers₁ picks₁) where
+module _ {why : Result ⊤ Why} {rx : Receiver} {sums registers picks sums₁ registers₁ picks₁ : List ℕ} (l : Laid why rx sums registers picks sums₁ registers₁ picks₁) where
   new-lists : is_done why ≡ true → Lists rx.sums rx.registers rx.picks sums₁ registers₁ picks₁
   new-lists e = record { sums-is = l.sums-is ∙ rw e; registers-is = l.registers-is ∙ rw e; picks-is = l.picks-is ∙ rw e }
 
   old-lists : is_done why ≡ false → Lists sums registers picks sums₁ registers₁ picks₁
   old-lists e = record { sums-is = l.sums-is ∙ rw e; registers-is = l.registers-is ∙ rw e; picks-is = l.picks-is ∙ rw e }
 
-module _ (why : Why) (rx : Receiver) (sums registers picks : List ℕ) where
+module _ (why : Result ⊤ Why) (rx : Receiver) (sums registers picks : List ℕ) where
   pub laid_done : is_done why ≡ true → Laid why rx sums registers picks rx.sums rx.registers rx.picks
   laid_done e = record { sums-is = rw e; registers-is = rw e; picks-is = rw e }
 
@@ -142,7 +137,7 @@ module _ (j : Judge) (sums registers picks due : List ℕ) where
     lists : Lists sums registers picks sums₁ registers₁ picks₁
     due-is : due₁ ≡ due
 
-  module _ (q : Ran) (why : Why) (live : Bool) (core : Core) (m : ℕ) (r : Judge) (sums₁ registers₁ picks₁ due₁ : List ℕ) where
+  module _ (q : Ran) (why : Result ⊤ Why) (live : Bool) (core : Core) (m : ℕ) (r : Judge) (sums₁ registers₁ picks₁ due₁ : List ℕ) where
     answer-is : given_of why ≡ given_of q.why → r ≡ answered_by j why live core m → (is_done q.why ≡ true → Took q live core m sums₁ registers₁ picks₁ due₁)
         → (is_done q.why ≡ false → Kept sums₁ registers₁ picks₁ due₁) → state_of r sums₁ registers₁ picks₁ due₁ ≡ answered s q
     unfolding answered answered_by
@@ -220,53 +215,16 @@ module _ (j : Judge) (sums registers picks due : List ℕ) where
 
   -- ---- a word that is due
 
-  module _ (ends : Bool) (kind : ℕ) (body : List ℕ) where
-    pub undue-missing : (h : ℕ) → first_due (left_of s) ≡ Next h → (r : Judge) → r ≡ ruled j (Missing j.records h) → state_of r sums registers picks due ≡ undue ends s kind body
-    unfolding undue
-    undue-missing h e r z = rw z (missing-is s _ (left_of s) h e)
+  pub missing : (n : State) (h : ℕ) → first_due (left_of s) ≡ Some h → (r : Judge) → r ≡ ruled j (Missing j.records h) → state_of r sums registers picks due ≡ unless_due s (left_of s) n
+  missing n h e r z = rw z (missing-is s n (left_of s) h e)
 
-    module _ (f : first_due (left_of s) ≡ None) (n : State) where
-      pub undue-ends : ends ≡ true → n ≡ finishes s → n ≡ undue ends s kind body
-      unfolding undue
-      undue-ends e z = rw e (z ∙ nothing-due s (finishes s) (left_of s) f)
-
-      pub undue-hears : ends ≡ false → n ≡ hears s kind body → n ≡ undue ends s kind body
-      unfolding undue
-      undue-hears e z = rw e (z ∙ nothing-due s (hears s kind body) (left_of s) f)
-
--- ---- the coordinates that the code reads
-
-abbrev Near : ℤ → ℤ → Type 0
-Near a p = (a ≡ p) × (nat_abs a ≤ 32768)
-
-pub four : (a b c d p q r t : ℤ) → Near a p → Near b q → Near c r → Near d t
-    → ◌≡◌ {A = List ℤ} (to_z w32 (of_z w32 a) ∷ to_z w32 (of_z w32 b) ∷ to_z w32 (of_z w32 c) ∷ to_z w32 (of_z w32 d) ∷ []) (p ∷ q ∷ r ∷ t ∷ [])
-four a b c d p q r t e f g h =
-    rw (
-      reads w32 a (omega (arith, e.1)),
-      reads w32 b (omega (arith, f.1)),
-      reads w32 c (omega (arith, g.1)),
-      reads w32 d (omega (arith, h.1)),
-      e.0,
-      f.0,
-      g.0,
-      h.0,
-    )
+  pub none_missing : first_due (left_of s) ≡ None → (r n : State) → r ≡ n → r ≡ unless_due s (left_of s) n
+  none_missing f r n z = z ∙ nothing-due s n (left_of s) f
 
 -- ---- a record
 
 pub role-is : {a b : Kind} {r : Role} → a ≡ b → a.role ≡ r → b.role ≡ r
 role-is e f = sym (ap (λ (k : Kind). k.role) e) ∙ f
-
--- by its role: a symbol and a finish stand where no word is due
-module _ (s n : State) (w k : ℕ) (body : List ℕ) {r : Role} where
-  pub symbol-role : r ≡ Symbol → n ≡ undue false s k body → n ≡ by_role r s w k body
-  unfolding undue heard
-  symbol-role e z = rw e z
-
-  pub finish-role : r ≡ Finish → n ≡ undue true s k body → n ≡ by_role r s w k body
-  unfolding undue finished
-  finish-role e z = rw e z
 
 pub word-state : (j : Judge) (sums registers picks due : List ℕ) (n g w : ℕ) (l : List ℕ) (r : Judge) → g ≡ w → r ≡ took_word j n g l
     → state_of r sums registers picks due ≡ worded (state_of j sums registers picks due) n w l
@@ -287,6 +245,14 @@ module _ (s : State) (r : Entry) where
   unfolding took
   took-agree n e = ap (λ (v : Verdict). upon v s r) (sym e)
 
-  pub took-still : (v : Verdict) → s.verdict ≡ v → upon v s r ≡ s → s ≡ took s r
+  pub took-still : ((n : ℕ) → s.verdict ≡ Agree n → ⊥) → s ≡ took s r
   unfolding took
-  took-still v e f = sym f ∙ ap (λ (v : Verdict). upon v s r) (sym e)
+  took-still not = go s.verdict not
+    where
+      go : (v : Verdict) → ((n : ℕ) → v ≡ Agree n → ⊥) → s ≡ upon v s r
+      go (Agree n) not = absurd (not n refl)
+      go (Differs n g h) not = refl
+      go (Extra n g) not = refl
+      go (Missing n h) not = refl
+      go (Refused n w) not = refl
+      go (Malformed p) not = refl

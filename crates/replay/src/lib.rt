@@ -15,8 +15,9 @@ ghost use Rattle.replay_judge.specs.Judging.{state_of};
 ghost use Rattle.replay.specs.Meaning.{agreed};
 ghost use Rattle.replay.specs.Course.{is_whole, is_bad, settled, course_of, feedings, ended, found as Course·found, replay_of, fresh_replay};
 
+use machine::Receiver;
 use records::{Frame, Stage};
-use replay_judge::{Due, Judge, Verdict};
+use replay_judge::{Judge, Verdict};
 
 #[derive(Clone, Copy)]
 pub struct Fed {
@@ -37,39 +38,23 @@ pub struct Replay {
 pub fn is_whole(stage: Stage) -> bool
     ensures { result ≡ is_whole stage }
 {
-    match stage {
-        Stage::Fresh => false,
-        Stage::Part => false,
-        Stage::Whole => true,
-        Stage::Bad => false,
-    }
+    matches!(stage, Stage::Whole)
 }
 
 fn is_bad(stage: Stage) -> bool
     ensures { result ≡ is_bad stage }
 {
-    match stage {
-        Stage::Fresh => false,
-        Stage::Part => false,
-        Stage::Whole => false,
-        Stage::Bad => true,
-    }
+    matches!(stage, Stage::Bad)
 }
 
 pub fn is_agreed(v: Verdict) -> bool
     ensures { result ≡ agreed v }
 {
-    match v {
-        Verdict::Agree(_) => true,
-        Verdict::Differs(_, _, _) => false,
-        Verdict::Extra(_, _) => false,
-        Verdict::Missing(_, _) => false,
-        Verdict::Refused(_, _) => false,
-        Verdict::Malformed(_) => false,
-    }
+    matches!(v, Verdict::Agree(_))
 }
 
 // The judge takes the frame's record if it has just become whole.
+#[tactic(auto, unfolding(crate::specs::Course::settled))]
 fn settle(
     frame: Frame,
     j: Judge,
@@ -81,12 +66,10 @@ fn settle(
     ensures { state_of result sums.new registers.new picks.new due.new
         ≡ settled (is_whole frame.stage) (state_of j sums.old registers.old picks.old due.old) (entry_of frame) }
 {
-    let stage = frame.stage;
-    if !is_whole(stage) {
+    if !is_whole(frame.stage) {
         return j;
     }
-    let body = frame.body;
-    record::take(j, frame.kind, body, sums, registers, picks, due)
+    record::take(j, frame.kind, frame.body, sums, registers, picks, due)
 }
 
 // A lump of bytes, which may be empty.
@@ -102,47 +85,41 @@ pub fn feed_lent(
     ensures { course_of result.frame result.judge sums.new registers.new picks.new due.new
         ≡ feedings (course_of frame judge sums.old registers.old picks.old due.old) bytes.now }
 {
-    let mut f = frame;
-    let mut j = judge;
-    let mut i: usize = 0;
+    let mut frame = frame;
+    let mut judge = judge;
+    let mut i = 0;
+    // A round takes as many bytes as the frame does, so there is no step for a `for`.
     while i < bytes.len() {
-        let m = record_fill::advance(f, bytes, i);
-        let next = m.frame;
-        f = next;
-        j = settle(f, j, sums, registers, picks, due);
+        let m = record_fill::advance(frame, bytes, i);
+        frame = m.frame;
+        judge = settle(frame, judge, sums, registers, picks, due);
         i += m.count;
     }
-    Fed { frame: f, judge: j }
+    Fed { frame, judge }
 }
 
 // Whether a fault is found already, so that no later byte can change the verdict.
+#[tactic(auto, unfolding(crate::specs::Course::found))]
 pub fn found(frame: Frame, judge: Judge) -> bool
     ensures { result ≡ Course·found frame judge.verdict }
 {
-    let verdict = judge.verdict;
-    let stage = frame.stage;
-    if !is_agreed(verdict) {
-        return true;
-    }
-    is_bad(stage)
+    !is_agreed(judge.verdict) || is_bad(frame.stage)
 }
 
 // The verdict where the input ends.
+#[tactic(auto, unfolding(crate::specs::Course::ended, replay_judge::specs::Judging::first_due))]
 pub fn verdict(frame: Frame, judge: Judge, due: &[u32]) -> Verdict
     ensures { result ≡ ended frame judge due.now }
 {
-    let v = judge.verdict;
-    let stage = frame.stage;
-    if !is_agreed(v) {
-        return v;
+    if !is_agreed(judge.verdict) {
+        return judge.verdict;
     }
-    if !is_whole(stage) {
+    if !is_whole(frame.stage) {
         return Verdict::Malformed(frame.at);
     }
-    let d = replay_judge::next_due(judge, due);
-    match d {
-        Due::None => v,
-        Due::Word(h) => Verdict::Missing(judge.records, h),
+    match replay_judge::next_due(judge, due) {
+        None => judge.verdict,
+        Some(h) => Verdict::Missing(judge.records, h),
     }
 }
 
@@ -150,63 +127,48 @@ pub fn verdict(frame: Frame, judge: Judge, due: &[u32]) -> Verdict
 pub fn start() -> Replay
     ensures { result ≡ fresh_replay }
 {
-    let rx = openings::closed_receiver();
-    let core = rx.core;
-    let sums = rx.sums;
-    let registers = rx.registers;
-    let picks = rx.picks;
+    let Receiver {
+        live,
+        core,
+        sums,
+        registers,
+        picks,
+    } = openings::closed_receiver();
     Replay {
         frame: records::start(),
         judge: Judge {
-            live: rx.live,
-            core: core,
+            live,
+            core,
             given: 0,
             shown: 0,
             records: 0,
             verdict: Verdict::Agree(0),
         },
-        sums: sums,
-        registers: registers,
-        picks: picks,
-        due: [0u32; 65],
+        sums,
+        registers,
+        picks,
+        due: [0; 65],
     }
 }
 
 pub fn feed(r: Replay, bytes: &[u8]) -> Replay
     ensures { replay_of result ≡ feedings (replay_of r) bytes.now }
 {
-    let frame = r.frame;
-    let judge = r.judge;
-    let mut sums = r.sums;
-    let mut registers = r.registers;
-    let mut picks = r.picks;
-    let mut due = r.due;
-    let f = feed_lent(
-        frame,
-        judge,
+    let mut r = r;
+    let Fed { frame, judge } = feed_lent(
+        r.frame,
+        r.judge,
         bytes,
-        &mut sums,
-        &mut registers,
-        &mut picks,
-        &mut due,
+        &mut r.sums,
+        &mut r.registers,
+        &mut r.picks,
+        &mut r.due,
     );
-    let after = f.frame;
-    let found = f.judge;
-    Replay {
-        frame: after,
-        judge: found,
-        sums: sums,
-        registers: registers,
-        picks: picks,
-        due: due,
-    }
+    Replay { frame, judge, ..r }
 }
 
 pub fn end(r: Replay) -> Verdict
     ensures { result ≡ ended r.frame r.judge r.due }
 {
-    let frame = r.frame;
-    let judge = r.judge;
-    let due = r.due;
-    verdict(frame, judge, &due)
+    verdict(r.frame, r.judge, &r.due)
 }

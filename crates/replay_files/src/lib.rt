@@ -7,80 +7,38 @@ use replay::Replay;
 use replay_judge::Verdict;
 use std::io::Read;
 
-// The replay so far, whether to read on, and whether there is nothing left to say.
-#[derive(Clone, Copy)]
-struct Progress {
-    replay: Replay,
-    on: bool,
-    said: bool,
-}
-
-// The first bytes of a text, and a newline.
-fn write_line(to: Streams, text: &[u8], size: usize) {
-    if size > text.len() {
-        return;
-    }
+// The line of a verdict.
+fn print(to: Streams, v: Verdict) {
+    let line = replay_text::line_of(v);
     let what = b"capture: standard output";
-    if edge::write(to, &text[..size], what) {
+    if edge::write(to, line.bytes(), what) {
         edge::write(to, b"\n", what);
     }
 }
 
-fn print(to: Streams, v: Verdict) {
-    let line = replay_text::line_of(v);
-    let text = line.text;
-    write_line(to, &text, line.size);
-}
-
-// Bytes that were read. A fault is printed at once.
-fn heard(to: Streams, r: Replay, bytes: &[u8]) -> Progress {
+// Bytes that were read. A fault is printed at once, and there is nothing left to say.
+fn heard(to: Streams, r: Replay, bytes: &[u8]) -> Option<Replay> {
     let after = replay::feed(r, bytes);
-    let frame = after.frame;
-    let judge = after.judge;
-    let said = replay::found(frame, judge);
-    if said {
+    if replay::found(after.frame, after.judge) {
         print(to, replay::end(after));
+        return None;
     }
-    Progress {
-        replay: after,
-        on: true,
-        said: said,
-    }
+    Some(after)
 }
 
-// One read. Where it fails there is a message, and no verdict.
-fn read_once<R: Read>(from: &mut R, to: Streams, t: Progress, chunk: &mut [u8]) -> Progress {
-    let r = t.replay;
-    let got = edge::read(from, chunk, to, b"capture: read");
-    if got <= 0 {
-        return Progress {
-            replay: r,
-            on: false,
-            said: t.said | (got < 0),
-        };
-    }
-    if t.said {
-        return t;
-    }
-    let n = io::count(got, chunk);
-    heard(to, r, &chunk[..n])
-}
-
-// A proved loop has to end, and nothing says that the input does: the passes are counted down from a number that no run uses up.
+// Where a read fails there is a message, and no verdict.
 pub fn run<R: Read>(from: &mut R, to: Streams) {
     let mut chunk = [0u8; 65536];
-    let mut now = Progress {
-        replay: replay::start(),
-        on: true,
-        said: false,
-    };
-    let mut passes = u64::MAX;
-    while passes > 0 && now.on {
-        now = read_once(from, to, now, &mut chunk);
-        passes -= 1;
-    }
-    if !now.said {
-        let r = now.replay;
+    let first = Some(replay::start());
+    let last = edge::each_chunk(
+        from,
+        &mut chunk,
+        to,
+        b"capture: read",
+        first,
+        |now, bytes| { Some(now.and_then(|r| heard(to, r, bytes))) },
+    );
+    if let Some(Some(r)) = last {
         print(to, replay::end(r));
     }
 }

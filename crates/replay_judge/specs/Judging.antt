@@ -4,7 +4,7 @@
 --   answered_by j why ..    the judge after the receiver's answer; took_word j n g: after a word, where n agreed before it
 --   opened s k w b         an open of the accord k; heard s k body: a symbol, in a record of kind k; finished s: a finish
 --   took s r               a record: after a fault nothing is looked at
-use Rattle.std.specs.Prelude.{ℕ, ◌+◌, Bool, cond, List, [], ◌∷◌, ◌++◌, eqb, length, take, drop}
+use Rattle.std.specs.Prelude.{ℕ, ◌+◌, Bool, cond, List, [], ◌∷◌, ◌++◌, eqb, length, take, drop, Option, Some, None, Result, ⊤}
 use Rattle.points.specs.declared.Accord.{Accord}
 use Rattle.machine.specs.declared.Core.{Core}
 use Rattle.machine.specs.declared.Receiver.{Receiver}
@@ -23,8 +23,6 @@ use Rattle.records.specs.Frames.{capped}
 use Rattle.replay_judge.specs.declared.Verdict.{Verdict}
 use Rattle.replay_judge.specs.declared.Verdict.TheVariants.{Agree, Differs, Extra, Missing, Refused, Malformed}
 use Rattle.replay_judge.specs.declared.Judge.{Judge}
-use Rattle.replay_judge.specs.declared.Due.{Due}
-use Rattle.replay_judge.specs.declared.Due.TheVariants.{None, Word as Next}
 
 -- the words that are due, and how many of them have been shown, stand beside the receiver
 pub record State : Type 0 where
@@ -49,9 +47,9 @@ state_of j sums registers picks due =
 unfoldable pub left : ℕ → ℕ → List ℕ → List ℕ
 left shown given due = drop shown (take given due)
 
-unfoldable pub first_due : List ℕ → Due
+unfoldable pub first_due : List ℕ → Option ℕ
 first_due [] = None
-first_due (h ∷ hs) = Next h
+first_due (h ∷ hs) = Some h
 
 -- ---- a judge with another verdict, and with one word more
 
@@ -70,7 +68,7 @@ showed j n =
     }
 
 -- after what the receiver answered: it took the record, has these numbers now and gave some words, or it refused
-unfoldable pub answered_by : Judge → Why → Bool → Core → ℕ → Judge
+unfoldable pub answered_by : Judge → Result ⊤ Why → Bool → Core → ℕ → Judge
 answered_by j why live core given =
     cond (is_done why)
     (record { live = live; core = core; given = given; shown = 0; records = capped (j.records + 1); verdict = j.verdict })
@@ -89,7 +87,7 @@ faulted s v = record { receiver = s.receiver; due = s.due; given = s.given; show
 abbrev pub went : State → Receiver → List ℕ → ℕ → State
 went s rx due given = record { receiver = rx; due = due; given = given; shown = 0; records = capped (s.records + 1); verdict = s.verdict }
 
-abbrev pub refused_by : State → Why → State
+abbrev pub refused_by : State → Result ⊤ Why → State
 refused_by s w = faulted s (Refused s.records (given_of w).number)
 
 unfoldable pub opened : State → Accord → ℕ → ℕ → State

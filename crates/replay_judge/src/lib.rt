@@ -13,7 +13,8 @@ use machine::Core;
 use reasons::Why;
 
 // What is printed: `agree N`, `record N word G expected H`, `record N word G expected none`, `record N missing word H`,
-// `record N refused R`, `offset P malformed`.
+// `record N refused R`, `offset P malformed`. R is the number that the line has, as `verdict_of` (replay/specs/Meaning) gives it.
+// The numbers of a variant are those of its line, in that order, so names would only say the line again.
 #[derive(Clone, Copy)]
 pub enum Verdict {
     Agree(u64),
@@ -24,6 +25,7 @@ pub enum Verdict {
     Malformed(u64),
 }
 
+// The receiver's flag and numbers, and what has been found. `live` is the receiver's own.
 #[derive(Clone, Copy)]
 pub struct Judge {
     pub live: bool,
@@ -35,76 +37,55 @@ pub struct Judge {
 }
 
 // The next word that should stand in the capture.
-#[derive(Clone, Copy)]
-pub enum Due {
-    None,
-    Word(u32),
-}
-
-pub fn next_due(j: Judge, due: &[u32]) -> Due
+pub fn next_due(j: Judge, due: &[u32]) -> Option<u32>
     ensures { result ≡ first_due (left j.shown j.given due.now) }
 {
-    let shown = j.shown;
-    if shown >= j.given {
-        return Due::None;
+    if j.shown < j.given {
+        due.get(j.shown).copied()
+    } else {
+        None
     }
-    if shown >= due.len() {
-        return Due::None;
-    }
-    Due::Word(due[shown])
 }
 
 // The same judge with a verdict.
 pub fn rule(j: Judge, verdict: Verdict) -> Judge
     ensures { result ≡ ruled j verdict }
 {
-    let core = j.core;
-    Judge {
-        live: j.live,
-        core: core,
-        given: j.given,
-        shown: j.shown,
-        records: j.records,
-        verdict: verdict,
-    }
+    Judge { verdict, ..j }
 }
 
 // What the receiver answered to an open, a symbol or a finish. A record that it took leaves it with these numbers, and `given` words are due.
-pub fn answer(j: Judge, why: Why, live: bool, core: Core, given: usize) -> Judge
+pub fn answer(j: Judge, why: Result<(), Why>, live: bool, core: Core, given: usize) -> Judge
     ensures { result ≡ answered_by j why live core given }
 {
-    if !reasons::is_done(why) {
+    if why.is_err() {
         return rule(j, Verdict::Refused(j.records, reasons::number(why)));
     }
-    let verdict = j.verdict;
     Judge {
-        live: live,
-        core: core,
-        given: given,
+        live,
+        core,
+        given,
         shown: 0,
         records: records::counted(j.records),
-        verdict: verdict,
+        ..j
     }
 }
 
 // A recorded word, where `words` words have agreed before it.
+#[tactic(auto, unfolding(crate::specs::Judging::first_due, crate::specs::Judging::took_word))]
 pub fn take_word(j: Judge, words: u64, g: u32, due: &[u32]) -> Judge
     ensures { result ≡ took_word j words g (left j.shown j.given due.now) }
 {
-    let d = next_due(j, due);
-    let Due::Word(h) = d else {
+    let Some(h) = next_due(j, due) else {
         return rule(j, Verdict::Extra(j.records, g));
     };
     if g != h {
         return rule(j, Verdict::Differs(j.records, g, h));
     }
-    let core = j.core;
     Judge {
-        live: j.live,
-        core: core,
-        given: j.given,
         shown: j.shown + 1,
         records: records::counted(j.records),
         verdict: Verdict::Agree(records::counted(words)),
+        ..j
     }
 }

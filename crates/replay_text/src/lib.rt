@@ -9,10 +9,21 @@ ghost use Rattle.replay_text.specs.Says.{hex, recorded, line_of};
 
 use replay_judge::Verdict;
 
+// There is no heap, so the text lies in an array, and `bytes` gives as much of it as the line has.
 #[derive(Clone, Copy)]
 pub struct Line {
     pub text: [u8; 64],
     pub size: usize,
+}
+
+impl Line {
+    // The line itself, of the text that it lies in.
+    pub fn bytes(&self) -> &[u8]
+        requires { self.now.size ≤ 64 }
+        ensures { result.now ≡ take self.now.size self.now.text }
+    {
+        &self.text[..self.size]
+    }
 }
 
 // A word as eight hexadecimal digits.
@@ -21,7 +32,7 @@ fn put_hex(page: &mut [u8], at: usize, w: u32) -> usize
     ensures { Puts page.old at (hex w) result page.new }
 {
     let mut digits = [0u8; 16];
-    let k = io::hex(w as u64, 8, &mut digits);
+    let k = io::hex(u64::from(w), 8, &mut digits);
     page::put_text(page, at, &digits[..k])
 }
 
@@ -66,9 +77,10 @@ fn refused(page: &mut [u8], n: u64, why: u32) -> usize
     ensures { Puts page.old 0 (line_of (Verdict.Refused n why)) result page.new }
 {
     let p = head(page, b"record ", n, b" refused ");
-    page::put_number(page, p, why as u64)
+    page::put_number(page, p, u64::from(why))
 }
 
+#[tactic(auto, unfolding(crate::specs::Says::line_of))]
 fn put_line(v: Verdict, page: &mut [u8]) -> usize
     requires { 64 ≤ length page.old }
     ensures { Puts page.old 0 (line_of v) result page.new }

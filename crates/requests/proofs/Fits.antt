@@ -9,20 +9,14 @@ use Rattle.text.specs.Bytes.{bytes}
 use Rattle.text.specs.Token.{same_bytes}
 use Rattle.text.specs.Number.{hex_of}
 use Rattle.number_lists.specs.Many.{whole_in, number_in, many_of}
-use Rattle.number_lists.specs.declared.Many.{Many}
-use Rattle.number_lists.specs.declared.Many.TheVariants as many
-use Rattle.text.specs.declared.number.Number.{Number}
-use Rattle.text.specs.declared.number.Number.TheVariants as number
 use Rattle.text.proofs.Digits.{got-most}
 use Rattle.line_fields.specs.Row.{count_of, row_of}
 use Rattle.line_fields.proofs.Rows.{row-most}
 use Rattle.number_lists.proofs.Lists.{many-most}
 use Rattle.points.specs.declared.Map.{Map}
-use Rattle.line_fields.specs.declared.map_names.Which.{Which}
-use Rattle.line_fields.specs.declared.map_names.Which.TheVariants as which
 use Rattle.line_fields.specs.declared.map_names.Numbered.{Numbered}
-use Rattle.line_fields.specs.declared.map_names.Numbered.TheVariants as numbered
 use Rattle.line_fields.specs.Names.{map_named, numbered_of}
+use Rattle.std.specs.Prelude.{Option, Some, None}
 use Rattle.requests.specs.declared.Request.{Request}
 use Rattle.requests.specs.declared.Request.TheVariants as request
 use Rattle.requests.specs.Verb.{any_number, cap_number, just, both, one, two, on_map, on_number, Fit}
@@ -33,13 +27,13 @@ module _ (room : ℕ) where
   fit-cond true f g = f
   fit-cond false f g = g
 
-  fit-just : (f : ℕ → Request) (o : Number) → ((n : ℕ) → number.Got n ≡ o → Fit room (f n)) → Fit room (just f o)
-  fit-just f (number.Got n) g = g n refl
-  fit-just f number.Bad g = record { sizes = tt }
+  fit-just : (f : ℕ → Request) (o : Option ℕ) → ((n : ℕ) → Some n ≡ o → Fit room (f n)) → Fit room (just f o)
+  fit-just f (Some n) g = g n refl
+  fit-just f None g = record { sizes = tt }
 
-  fit-both : (f : ℕ → ℕ → Request) (o o' : Number) → ((m n : ℕ) → number.Got n ≡ o' → Fit room (f m n)) → Fit room (both f o o')
-  fit-both f (number.Got m) o' g = fit-just (f m) o' (g m)
-  fit-both f number.Bad o' g = record { sizes = tt }
+  fit-both : (f : ℕ → ℕ → Request) (o o' : Option ℕ) → ((m n : ℕ) → Some n ≡ o' → Fit room (f m n)) → Fit room (both f o o')
+  fit-both f (Some m) o' g = fit-just (f m) o' (g m)
+  fit-both f None o' g = record { sizes = tt }
 
   fit-one : (g : List ℕ → Request) (ts : List (List ℕ)) → ((t : List ℕ) → Fit room (g t)) → Fit room (one g ts)
   fit-one g [] f = record { sizes = tt }
@@ -50,13 +44,13 @@ module _ (room : ℕ) where
   fit-two g [] f = record { sizes = tt }
   fit-two g (t ∷ ts) f = fit-one (g t) ts (f t)
 
-  fit-map : (f : Map → Request) (w : Which) → ((m : Map) → Fit room (f m)) → Fit room (on_map f w)
-  fit-map f (which.On m) g = g m
-  fit-map f which.Unread g = record { sizes = tt }
+  fit-map : (f : Map → Request) (w : Option Map) → ((m : Map) → Fit room (f m)) → Fit room (on_map f w)
+  fit-map f (Some m) g = g m
+  fit-map f None g = record { sizes = tt }
 
-  fit-number : (f : Map → ℕ → Request) (o : Numbered) → ((m : Map) (n : ℕ) → Fit room (f m n)) → Fit room (on_number f o)
-  fit-number f (numbered.On m n) g = g m n
-  fit-number f numbered.Unread g = record { sizes = tt }
+  fit-number : (f : Map → ℕ → Request) (o : Option Numbered) → ((m : Map) (n : ℕ) → Fit room (f m n)) → Fit room (on_number f o)
+  fit-number f (Some r) g = g r.map r.number
+  fit-number f None g = record { sizes = tt }
 
   pub fit-sender : (ts : List (List ℕ)) → Fit room (sender_of ts)
   fit-sender ts = fit-number _ (numbered_of ts) (λ m u. record { sizes = tt })
@@ -78,40 +72,40 @@ module _ (room : ℕ) where
       fit-cond (same_bytes f (bytes "free")) (fit-map _ (map_named ts) (λ m. record { sizes = tt }))
       (fit-cond (same_bytes f (bytes "at")) (fit-number _ (numbered_of ts) (λ m s. record { sizes = tt })) (record { sizes = tt }))
 
-  fit-window-by : (u : ℕ) (o : Number) (ts : List (List ℕ)) → Fit room (window_by u o ts)
-  fit-window-by u (number.Got w) ts = fit-start u w ts
-  fit-window-by u number.Bad ts = record { sizes = tt }
+  fit-window-by : (u : ℕ) (o : Option ℕ) (ts : List (List ℕ)) → Fit room (window_by u o ts)
+  fit-window-by u (Some w) ts = fit-start u w ts
+  fit-window-by u None ts = record { sizes = tt }
 
   fit-window : (u : ℕ) (ts : List (List ℕ)) → Fit room (window_of u ts)
   fit-window u [] = record { sizes = tt }
   fit-window u (w ∷ ts) = fit-window-by u (any_number w) ts
 
-  fit-open-by : (u : ℕ) (w : Which) (ts : List (List ℕ)) → Fit room (open_by u w ts)
-  fit-open-by u (which.On m) ts = record { sizes = tt }
-  fit-open-by u which.Unread ts = fit-window u ts
+  fit-open-by : (u : ℕ) (w : Option Map) (ts : List (List ℕ)) → Fit room (open_by u w ts)
+  fit-open-by u (Some m) ts = record { sizes = tt }
+  fit-open-by u None ts = fit-window u ts
 
-  fit-open : (o : Number) (ts : List (List ℕ)) → Fit room (open_of o ts)
-  fit-open number.Bad ts = record { sizes = tt }
-  fit-open (number.Got u) ts = fit-open-by u (map_named ts) ts
+  fit-open : (o : Option ℕ) (ts : List (List ℕ)) → Fit room (open_of o ts)
+  fit-open None ts = record { sizes = tt }
+  fit-open (Some u) ts = fit-open-by u (map_named ts) ts
 
   pub fit-receiver : (ts : List (List ℕ)) → Fit room (receiver_of ts)
   fit-receiver [] = record { sizes = tt }
   fit-receiver (u ∷ ts) = fit-open (any_number u) ts
 
-  fit-heard : (o : Number) (m : Many) → ((c : ℕ) → number.Got c ≡ o → c ≤ 4096) → ((n : ℕ) → many.Got n ≡ m → n ≤ room) → Fit room (heard_of o m)
-  fit-heard number.Bad m f g = record { sizes = tt }
-  fit-heard (number.Got c) (many.Got n) f g = record { sizes = (f c refl, g n refl) }
-  fit-heard (number.Got c) many.Bad f g = record { sizes = tt }
+  fit-heard : (o : Option ℕ) (m : Option ℕ) → ((c : ℕ) → Some c ≡ o → c ≤ 4096) → ((n : ℕ) → Some n ≡ m → n ≤ room) → Fit room (heard_of o m)
+  fit-heard None m f g = record { sizes = tt }
+  fit-heard (Some c) (Some n) f g = record { sizes = (f c refl, g n refl) }
+  fit-heard (Some c) None f g = record { sizes = tt }
 
   pub fit-piece : (ts : List (List ℕ)) → Fit room (piece_of room ts)
   fit-piece [] = record { sizes = tt }
   fit-piece (c ∷ ts) = fit-heard (cap_number c) (many_of whole_in room ts) (λ n e. got-most 10 4096 c e) (λ n e. many-most whole_in room ts e)
 
-  fit-marked-by : (o : Number) (k m : Many) → ((c : ℕ) → number.Got c ≡ o → c ≤ 4096) → ((n : ℕ) → many.Got n ≡ k → n ≤ 1024) → ((n : ℕ) → many.Got n ≡ m → n ≤ room) → Fit room (marked_by o k m)
-  fit-marked-by (number.Got c) (many.Got k) (many.Got n) f g h = record { sizes = (f c refl, g k refl, h n refl) }
-  fit-marked-by (number.Got c) (many.Got k) many.Bad f g h = record { sizes = tt }
-  fit-marked-by (number.Got c) many.Bad m f g h = record { sizes = tt }
-  fit-marked-by number.Bad k m f g h = record { sizes = tt }
+  fit-marked-by : (o : Option ℕ) (k m : Option ℕ) → ((c : ℕ) → Some c ≡ o → c ≤ 4096) → ((n : ℕ) → Some n ≡ k → n ≤ 1024) → ((n : ℕ) → Some n ≡ m → n ≤ room) → Fit room (marked_by o k m)
+  fit-marked-by (Some c) (Some k) (Some n) f g h = record { sizes = (f c refl, g k refl, h n refl) }
+  fit-marked-by (Some c) (Some k) None f g h = record { sizes = tt }
+  fit-marked-by (Some c) None m f g h = record { sizes = tt }
+  fit-marked-by None k m f g h = record { sizes = tt }
 
   pub fit-marked : (most : ℕ) (ts : List (List ℕ)) → Fit room (marked_of room most ts)
   fit-marked most [] = record { sizes = tt }
@@ -119,14 +113,14 @@ module _ (room : ℕ) where
   fit-marked most (c ∷ r ∷ ts) =
       fit-marked-by (cap_number c) (count_of (row_of most r)) (many_of whole_in room ts) (λ n e. got-most 10 4096 c e) (λ n e. row-most most r e) (λ n e. many-most whole_in room ts e)
 
-  fit-sent : (o : Number) (m : Many) → ((c : ℕ) → number.Got c ≡ o → c ≤ 4096) → Fit room (sent_of o m)
-  fit-sent number.Bad m f = record { sizes = tt }
-  fit-sent (number.Got c) (many.Got n) f = go (leb n 1024) refl
+  fit-sent : (o : Option ℕ) (m : Option ℕ) → ((c : ℕ) → Some c ≡ o → c ≤ 4096) → Fit room (sent_of o m)
+  fit-sent None m f = record { sizes = tt }
+  fit-sent (Some c) (Some n) f = go (leb n 1024) refl
     where
       go : (b : Bool) → leb n 1024 ≡ b → Fit room (cond b (request.List c n) request.Unread)
       go true e = record { sizes = (f c refl, leb-true n 1024 e) }
       go false e = record { sizes = tt }
-  fit-sent (number.Got c) many.Bad f = record { sizes = tt }
+  fit-sent (Some c) None f = record { sizes = tt }
 
   pub fit-list : (many : ℕ) (ts : List (List ℕ)) → Fit room (list_of many ts)
   fit-list many [] = record { sizes = tt }

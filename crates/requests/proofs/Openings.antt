@@ -9,15 +9,12 @@ use mathlib.Core.Bool.{Bool, true, false, cond}
 use mathlib.Core.List.{List, []}
 use native.Mathlib.Omega.{arith}
 use lib.ListN.{length, take, drop}
+use Rattle.std.specs.Prelude.{Option, Some, None}
 use Rattle.points.specs.declared.Map.{Map}
 use Rattle.points.specs.declared.Map.TheVariants.{Round}
 use Rattle.text.specs.Bytes.{bytes}
 use Rattle.text.specs.Token.{tokens, Cuts, same_bytes}
-use Rattle.text.specs.declared.number.Number.{Number}
-use Rattle.text.specs.declared.number.Number.TheVariants as number
 use Rattle.text.proofs.Cut.{after, alone, cut_off, no_more, some_more, first-and-rest}
-use Rattle.line_fields.specs.declared.map_names.Which.{Which}
-use Rattle.line_fields.specs.declared.map_names.Which.TheVariants as which
 use Rattle.line_fields.specs.Names.{map_named}
 use Rattle.requests.specs.declared.Request.TheVariants as request
 use Rattle.requests.specs.Verb.{any_number, line, on_map, state_of, start_of, window_by, window_of, open_by, receiver_of}
@@ -25,7 +22,7 @@ use Rattle.requests.specs.Verb.{any_number, line, on_map, state_of, start_of, wi
 module _ {s : List ℕ} {n : ℕ} (cut : Cuts 32 s n) where
   -- ---- the start
 
-  pub start-free : (u w : ℕ) {o : Which} → true ≡ same_bytes (take n s) (bytes "free") → o ≡ map_named (drop 1 (tokens s))
+  pub start-free : (u w : ℕ) {o : Option Map} → true ≡ same_bytes (take n s) (bytes "free") → o ≡ map_named (drop 1 (tokens s))
       → on_map (λ m. request.Free (line m u) w) o ≡ start_of u w (tokens s)
   start-free u w e f = rw (first-and-rest cut, ← e, f)
 
@@ -34,41 +31,41 @@ module _ {s : List ℕ} {n : ℕ} (cut : Cuts 32 s n) where
   start-more u w b e h f = rw (cut_off cut h, ← e, f)
 
   pub start-alone : (u w : ℕ) → false ≡ same_bytes (take n s) (bytes "free") → n ≡ length s → request.Unread ≡ start_of u w (tokens s)
-  start-alone u w e h = rw (first-and-rest cut, ← e, no_more cut h) (none (same_bytes (take n s) (bytes "at")))
+  start-alone u w e h = rw (first-and-rest cut, ← e, no_more cut h) (either (same_bytes (take n s) (bytes "at")))
     where
-      none : (b : Bool) → request.Unread ≡ cond b request.Unread request.Unread
-      none true = refl
-      none false = refl
+      either : (b : Bool) → request.Unread ≡ cond b request.Unread request.Unread
+      either true = refl
+      either false = refl
 
   -- ---- the window
 
   pub window-alone : (u : ℕ) → n ≡ length s → request.Unread ≡ window_of u (tokens s)
-  window-alone u h = rw (alone cut h) (none (any_number s))
+  window-alone u h = rw (alone cut h) (either (any_number s))
     where
-      none : (o : Number) → request.Unread ≡ window_by u o []
-      none (number.Got w) = refl
-      none number.Bad = refl
+      either : (o : Option ℕ) → request.Unread ≡ window_by u o []
+      either (Some w) = refl
+      either None = refl
 
-  pub window_more : (u : ℕ) (o : Number) → (n ≡ length s → ⊥) → o ≡ any_number (take n s) → window_by u o (tokens (after n s)) ≡ window_of u (tokens s)
+  pub window_more : (u : ℕ) (o : Option ℕ) → (n ≡ length s → ⊥) → o ≡ any_number (take n s) → window_by u o (tokens (after n s)) ≡ window_of u (tokens s)
   window_more u o h e = rw (cut_off cut h, e)
 
   -- ---- the width
 
-  pub receiver-bad : number.Bad ≡ any_number (take n s) → request.Unread ≡ receiver_of (tokens s)
+  pub receiver-bad : None ≡ any_number (take n s) → request.Unread ≡ receiver_of (tokens s)
   receiver-bad e = rw (first-and-rest cut, ← e)
 
-  pub more-follow : which.Unread ≡ map_named (drop 1 (tokens s)) → n ≡ length s → ⊥
+  pub more-follow : None ≡ map_named (drop 1 (tokens s)) → n ≡ length s → ⊥
   more-follow e h =
-      let f : which.Unread ≡ which.On Round = e ∙ ap map_named (no_more cut h) in
+      let f : None ≡ Some Round = e ∙ ap map_named (no_more cut h) in
       let z : ◌≡◌ {A = ℕ} 0 1 = cc in
       omega arith
 
-  module _ {u : ℕ} (e : number.Got u ≡ any_number (take n s)) where
-    opened : (w : Which) → w ≡ map_named (drop 1 (tokens s)) → open_by u w (drop 1 (tokens s)) ≡ receiver_of (tokens s)
+  module _ {u : ℕ} (e : Some u ≡ any_number (take n s)) where
+    opened : (w : Option Map) → w ≡ map_named (drop 1 (tokens s)) → open_by u w (drop 1 (tokens s)) ≡ receiver_of (tokens s)
     opened w f = rw (first-and-rest cut, ← e, f)
 
-    pub receiver-plain : {m : Map} → which.On m ≡ map_named (drop 1 (tokens s)) → request.Plain (line m u) ≡ receiver_of (tokens s)
-    receiver-plain {m} f = opened (which.On m) f
+    pub receiver-plain : {m : Map} → Some m ≡ map_named (drop 1 (tokens s)) → request.Plain (line m u) ≡ receiver_of (tokens s)
+    receiver-plain {m} f = opened (Some m) f
 
-    pub receiver-more : which.Unread ≡ map_named (drop 1 (tokens s)) → window_of u (tokens (after n s)) ≡ receiver_of (tokens s)
-    receiver-more f = rw (← some_more cut (more-follow f)) (opened which.Unread f)
+    pub receiver-more : None ≡ map_named (drop 1 (tokens s)) → window_of u (tokens (after n s)) ≡ receiver_of (tokens s)
+    receiver-more f = rw (← some_more cut (more-follow f)) (opened None f)

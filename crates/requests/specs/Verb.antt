@@ -19,42 +19,35 @@
 --   list_fills ts list       the list lent for words after that, in the same way
 --   Sizes room r, Fit room r   the sizes that a request names: outputs of 4096 at most, coordinates that are in the list, words and marks of
 --                           1,024 at most
-use Rattle.std.specs.Prelude.{ℕ, ◌≤◌, cond, List, [], ◌∷◌, ◌++◌, leb, ℤ, length, drop}
+use Rattle.std.specs.Prelude.{ℕ, ◌≤◌, cond, Option, Some, None, List, [], ◌∷◌, ◌++◌, leb, ℤ, length, drop}
 use Rattle.text.specs.Bytes.{bytes}
 use Rattle.text.specs.Token.{same_bytes}
 use Rattle.text.specs.Number.{number_of, hex_of}
 use Rattle.line_fields.specs.Row.{count_of, row_of, mark_fills}
 use Rattle.number_lists.specs.Many.{whole_in, number_in, first_of, many_of}
-use Rattle.text.specs.declared.number.Number.{Number}
-use Rattle.text.specs.declared.number.Number.TheVariants as number
-use Rattle.number_lists.specs.declared.Many.{Many}
-use Rattle.number_lists.specs.declared.Many.TheVariants as many
 use Rattle.points.specs.declared.Map.{Map}
 use Rattle.points.specs.declared.Accord.{Accord}
-use Rattle.line_fields.specs.declared.map_names.Which.{Which}
-use Rattle.line_fields.specs.declared.map_names.Which.TheVariants as which
 use Rattle.line_fields.specs.declared.map_names.Numbered.{Numbered}
-use Rattle.line_fields.specs.declared.map_names.Numbered.TheVariants as numbered
 use Rattle.line_fields.specs.Names.{map_named, numbered_of}
 use Rattle.requests.specs.declared.Request.{Request}
 use Rattle.requests.specs.declared.Request.TheVariants as request
 
-abbrev pub any_number : List ℕ → Number
+abbrev pub any_number : List ℕ → Option ℕ
 any_number t = number_of 10 4294967295 t
 
-abbrev pub cap_number : List ℕ → Number
+abbrev pub cap_number : List ℕ → Option ℕ
 cap_number t = number_of 10 4096 t
 
 abbrev pub line : Map → ℕ → Accord
 line m u = record { map = m; u = u }
 
-abbrev pub just : (ℕ → Request) → Number → Request
-just f (number.Got n) = f n
-just f number.Bad = request.Unread
+abbrev pub just : (ℕ → Request) → Option ℕ → Request
+just f (Some n) = f n
+just f None = request.Unread
 
-abbrev pub both : (ℕ → ℕ → Request) → Number → Number → Request
-both f (number.Got m) o = just (f m) o
-both f number.Bad o = request.Unread
+abbrev pub both : (ℕ → ℕ → Request) → Option ℕ → Option ℕ → Request
+both f (Some m) o = just (f m) o
+both f None o = request.Unread
 
 abbrev pub one : (List ℕ → Request) → List (List ℕ) → Request
 one g [] = request.Unread
@@ -65,13 +58,13 @@ abbrev pub two : (List ℕ → List ℕ → Request) → List (List ℕ) → Req
 two g [] = request.Unread
 two g (t ∷ ts) = one (g t) ts
 
-abbrev pub on_map : (Map → Request) → Which → Request
-on_map f (which.On m) = f m
-on_map f which.Unread = request.Unread
+abbrev pub on_map : (Map → Request) → Option Map → Request
+on_map f (Some m) = f m
+on_map f None = request.Unread
 
-abbrev pub on_number : (Map → ℕ → Request) → Numbered → Request
-on_number f (numbered.On m n) = f m n
-on_number f numbered.Unread = request.Unread
+abbrev pub on_number : (Map → ℕ → Request) → Option Numbered → Request
+on_number f (Some r) = f r.map r.number
+on_number f None = request.Unread
 
 -- "`sender U`" and "`sender U square`"
 abbrev pub sender_of : List (List ℕ) → Request
@@ -97,43 +90,43 @@ start_of u w (f ∷ ts) =
     cond (same_bytes f (bytes "free")) (on_map (λ m. request.Free (line m u) w) (map_named ts))
     (cond (same_bytes f (bytes "at")) (state_of u w ts) request.Unread)
 
-abbrev pub window_by : ℕ → Number → List (List ℕ) → Request
-window_by u (number.Got w) ts = start_of u w ts
-window_by u number.Bad ts = request.Unread
+abbrev pub window_by : ℕ → Option ℕ → List (List ℕ) → Request
+window_by u (Some w) ts = start_of u w ts
+window_by u None ts = request.Unread
 
 abbrev pub window_of : ℕ → List (List ℕ) → Request
 window_of u [] = request.Unread
 window_of u (w ∷ ts) = window_by u (any_number w) ts
 
 -- the tokens after a width: those that name a map alone ask for the plain opening
-abbrev pub open_by : ℕ → Which → List (List ℕ) → Request
-open_by u (which.On m) ts = request.Plain (line m u)
-open_by u which.Unread ts = window_of u ts
+abbrev pub open_by : ℕ → Option Map → List (List ℕ) → Request
+open_by u (Some m) ts = request.Plain (line m u)
+open_by u None ts = window_of u ts
 
-abbrev pub open_of : Number → List (List ℕ) → Request
-open_of number.Bad ts = request.Unread
-open_of (number.Got u) ts = open_by u (map_named ts) ts
+abbrev pub open_of : Option ℕ → List (List ℕ) → Request
+open_of None ts = request.Unread
+open_of (Some u) ts = open_by u (map_named ts) ts
 
 abbrev pub receiver_of : List (List ℕ) → Request
 receiver_of [] = request.Unread
 receiver_of (u ∷ ts) = open_of (any_number u) ts
 
-abbrev pub heard_of : Number → Many → Request
-heard_of number.Bad m = request.Unread
-heard_of (number.Got c) (many.Got n) = request.Piece c n
-heard_of (number.Got c) many.Bad = request.Unread
+abbrev pub heard_of : Option ℕ → Option ℕ → Request
+heard_of None m = request.Unread
+heard_of (Some c) (Some n) = request.Piece c n
+heard_of (Some c) None = request.Unread
 
 abbrev pub piece_of : ℕ → List (List ℕ) → Request
 piece_of room [] = request.Unread
 piece_of room (c ∷ ts) = heard_of (cap_number c) (many_of whole_in room ts)
 
-abbrev pub marked_by : Number → Many → Many → Request
-marked_by (number.Got c) (many.Got k) (many.Got n) = request.Marked c k n
-marked_by (number.Got c) (many.Got k) many.Bad = request.Unread
-marked_by (number.Got c) many.Bad m = request.Unread
-marked_by number.Bad row m = request.Unread
+abbrev pub marked_by : Option ℕ → Option ℕ → Option ℕ → Request
+marked_by (Some c) (Some k) (Some n) = request.Marked c k n
+marked_by (Some c) (Some k) None = request.Unread
+marked_by (Some c) None m = request.Unread
+marked_by None row m = request.Unread
 
-abbrev pub marked_after : ℕ → ℕ → Number → List (List ℕ) → Request
+abbrev pub marked_after : ℕ → ℕ → Option ℕ → List (List ℕ) → Request
 marked_after room most cap [] = request.Unread
 marked_after room most cap (r ∷ ts) = marked_by cap (count_of (row_of most r)) (many_of whole_in room ts)
 
@@ -141,10 +134,10 @@ abbrev pub marked_of : ℕ → ℕ → List (List ℕ) → Request
 marked_of room most [] = request.Unread
 marked_of room most (c ∷ ts) = marked_after room most (cap_number c) ts
 
-abbrev pub sent_of : Number → Many → Request
-sent_of number.Bad m = request.Unread
-sent_of (number.Got c) (many.Got n) = cond (leb n 1024) (request.List c n) request.Unread
-sent_of (number.Got c) many.Bad = request.Unread
+abbrev pub sent_of : Option ℕ → Option ℕ → Request
+sent_of None m = request.Unread
+sent_of (Some c) (Some n) = cond (leb n 1024) (request.List c n) request.Unread
+sent_of (Some c) None = request.Unread
 
 abbrev pub list_of : ℕ → List (List ℕ) → Request
 list_of room [] = request.Unread
@@ -171,9 +164,9 @@ abbrev pub marks_of : List (List ℕ) → List ℕ → List ℕ
 marks_of ts list = marks_after (drop 1 ts) list
 
 -- by what the tokens after the cap write, if it is one
-abbrev pub filled_by : Number → List (List ℕ) → List ℕ → List ℕ
-filled_by (number.Got c) ts list = at_start (first_of number_in (length list) ts) list
-filled_by number.Bad ts list = list
+abbrev pub filled_by : Option ℕ → List (List ℕ) → List ℕ → List ℕ
+filled_by (Some c) ts list = at_start (first_of number_in (length list) ts) list
+filled_by None ts list = list
 
 abbrev pub list_fills : List (List ℕ) → List ℕ → List ℕ
 list_fills [] list = list

@@ -2,7 +2,7 @@
 // piece and the map of an opening are read by `line_fields`.
 // A number is decimal digits and nothing else, zeros in front allowed; U, W, WINDOW, S and CAP are 0 to 4294967295, and a CAP is
 // 4096 at most. A coordinate C may have one `-` before it and has 32 bits. HEX is eight hexadecimal digits, small or large.
-// Other tokens are unread. specs/Verb.antt says what each verb asks for, and of `card` specs/Asked.antt.
+// Other tokens are unread: `read` of each verb gives `None`, and whoever reads a line makes `Request::Unread` of it. specs/Verb.antt says what each verb asks for, and of `card` specs/Asked.antt.
 #![tactic(auto)]
 
 pub mod card_verb;
@@ -20,10 +20,8 @@ ghost use Rattle.text.specs.Token.{tokens, Cuts};
 ghost use Rattle.number_lists.specs.Many.{whole_in, many_of};
 ghost use Rattle.requests.specs.Verb.{any_number, cap_number, coordinate_fills};
 
-use number_lists::Many;
 use points::Accord;
 use text::number;
-use text::number::Number;
 
 #[derive(Clone, Copy)]
 pub enum Request {
@@ -90,26 +88,26 @@ const MOST_WORDS: usize = 1024;
 // The longest output that a line can ask for.
 const MOST: u32 = 4096;
 
-pub fn number_of(token: &[u8]) -> Number
+pub fn number_of(token: &[u8]) -> Option<u32>
     ensures { result ≡ any_number token.now }
 {
-    number::decimal(token, 4294967295)
+    number::decimal(token, u32::MAX)
 }
 
-fn cap_of(token: &[u8]) -> Number
+fn cap_of(token: &[u8]) -> Option<u32>
     ensures { result ≡ cap_number token.now }
 {
     number::decimal(token, MOST)
 }
 
 // The coordinates that stand after the first token, which ends at n: none where the text ends there.
-fn coordinates_after(rest: &[u8], n: usize, list: &mut [i32]) -> Many
+fn coordinates_after(rest: &[u8], n: usize, list: &mut [i32]) -> Option<usize>
     requires { Cuts 32 rest.now n }
     ensures value { result ≡ many_of whole_in (length list.old) (drop 1 (tokens rest.now)) }
     ensures list_after { list.new ≡ coordinate_fills (drop 1 (tokens rest.now)) list.old }
 {
     if n == rest.len() {
-        return Many::Got(0);
+        return Some(0);
     }
-    number_lists::signed_list(&rest[n + 1..], list)
+    number_lists::list(&rest[n + 1..], list)
 }

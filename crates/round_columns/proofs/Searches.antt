@@ -4,6 +4,7 @@
 --   rim-least        the rim's least key is no more than the key of any place within it
 use mathlib.Core.Path.{◌≡◌, subst}
 use Prim.Native.Nat.{ℕ, zero, suc, ◌+◌, ◌-◌, ◌*◌, ◌≤◌, ◌<◌}
+use Rattle.std.specs.Prelude.{min}
 use native.Mathlib.Numerals.{add-one}
 use native.Mathlib.Nat.{mul-le-mul}
 use native.Mathlib.Decide.{dec_lt, ℕ_discrete}
@@ -11,7 +12,7 @@ use native.Mathlib.Omega.{arith}
 use Rattle.round_places.specs.Places.{number_at, column_of, top_of, first_of}
 use Rattle.round_places.proofs.Rule.{Within, before, on, in_table, rim-in, rim-rises, steep}
 use Rattle.round_columns.specs.declared.View.{View}
-use Rattle.round_columns.specs.Cells.{Lesser, first, second, Viewed, off_of, cell_key, Placed, InColumn, Rimmed}
+use Rattle.round_columns.specs.Cells.{Viewed, off_of, cell_key, Placed, InColumn, Rimmed}
 use Rattle.round_columns.proofs.Gaps.{near_le, near-far, outwards}
 
 module _ (s : View) (v : Viewed s) where
@@ -65,11 +66,14 @@ module _ (s : View) (v : Viewed s) where
             subst (λ (j : ℕ). k ≤ top_at j → r ≤ cell_key s (column_at j) k) e
             (λ l. omega (arith, c.is, row-least n c.e k g c.row l)) l
 
-    pub next-rimmed : Lesser a b r → Rimmed s (n + 1) r
-    next-rimmed (first p e) =
-        record { i = m.i; e = m.e; i-in = omega (arith, m.i-in); e-in = m.e-in; is = omega (arith, m.is); least = both-le (omega arith) (omega arith) }
-    next-rimmed (second p e) =
-        record { i = n; e = c.e; i-in = omega arith; e-in = c.row.below; is = omega (arith, c.is); least = both-le (omega arith) (omega arith) }
+    pub next-rimmed : r ≡ min a b → Rimmed s (n + 1) r
+    next-rimmed e = go (dec_lt b a)
+      where
+        go : Dec (b < a) → Rimmed s (n + 1) r
+        go (no l) =
+            record { i = m.i; e = m.e; i-in = omega (arith, m.i-in); e-in = m.e-in; is = omega (arith, m.is); least = both-le (omega arith) (omega arith) }
+        go (yes l) =
+            record { i = n; e = c.e; i-in = omega arith; e-in = c.row.below; is = omega (arith, c.is); least = both-le (omega arith) (omega arith) }
 
   -- ---- further in than the first column
 

@@ -1,7 +1,6 @@
 -- The search by places and columns, in counts. Not to be believed: proofs/ ties it to `near_key`.
 --   count_of z           a received coordinate, counted from 12160 below zero;  Counted v, v is such a count
 --   apart_of a b         how far two numbers are apart;  gap_of v t, how far v is from place t
---   Lesser x y r        r is the smaller of x and y
 --   key_of x y w         the key of point w for the counts x and y: distance plus number
 --   LeastKey u x y r    r is the least key of the numbers below 2^u
 --   side_of v            a count as seen from the middle;  Sided s, what every side meets
@@ -32,10 +31,6 @@ apart_of a b = (a - b) + (b - a)
 
 abbrev pub gap_of : ℕ → ℕ → ℕ
 gap_of v t = apart_of v (512 * t)
-
-pub data Lesser (x y r : ℕ) : Type 0 where
-  first : x ≤ y → r ≡ x → Lesser x y r
-  second : y < x → r ≡ y → Lesser x y r
 
 -- ---- the points of a width
 

@@ -14,10 +14,11 @@
 ghost use Rattle.std.specs.Prelude.{◌≡◌, ◌+◌, ◌-◌, ◌*◌, ◌≤◌, ◌<◌, nat_abs};
 ghost use Rattle.round_places.specs.Places.{listed, Wide, number_at};
 ghost use Rattle.round_columns.specs.Near.{near_keys};
-ghost use Rattle.round_columns.specs.Cells.{count_of, Counted, apart_of, Lesser, side_of, Sided, Seen, Viewed, InColumn, Outside};
+ghost use Rattle.round_columns.specs.Cells.{count_of, Counted, side_of, Sided, Seen, Viewed, InColumn, Outside};
 ghost use Rattle.round_columns.specs.Cells.{LeastKey, are_near, Near, place_of};
 
-// A key for each label, distance plus number: A, C, B and D are 0, 1, 2 and 3.
+// A key for each label, distance plus number: A, C, B and D are 0, 1, 2 and 3. Four fields and no array, since the contracts speak of each
+// label by its name.
 #[derive(Clone, Copy)]
 pub struct Keys {
     pub a: u32,
@@ -55,18 +56,6 @@ fn counted(z: i32) -> u32
     (z + 12160) as u32
 }
 
-fn apart(v: u32, p: u32) -> u32
-    ensures { result ≡ apart_of v p }
-{
-    if v < p { p - v } else { v - p }
-}
-
-fn lesser(x: u32, y: u32) -> u32
-    ensures { Lesser x y result }
-{
-    if y < x { y } else { x }
-}
-
 fn side_of(v: u32) -> Side
     requires { Counted v }
     ensures { (result ≡ side_of v) × Sided result }
@@ -87,28 +76,28 @@ fn seen(u: u32, x: Side, y: Side) -> View
     requires { Sided x × Sided y }
     ensures { Seen u x y result }
 {
-    let o = 4 * x.back + 2 * y.back;
-    if x.far < y.far {
-        return View {
-            u: u,
-            o: o + 1,
-            ahead: 1 - y.back,
-            back: y.back,
-            rise: 19 * (1 - x.back),
-            fall: 19 * x.back,
-            far: y.far,
-            short: x.far,
-        };
-    }
-    View {
-        u: u,
-        o: o,
+    let plain = View {
+        u,
+        o: 4 * x.back + 2 * y.back,
         ahead: 19 * (1 - x.back),
         back: 19 * x.back,
         rise: 1 - y.back,
         fall: y.back,
         far: x.far,
         short: y.far,
+    };
+    if y.far <= x.far {
+        return plain;
+    }
+    View {
+        o: plain.o + 1,
+        ahead: plain.rise,
+        back: plain.fall,
+        rise: plain.ahead,
+        fall: plain.back,
+        far: plain.short,
+        short: plain.far,
+        ..plain
     }
 }
 
@@ -130,9 +119,9 @@ fn column(t: &[u8; 521], s: View, i: u32) -> u32
 {
     let k = round_places::rim(t, s.u, s.o, i);
     let m = k / 16;
-    let e = lesser((s.short + 255) / 512, k % 16);
-    let a = apart(s.far, 512 * m);
-    let b = apart(s.short, 512 * e);
+    let e = ((s.short + 255) / 512).min(k % 16);
+    let a = s.far.abs_diff(512 * m);
+    let b = s.short.abs_diff(512 * e);
     a * a + b * b + number_in(t, s, m, e)
 }
 
@@ -143,10 +132,8 @@ fn outer(t: &[u8; 521], u: u32, x: u32, y: u32) -> u32
 {
     let s = seen(u, side_of(x), side_of(y));
     let mut best = column(t, s, 0);
-    let mut i: u32 = 1;
-    while i < 4 {
-        best = lesser(best, column(t, s, i));
-        i += 1;
+    for i in 1..4 {
+        best = best.min(column(t, s, i));
     }
     best
 }
@@ -172,8 +159,8 @@ fn near_key(t: &[u8; 521], u: u32, x: u32, y: u32) -> u32
     let e = placed(y);
     let w = round_places::number(t, m * 19 + e - 300);
     if w + 2 < 1u32 << u {
-        let a = apart(x, 512 * m);
-        let b = apart(y, 512 * e);
+        let a = x.abs_diff(512 * m);
+        let b = y.abs_diff(512 * e);
         return a * a + b * b + w;
     }
     outer(t, u, x, y)
@@ -184,7 +171,7 @@ fn near_key(t: &[u8; 521], u: u32, x: u32, y: u32) -> u32
 fn are_near(x: u32, y: u32) -> bool
     ensures { result ≡ are_near x y }
 {
-    apart(x, 12160) < 4737 && apart(y, 12160) < 4737
+    x.abs_diff(12160) < 4737 && y.abs_diff(12160) < 4737
 }
 
 // For each label the key, distance plus number, of the point of width u that is nearest to (x, y), the smaller number of equals.
@@ -196,6 +183,7 @@ pub fn nearest_keys(t: &[u8; 521], u: u32, x: i32, y: i32) -> Keys
     let py = counted(y);
     let nx = 24320 - px;
     let ny = 24320 - py;
+    // Two literals, and no function handed to one: `near_key` and `outer` require different things of a count.
     if are_near(px, py) {
         return Keys {
             a: near_key(t, u, px, py),

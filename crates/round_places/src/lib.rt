@@ -8,7 +8,8 @@
 // One table of 521 numbers. First the numbers of the points by place, from the left, each from below. Where none of the 256 stands
 // there are 254 and 255 in turn: at four equal numbers in a row the compiler would take the copying of the table to pieces. Then, for
 // the widths from 5 on, each view and each of four columns, 16 times the column and its last row; where a view has three, the last one
-// twice. Then the coordinates of the first 16 points, counted from 95 below zero. A caller makes it once by `table` and lends it.
+// twice. Then the coordinates of the first 16 points, counted from 95 below zero. A caller makes it once by `table` and lends it: one
+// list, `listed`, as the definitions and theorems have it, so that one borrow serves every search.
 #![tactic(auto)]
 
 ghost use Rattle.std.specs.Prelude.{◌≡◌, ◌<◌, ◌≤◌, get_or, pos, ◌-ℤ◌};
@@ -51,18 +52,12 @@ pub fn table() -> [u8; 521]
     TABLE
 }
 
-fn wide(x: u8) -> u32
-    ensures { result ≡ x }
-{
-    x as u32
-}
-
 // The number at a place of the table.
 pub fn number(t: &[u8; 521], k: u32) -> u32
     requires { (t.now ≡ listed) × (k < 521) }
     ensures { result ≡ get_or listed k 0 }
 {
-    wide(t[k as usize])
+    u32::from(t[k as usize])
 }
 
 // The i-th column of the rim of width u in view o: 16 times the column, and its last row.
@@ -78,8 +73,7 @@ fn uncounted(b: u8) -> i32
     requires { b < 128 }
     ensures { result ≡ pos b -ℤ pos 95 }
 {
-    let v = b as i8 - 95;
-    v as i32
+    i32::from(b as i8 - 95)
 }
 
 // The A point number w, of the first 16.
@@ -87,10 +81,8 @@ pub fn near_point(t: &[u8; 521], w: usize) -> Point
     requires { (t.now ≡ listed) × (w < 16) }
     ensures { result ≡ a_point w }
 {
-    let x = t[489 + w * 2];
-    let y = t[490 + w * 2];
     Point {
-        x: uncounted(x),
-        y: uncounted(y),
+        x: uncounted(t[489 + w * 2]),
+        y: uncounted(t[490 + w * 2]),
     }
 }

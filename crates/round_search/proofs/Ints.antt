@@ -1,7 +1,7 @@
 -- The squared difference of a received coordinate from a point coordinate: as a number, and as the machine computes it. It leans on
 -- the signed numbers of `points` and on the sizes of `distance`.
 --   square_le           a bound on its square
---   cast-r .. square-reads   the machine's steps: each fits, and the last reads as the square
+--   square-fits .. square-reads   the machine's steps: each fits, and the last reads as the square
 --   square-passed       the same of numbers that were passed on to a call
 use mathlib.Core.Path.{◌≡◌, refl, sym, ap, ap₂, subst, ◌∙◌}
 use Prim.Native.Nat.{ℕ, ◌+◌, ◌^◌, ◌≤◌, ◌<◌}
@@ -44,12 +44,6 @@ module _ (r c : ℤ) (g : nat_abs r ≤ 8192) (h : nat_abs c ≤ 39) where
   abbrev b : ℤ
   b = to_z w16 (of_z w16 (to_z w32 (of_z w32 c)))
 
-  pub cast-r : SFits w16 (to_z w32 (of_z w32 r))
-  cast-r = subst (SFits w16) (sym (reads w32 r (omega arith))) (fits w16 r (omega arith))
-
-  pub cast-c : SFits w16 (to_z w32 (of_z w32 c))
-  cast-c = subst (SFits w16) (sym (reads w32 c (omega arith))) (fits w16 c (omega arith))
-
   -- 128 c
   abbrev m : ℤ
   m = pos 128 *ℤ b
@@ -57,7 +51,7 @@ module _ (r c : ℤ) (g : nat_abs r ≤ 8192) (h : nat_abs c ≤ 39) where
   m-is : m ≡ pos 128 *ℤ c
   m-is = ap (λ (z : ℤ). pos 128 *ℤ z) (cast-reads w32 w16 c (omega arith) (omega arith))
 
-  pub scaled_fits : SFits w16 m
+  scaled_fits : SFits w16 m
   scaled_fits = subst (SFits w16) (sym m-is) (fits w16 (pos 128 *ℤ c) (omega (arith, nat_abs-* (pos 128) c)))
 
   -- r - 128 c
@@ -67,33 +61,34 @@ module _ (r c : ℤ) (g : nat_abs r ≤ 8192) (h : nat_abs c ≤ 39) where
   d-is : d ≡ difference r c
   d-is = ap₂ (λ (y z : ℤ). y -ℤ z) (cast-reads w32 w16 r (omega arith) (omega arith)) (to_z-of_z scaled_fits ∙ m-is)
 
-  pub difference-fits : SFits w16 d
+  difference-fits : SFits w16 d
   difference-fits = subst (SFits w16) (sym d-is) (fits w16 (difference r c) (omega (arith, difference-le r c g h)))
 
   d-reads : to_z w16 (of_z w16 d) ≡ difference r c
   d-reads = to_z-of_z difference-fits ∙ d-is
 
-  pub cast-difference : SFits w32 (to_z w16 (of_z w16 d))
+  cast-difference : SFits w32 (to_z w16 (of_z w16 d))
   cast-difference = subst (SFits w32) (sym d-reads) (fits w32 (difference r c) (omega (arith, difference-le r c g h)))
 
-  -- its square
-  abbrev e : ℤ
-  e = to_z w32 (of_z w32 (to_z w16 (of_z w16 d)))
+  -- its square, where z is the difference taken to 32 bits
+  module _ (z : ℤ) (is : z ≡ to_z w16 (of_z w16 d)) where
+    abbrev e : ℤ
+    e = to_z w32 (of_z w32 z)
 
-  s-is : e *ℤ e ≡ pos (square (difference r c))
-  s-is = ap (λ (z : ℤ). z *ℤ z) (to_z-of_z cast-difference ∙ d-reads) ∙ square-is (difference r c)
+    s-is : e *ℤ e ≡ pos (square (difference r c))
+    s-is = ap (λ (z : ℤ). z *ℤ z) (ap (λ (z : ℤ). to_z w32 (of_z w32 z)) is ∙ to_z-of_z cast-difference ∙ d-reads) ∙ square-is (difference r c)
 
-  pub square-fits : SFits w32 (e *ℤ e)
-  square-fits = subst (SFits w32) (sym s-is) (fits w32 (pos (square (difference r c))) (omega (arith, square_le r c g h)))
+    pub square-fits : SFits w32 (e *ℤ e)
+    square-fits = subst (SFits w32) (sym s-is) (fits w32 (pos (square (difference r c))) (omega (arith, square_le r c g h)))
 
-  s_reads : to_z w32 (of_z w32 (e *ℤ e)) ≡ pos (square (difference r c))
-  s_reads = to_z-of_z square-fits ∙ s-is
+    s_reads : to_z w32 (of_z w32 (e *ℤ e)) ≡ pos (square (difference r c))
+    s_reads = to_z-of_z square-fits ∙ s-is
 
-  pub square-cast : T (non_neg (to_z w32 (of_z w32 (e *ℤ e)))) × Fits w32 (nat_abs (to_z w32 (of_z w32 (e *ℤ e))))
-  square-cast = subst (λ (z : ℤ). T (non_neg z) × Fits w32 (nat_abs z)) (sym s_reads) (tt, record { fits = omega (arith, square_le r c g h) })
+    pub square-cast : T (non_neg (to_z w32 (of_z w32 (e *ℤ e)))) × Fits w32 (nat_abs (to_z w32 (of_z w32 (e *ℤ e))))
+    square-cast = subst (λ (z : ℤ). T (non_neg z) × Fits w32 (nat_abs z)) (sym s_reads) (tt, record { fits = omega (arith, square_le r c g h) })
 
-  pub square-reads : nat_abs (to_z w32 (of_z w32 (e *ℤ e))) ≡ square (difference r c)
-  square-reads = ap nat_abs s_reads
+    pub square-reads : nat_abs (to_z w32 (of_z w32 (e *ℤ e))) ≡ square (difference r c)
+    square-reads = ap nat_abs s_reads
 
   -- the squared difference of numbers that were passed on
   pub square-passed : square (difference (to_z w32 (of_z w32 r)) (to_z w32 (of_z w32 c))) ≡ square (difference r c)

@@ -1,5 +1,6 @@
 -- Keys: the least of them is that of the nearest number, the smaller of equals, and gives back number and distance.
 --   turned-keys             the keys of a point's turns, from the received point turned back
+--   min-kept                the smaller of two numbers by the test
 --   first-keys, next_keys   the search starts with number 0, and looks at one number more
 --   near_key u h l           the key of the nearest number of label l
 --   keys-near               the least keys below 2^u are those
@@ -12,6 +13,7 @@ use native.Mathlib.Omega.{arith}
 use borrow.Author.Tests.{lt-ltb, le-ltb}
 use lib.Dec.{ltb}
 use lib.Pow.{pow_pos, pow_mono}
+use Rattle.std.specs.Prelude.{min}
 use Rattle.points.specs.declared.Point.{Point}
 use Rattle.points.specs.Points.{a_point}
 use Rattle.points.specs.Turn.{turned, point_of}
@@ -22,6 +24,13 @@ use Rattle.distance.specs.Distance.{distance}
 use Rattle.round_search.specs.Key.{round_distance, turned_back, lesser_of, lesser_keys, key_of, keys_of, keys_from, least_keys, candidate_of}
 use Rattle.distance.proofs.Rests.{same_rest}
 use Rattle.round_search.proofs.Distances.{back}
+
+pub min-kept : (x y : ℕ) → min x y ≡ lesser_of x y
+min-kept x y = go (dec_lt y x)
+  where
+    go : Dec (y < x) → min x y ≡ lesser_of x y
+    go (yes h) = let e : min x y ≡ y = omega arith in e ∙ sym (ap (λ (b : Bool). keep_n b x y) (lt-ltb y x h))
+    go (no h) = let e : min x y ≡ x = omega arith in e ∙ sym (ap (λ (b : Bool). keep_n b x y) (le-ltb y x (omega arith)))
 
 lesser-self : (x : ℕ) → lesser_of x x ≡ x
 lesser-self x = ap (λ (b : Bool). keep_n b x x) (le-ltb x x (omega arith))

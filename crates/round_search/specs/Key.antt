@@ -14,7 +14,7 @@ use Rattle.points.specs.Turn.{turns, point_of}
 use Rattle.trellis.specs.Pick.{keep_n, least}
 use Rattle.distance.specs.declared.Spot.{Spot}
 use Rattle.round_columns.specs.declared.Keys.{Keys}
-use Rattle.round_search.specs.declared.key.Candidate.{Candidate}
+use Rattle.distance.specs.declared.Candidate.{Candidate}
 use Rattle.distance.specs.Distance.{distance}
 
 unfoldable pub round_distance : Spot → ℕ → ℕ → ℕ

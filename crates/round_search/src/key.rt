@@ -10,19 +10,12 @@ ghost use Rattle.std.specs.Prelude.{◌≡◌, ◌≤◌, ◌<◌, ◌^◌};
 ghost use Rattle.points.specs.Turn.{Small};
 ghost use Rattle.round_places.specs.Places.{listed};
 ghost use Rattle.distance.specs.Distance.{SpotInRange};
-ghost use Rattle.round_search.specs.Key.{keys_from, lesser_of, lesser_keys, least_keys, candidate_of};
+ghost use Rattle.round_search.specs.Key.{keys_from, lesser_keys, least_keys, candidate_of};
 
 use crate::line;
-use distance::Spot;
+use distance::{Candidate, Spot};
 use points::Point;
 use round_columns::Keys;
-
-// What a key is made of: a number and its distance.
-#[derive(Clone, Copy)]
-pub struct Candidate {
-    pub w: u8,
-    pub d: u32,
-}
 
 // The keys of the points that p becomes by no, one, two and three turns, with the number w. The received point is turned
 // back instead.
@@ -41,20 +34,14 @@ fn keys_from(h: Spot, p: Point, w: u32) -> Keys
     }
 }
 
-fn lesser(x: u32, y: u32) -> u32
-    ensures { result ≡ lesser_of x y }
-{
-    if y < x { y } else { x }
-}
-
 fn lesser_keys(x: Keys, y: Keys) -> Keys
     ensures { result ≡ lesser_keys x y }
 {
     Keys {
-        a: lesser(x.a, y.a),
-        c: lesser(x.c, y.c),
-        b: lesser(x.b, y.b),
-        d: lesser(x.d, y.d),
+        a: x.a.min(y.a),
+        c: x.c.min(y.c),
+        b: x.b.min(y.b),
+        d: x.d.min(y.d),
     }
 }
 
@@ -65,10 +52,8 @@ fn least_keys(t: &[u8; 521], h: Spot, n: usize) -> Keys
     ensures { result ≡ least_keys h n }
 {
     let mut best = keys_from(h, round_places::near_point(t, 0), 0);
-    let mut k: usize = 0;
-    while k < n {
+    for k in 0..n {
         best = lesser_keys(best, keys_from(h, round_places::near_point(t, k), k as u32));
-        k += 1;
     }
     best
 }

@@ -24,12 +24,10 @@ pub fn search(t: &[u8; 521], u: u32, h: Spot) -> Found
 {
     let rest = line::distance_from(h, round_places::near_point(t, 0)) % 256;
     let keys = key::keys_below(t, u, h);
-    let a = key::read_off(keys.a, rest);
-    let c = key::read_off(keys.c, rest);
-    let b = key::read_off(keys.b, rest);
-    let d = key::read_off(keys.d, rest);
-    Found {
-        w: [a.w, c.w, b.w, d.w],
-        d: [a.d, c.d, b.d, d.d],
-    }
+    Found::of(
+        key::read_off(keys.a, rest),
+        key::read_off(keys.c, rest),
+        key::read_off(keys.b, rest),
+        key::read_off(keys.d, rest),
+    )
 }

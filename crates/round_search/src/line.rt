@@ -18,7 +18,7 @@ fn squared(r: i32, c: i32) -> u32
 {
     let a = r as i16;
     let b = c as i16;
-    let d = (a - 128 * b) as i32;
+    let d = i32::from(a - 128 * b);
     (d * d) as u32
 }
 

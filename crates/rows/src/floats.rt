@@ -1,7 +1,6 @@
 // The sample rows of 01: what is heard of a float, and the number given back, as digits of one number: a 1 for a minus, then four of the
 // whole number, and the number given back.
 use crate::say;
-use samples::Coordinate;
 use std::io::Stdout;
 
 // A whole number with its sign; 9999 stands for those that no row has.
@@ -17,8 +16,8 @@ fn value(x: i32) -> u64 {
 
 fn heard(v: f32) -> u64 {
     match samples::hear_coordinate(v) {
-        Coordinate::Heard(x) => value(x) << 4,
-        Coordinate::Refused => 5,
+        Some(x) => value(x) << 4,
+        None => 5,
     }
 }
 

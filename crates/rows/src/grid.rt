@@ -5,29 +5,18 @@ ghost use Rattle.std.specs.Prelude.{◌<◌};
 use crate::say;
 use std::io::Stdout;
 
-// A coordinate as four bits; 8 stands for those that no row has.
-fn coordinate(x: i32) -> u64 {
-    match x {
-        1 => 1,
-        3 => 3,
-        -1 => 15,
-        -3 => 13,
-        _ => 8,
-    }
-}
-
 fn point(l: u32, w: u32) -> u64
     requires { (l < 4) × (w < 4) }
 {
     let p = maps::square::point_of(2, l, w);
-    coordinate(p.x) << 4 | coordinate(p.y)
+    say::four_bits(p.x) << 4 | say::four_bits(p.y)
 }
 
 fn row(to: Stdout, l: u32, should: u64)
     requires { l < 4 }
 {
     let is = point(l, 0) << 24 | point(l, 1) << 16 | point(l, 2) << 8 | point(l, 3);
-    say::bits(to, b"label @", l as u64, 2);
+    say::bits(to, b"label @", u64::from(l), 2);
     say::row(to, b"(+,+)(+,+)(+,+)(+,+)", should, is, 32);
 }
 

@@ -10,19 +10,37 @@ pub fn text(to: Stdout, t: &[u8]) {
     let _ = to.write_all(t);
 }
 
-// How many bits are left after a byte of a form.
-fn after(b: u8, left: u32) -> u32
-    requires { left < 64 }
-    ensures { result < 64 }
-{
-    let w = match b {
-        b'0' | b'-' => 1,
-        b'@' => 2,
-        b'#' | b'+' => 4,
-        b'~' => 16,
-        _ => 0,
-    };
-    if w <= left { left - w } else { left }
+// What a byte of a form stands for, where it is a hole.
+#[derive(Clone, Copy)]
+enum Hole {
+    Bit,
+    Label,
+    Count,
+    Large,
+    Minus,
+    Coordinate,
+}
+
+fn hole_of(b: u8) -> Option<Hole> {
+    match b {
+        b'0' => Some(Hole::Bit),
+        b'@' => Some(Hole::Label),
+        b'#' => Some(Hole::Count),
+        b'~' => Some(Hole::Large),
+        b'-' => Some(Hole::Minus),
+        b'+' => Some(Hole::Coordinate),
+        _ => None,
+    }
+}
+
+// How many bits fill it.
+fn width(hole: Hole) -> u32 {
+    match hole {
+        Hole::Bit | Hole::Minus => 1,
+        Hole::Label => 2,
+        Hole::Count | Hole::Coordinate => 4,
+        Hole::Large => 16,
+    }
 }
 
 fn letter(label: u64) -> u8 {
@@ -43,16 +61,15 @@ pub fn count(to: Stdout, n: u64) {
     let _ = to.print(n);
 }
 
-// A byte of a form that stands for the low bits of n.
-fn hole(to: Stdout, b: u8, n: u64) {
-    match b {
-        b'0' => count(to, n & 1),
-        b'@' => byte(to, letter(n & 3)),
-        b'#' => count(to, n & 15),
-        b'+' => coordinate(to, n & 15),
-        b'~' => count(to, n & 65535),
-        b'-' => minus(to, n & 1),
-        _ => byte(to, b),
+// Fills a hole from the low bits of n.
+fn fill(to: Stdout, hole: Hole, n: u64) {
+    match hole {
+        Hole::Bit => count(to, n & 1),
+        Hole::Label => byte(to, letter(n & 3)),
+        Hole::Count => count(to, n & 15),
+        Hole::Large => count(to, n & 65535),
+        Hole::Minus => minus(to, n & 1),
+        Hole::Coordinate => coordinate(to, n & 15),
     }
 }
 
@@ -71,14 +88,31 @@ fn coordinate(to: Stdout, n: u64) {
     }
 }
 
+// A coordinate as the four bits of a `+`; 8 stands for those that no row has.
+pub fn four_bits(x: i32) -> u64 {
+    match x {
+        0 => 0,
+        1 => 1,
+        3 => 3,
+        -1 => 15,
+        -3 => 13,
+        _ => 8,
+    }
+}
+
 // A form filled with the lowest k bits of n.
 pub fn bits(to: Stdout, form: &[u8], n: u64, k: u32)
     requires { k < 64 }
 {
     let mut left = k;
-    for b in form {
-        left = after(*b, left);
-        hole(to, *b, n >> left);
+    for &b in form {
+        match hole_of(b) {
+            Some(hole) => {
+                left = left.saturating_sub(width(hole));
+                fill(to, hole, n >> left);
+            }
+            None => byte(to, b),
+        }
     }
 }
 

@@ -56,12 +56,12 @@ fn bit(n: u32, k: u32) -> u32
     requires { k < 32 }
     ensures { result < 2 }
 {
-    if (n >> k) & 1 == 1 { 1 } else { 0 }
+    (n >> k) & 1
 }
 
 // The two labels in one number.
 fn pair(first: u32, second: u32) -> u64 {
-    (first as u64) << 2 | second as u64
+    u64::from(first) << 2 | u64::from(second)
 }
 
 // The labels of row r by the rule modulo 4, and in the four bits below them those of the table of types.
@@ -83,17 +83,18 @@ fn labels(to: Stdout, r: u32)
     say::bits(
         to,
         b"bits 0000  should be @,@  by rule @,@  by table @,@",
-        (r as u64) << 12 | should << 8 | is,
+        u64::from(r) << 12 | should << 8 | is,
         16,
     );
     say::verdict(to, is == (should << 4 | should));
 }
 
-// The row of a state: what should be and what is have k bits each.
+// The row of a state: what should be and what is have k bits each. What the two tables of states differ in, the form, the rows and what
+// is asked of `wei`, is all that stands below.
 fn row(to: Stdout, form: &[u8], s: u32, should: u64, is: u64, k: u32)
     requires { k < 30 }
 {
-    say::bits(to, form, ((s as u64) << k | should) << k | is, 4 + 2 * k);
+    say::bits(to, form, (u64::from(s) << k | should) << k | is, 4 + 2 * k);
     say::verdict(to, is == should);
 }
 
@@ -101,7 +102,7 @@ fn row(to: Stdout, form: &[u8], s: u32, should: u64, is: u64, k: u32)
 fn next(s: u32, i1: u32, i2: u32) -> u64
     requires { (s < 16) × (i1 < 2) × (i2 < 2) }
 {
-    wei::state::next(s, i1, i2) as u64
+    u64::from(wei::state::next(s, i1, i2))
 }
 
 fn next_states(to: Stdout, s: u32)
@@ -124,7 +125,7 @@ fn step(t: u32, k: u32) -> u64
 {
     let s = wei::state::before_state(t, k);
     let c = wei::state::subset_between(s, t);
-    (s as u64) << 3 | c as u64
+    u64::from(s) << 3 | u64::from(c)
 }
 
 fn states_before(to: Stdout, t: u32)
@@ -141,32 +142,26 @@ fn states_before(to: Stdout, t: u32)
     );
 }
 
-// The sixteen rows of a table: that of the labels, of the next states, or else of the states before.
-fn rows(to: Stdout, title: &[u8], table: u32) {
-    say::text(to, title);
-    for r in 0..16 {
-        match table {
-            2 => labels(to, r),
-            5 => next_states(to, r),
-            _ => states_before(to, r),
-        }
-    }
-}
-
 pub fn all(to: Stdout) {
-    rows(
+    say::text(
         to,
         b"Table IV-2: the labels of the two points, by the bits Y0 I1 I2' I3'\n",
-        2,
     );
-    rows(
+    for r in 0..16 {
+        labels(to, r);
+    }
+    say::text(
         to,
         b"\nTable IV-5: the next states at I1 I2' = 00, 01, 10, 11\n",
-        5,
     );
-    rows(
+    for s in 0..16 {
+        next_states(to, s);
+    }
+    say::text(
         to,
         b"\nTable IV-6, row 1110 repaired: the states before a state, and the subset Y0 I1 I2' of the step\n",
-        6,
     );
+    for t in 0..16 {
+        states_before(to, t);
+    }
 }

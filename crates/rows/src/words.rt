@@ -7,49 +7,33 @@ use std::io::Stdout;
 fn fresh(u: u32) -> Sender {
     let r = sender::open_sender(points::Accord {
         map: points::Map::Round,
-        u: u,
+        u,
     });
     r.sender
 }
 
-// A coordinate as four bits; 8 stands for those that no row has.
-fn coordinate(x: i32) -> u64 {
-    match x {
-        0 => 0,
-        1 => 1,
-        -1 => 15,
-        -3 => 13,
-        _ => 8,
-    }
-}
-
 fn points(out: [i32; 4]) -> u64 {
-    coordinate(out[0]) << 12
-        | coordinate(out[1]) << 8
-        | coordinate(out[2]) << 4
-        | coordinate(out[3])
+    out.iter().fold(0, |n, x| n << 4 | say::four_bits(*x))
 }
 
 fn asked(to: Stdout, u: u32, word: u32) {
-    say::bits(to, b"u # word ", u as u64, 4);
-    say::count(to, word as u64);
+    say::bits(to, b"u # word ", u64::from(u), 4);
+    say::count(to, u64::from(word));
 }
 
 // Sends a word into four zeros, prints the row, and gives the sender after it.
 fn row(to: Stdout, s: Sender, word: u32, should: u64) -> Sender {
     let mut out = [0i32; 4];
     let r = sender::send(s, word, &mut out);
-    let next = r.sender;
-    let why = r.why;
     asked(to, s.accord.u, word);
     say::row(
         to,
         b"(+,+)(+,+) state 0000 number #",
         should,
-        points(out) << 8 | (next.state as u64) << 4 | sender::number(why) as u64,
+        points(out) << 8 | u64::from(r.sender.state) << 4 | u64::from(sender::number(r.why)),
         24,
     );
-    next
+    r.sender
 }
 
 pub fn all(to: Stdout) {

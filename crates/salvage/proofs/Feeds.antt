@@ -2,18 +2,17 @@
 --   Both, minds b rs, wrotes b rs   state and counts after some records, and what is written for them
 --   feedings-follow, outs-follow    what bytes do: the frame after them, and the records that became whole
 --   feedings-append, outs-append    bytes in two lumps are the bytes in one
---   settles-no, settles-yes         the record of a frame, by the code's test
---   test-taken, test-left           the test of the loop over a lump
+--   settles-yes                     the record of a frame that is whole
 --   Going ..                        so far in a lump: what is held, and what the page has
---   going-none, going_on, going_done   the loop over a lump
+--   going-none, going_on            the loop over a lump
 --   feeds-some, feeds-settled       a page of 335 bytes takes a byte; any two results are equal
 use mathlib.Core.Path.{◌≡◌, refl, sym, ap, ap₂, subst, ◌∙◌}
-use mathlib.Core.Bool.{Bool, true, false, ◌&&◌}
+use mathlib.Core.Bool.{Bool, true, false}
 use mathlib.Core.List.{List, [], ◌∷◌, ◌++◌, append_assoc, append-nil}
 use Prim.Native.Nat.{ℕ, zero, suc, ◌+◌, ◌-◌, ◌≤◌, ◌<◌}
 use native.Mathlib.Omega.{arith}
-use borrow.Author.Tests.{ltb-true, ltb-false, lt-ltb, leb-true, leb-false}
-use lib.Dec.{ltb, leb}
+use borrow.Author.Tests.{ltb-true, ltb-false}
+use lib.Dec.{ltb}
 use lib.ListN.{length, take, drop, length-append, length-drop}
 use lib.Seq.{take-add}
 use Rattle.records.specs.declared.Stage.{Stage}
@@ -21,7 +20,6 @@ use Rattle.records.specs.declared.Stage.TheVariants.{Fresh, Part, Whole, Bad}
 use Rattle.records.specs.declared.Frame.{Frame}
 use Rattle.records.specs.Values.{Entry, entry, bytes_of}
 use Rattle.records.specs.Frames.{pushed, entry_of, Read, following, ended}
-use Rattle.records.proofs.Fits.{both_true}
 use Rattle.record_fill.specs.Runs.{Advances}
 use Rattle.record_fill.proofs.Gathers.{run_none}
 use Rattle.record_write.specs.Front.{space_of}
@@ -126,22 +124,11 @@ outs-append h (x ∷ xs) ys =
 -- ---- the record that they made whole
 
 module _ (s : State) (t : Tally) (f : Frame) (m : Minded) where
-  pub settles-no : is_whole f.stage ≡ false → m ≡ record { state = s; tally = t; writes = false } → m ≡ settled (is_whole f.stage) s t (entry_of f)
-  unfolding settled
-  settles-no e z = rw e z
-
   pub settles-yes : is_whole f.stage ≡ true → m ≡ minded s t (entry f.kind f.body) → m ≡ settled (is_whole f.stage) s t (entry_of f)
   unfolding settled
   settles-yes e z = rw e (z ∙ minded-own s t f.kind f.body)
 
 -- ---- the loop
-
-module _ (i n k : ℕ) where
-  pub test-taken : (ltb i n && leb 335 k) ≡ true → (i < n) × (335 ≤ k)
-  test-taken e = let b = both_true (ltb i n) (leb 335 k) e in (ltb-true i n b.0, leb-true 335 k b.1)
-
-  pub test-left : (ltb i n && leb 335 k) ≡ false → i < n → k < 335
-  test-left e h = leb-false 335 k (rw (lt-ltb i n h) at e)
 
 pub record Going (h₀ : Held) (bs page₀ : List ℕ) (h : Held) (page : List ℕ) (i at : ℕ) : Type 0 where
   pub few : i ≤ length bs
@@ -160,9 +147,6 @@ module _ (h₀ : Held) (bs page₀ : List ℕ) (h : Held) (page : List ℕ) (i a
   going-long =
       let text = bytes_of (outs h₀ (take i bs)) in
       ap length g.wrote.said ∙ length-append text (drop at page₀) ∙ omega (arith, length-drop at page₀, g.wrote.next, g.fits)
-
-  pub going_done : (i < length bs → length page₀ < at + 335) → Feeds h₀ bs page₀ h i at page
-  going_done s = record { few = g.few; held = g.held; wrote = g.wrote; fits = g.fits; room = g.room; stops = s }
 
   -- one run of bytes more, and the record that they made whole
   module _ (l : i < length bs) (free : at + 335 ≤ length page₀) (f₁ : Frame) (n : ℕ) (a : Advances h.frame (drop i bs) f₁ n) where

@@ -2,11 +2,10 @@
 --   left-length                         how many words have no old one against them
 --   minded-off, minded-word, minded-run   after a refusal; an old word; any other record
 --   minded-own                          a record's values stand in its own bytes: what lies behind them in the frame makes no difference
---   off-is, word-is, run_is, ran-is             the same by the code's tests
---   against-none, against-word          an old word where none belongs, and where one does
-use mathlib.Core.Path.{◌≡◌, refl, sym, ap, ◌∙◌}
+--   ran-is                              the last by what the code has in hand
+use mathlib.Core.Path.{◌≡◌, refl, ap, ◌∙◌}
 use mathlib.Core.Bool.{Bool, true, false, cond}
-use mathlib.Core.List.{List, [], ◌∷◌}
+use mathlib.Core.List.{List}
 use Prim.Native.Nat.{ℕ, ◌+◌, ◌-◌, ◌<◌, min}
 use native.Mathlib.Omega.{arith}
 use lib.ListN.{get_or, length, take, length-take, length-drop}
@@ -15,15 +14,13 @@ use Rattle.records.specs.Kinds.{kind_of}
 use Rattle.records.specs.Values.{Entry, entry, word_of}
 use Rattle.records.specs.Frames.{capped}
 use Rattle.replay_judge.specs.declared.Judge.{Judge}
-use Rattle.replay_judge.specs.declared.Due.TheVariants.{None, Word as Next}
-use Rattle.replay_judge.specs.Judging.{State, state_of, left, left_of, first_due, took}
+use Rattle.replay_judge.specs.Judging.{State, state_of, left, left_of, took}
 use Rattle.replay.specs.Meaning.{agreed}
 use Rattle.replay.proofs.Own.{took-own}
 use Rattle.salvage_meaning.specs.Salvage.{is_word}
 use Rattle.salvage_meaning.proofs.Same.{word_size}
 use Rattle.salvage.specs.declared.record.Tally.{Tally}
-use Rattle.salvage.specs.declared.record.Outcome.{Outcome}
-use Rattle.salvage.specs.Taking.{waiting_for, waiting_state, counts, unless_same, moved_on, set_against, Minded, minded_of, worded, tally_ran, ran, minded}
+use Rattle.salvage.specs.Taking.{waiting_for, waiting_state, counts, Minded, minded_of, worded, tally_ran, ran, minded}
 
 -- ---- the words that belong there
 
@@ -83,17 +80,6 @@ module _ (j : Judge) (t : Tally) (k : ℕ) (body sums registers picks due : List
   abbrev s : State
   s = state_of j sums registers picks due
 
-  pub off-is : agreed j.verdict ≡ false → minded_of (record { judge = j; tally = t; writes = false }) sums registers picks due ≡ minded s t (entry k body)
-  off-is e = sym (minded-off s t (entry k body) e)
-
-  pub word-is : agreed j.verdict ≡ true → is_word (entry k body) ≡ true → (g : ℕ) → g ≡ word_of body → (q : Outcome) → q ≡ set_against j t g (left_of s)
-      → minded_of q sums registers picks due ≡ minded s t (entry k body)
-  unfolding set_against
-  word-is e h g z q w = rw (w, z) (sym (minded-word s t (entry k body) e h))
-
-  pub run_is : agreed j.verdict ≡ true → is_word (entry k body) ≡ false → (m : Minded) → m ≡ ran s t (entry k body) → m ≡ minded s t (entry k body)
-  run_is e h m z = z ∙ sym (minded-run s t (entry k body) e h)
-
   module _ (wait next : Judge) (sums₁ registers₁ picks₁ due₁ : List ℕ) (w : wait ≡ waiting_for j)
       (n : state_of next sums₁ registers₁ picks₁ due₁ ≡ took (state_of wait sums registers picks due) (entry k body)) where
     abbrev after : State → Minded
@@ -104,21 +90,3 @@ module _ (j : Judge) (t : Tally) (k : ℕ) (body sums registers picks due : List
         → minded_of (record { judge = next; tally = counts t.replaced added t.removed kept; writes = b }) sums₁ registers₁ picks₁ due₁ ≡ ran s t (entry k body)
     unfolding ran
     ran-is few added kept b f a v z = rw (z, v, a, f) (ap after (n ∙ ap (λ (x : Judge). took (state_of x sums registers picks due) (entry k body)) w))
-
--- ---- an old word
-
-next-none : (n : ℕ) → Next n ≡ None → ⊥
-next-none n e = let z : ◌≡◌ {A = ℕ} 0 1 = cc in omega arith
-
-module _ (j : Judge) (t : Tally) (g k : ℕ) (kept : k ≡ capped (t.kept + 5)) (q : Outcome) where
-  pub against-none : (l : List ℕ) → first_due l ≡ None → (m : ℕ) → m ≡ capped (t.removed + 1)
-      → q ≡ moved_on j j.shown (counts t.replaced t.added m k) → q ≡ set_against j t g l
-  unfolding first_due set_against
-  against-none [] e m r z = z ∙ rw (kept, r)
-  against-none (x ∷ l) e m r z = absurd (next-none x e)
-
-  pub against-word : (l : List ℕ) (h : ℕ) → first_due l ≡ Next h → (n : ℕ) → n ≡ unless_same g h t.replaced
-      → q ≡ moved_on j (j.shown + 1) (counts n t.added t.removed k) → q ≡ set_against j t g l
-  unfolding first_due set_against
-  against-word [] h e n r z = absurd (next-none h (sym e))
-  against-word (x ∷ l) h e n r z = let y : x ≡ h = cc in z ∙ rw (kept, r, y)

@@ -71,6 +71,7 @@ pub fn start() -> Salvage
 }
 
 // The frame's record is taken if it has just become whole.
+#[tactic(auto, unfolding(crate::specs::Working::settled))]
 fn settle(
     frame: Frame,
     j: Judge,
@@ -83,16 +84,14 @@ fn settle(
     ensures { minded_of result sums.new registers.new picks.new due.new
         ≡ settled (is_whole frame.stage) (state_of j sums.old registers.old picks.old due.old) t (entry_of frame) }
 {
-    let stage = frame.stage;
-    if !replay::is_whole(stage) {
+    if !replay::is_whole(frame.stage) {
         return Outcome {
             judge: j,
             tally: t,
             writes: false,
         };
     }
-    let body = frame.body;
-    record::take(j, t, frame.kind, body, sums, registers, picks, due)
+    record::take(j, t, frame.kind, frame.body, sums, registers, picks, due)
 }
 
 // The bytes of a frame's record.
@@ -102,10 +101,8 @@ fn put_own(frame: Frame, page: &mut [u8], at: usize) -> usize
     ensures upper_bound { result ≤ at + 10 }
 {
     let kind = records::kind_of(frame.kind);
-    let body = frame.body;
-    let size = kind.size;
     let p = page::put_byte(page, at, frame.kind);
-    page::put_text(page, p, &body[..size])
+    page::put_text(page, p, &frame.body[..kind.size])
 }
 
 // What stands to be written, if anything does: the frame's record, and the words that belong there.
@@ -118,7 +115,7 @@ fn put(writes: bool, frame: Frame, given: usize, due: &[u32], page: &mut [u8], a
         return at;
     }
     let p = put_own(frame, page, at);
-    let n = record_fill::least(given, due.len());
+    let n = given.min(due.len());
     record_write::put_words(&due[..n], &mut page[p..]);
     p + 5 * n
 }
@@ -139,29 +136,27 @@ fn feed_lent(
     ensures { Feeds (held_of frame judge tally sums.old registers.old picks.old due.old) bytes.now page.old
         (held_of result.frame result.judge result.tally sums.new registers.new picks.new due.new) result.used result.size page.new }
 {
-    let mut f = frame;
-    let mut j = judge;
-    let mut t = tally;
-    let mut i: usize = 0;
-    let mut at: usize = 0;
-    while (i < bytes.len()) & (335 <= page.len() - at) {
-        let m = record_fill::advance(f, bytes, i);
-        let next = m.frame;
-        f = next;
-        let turn = settle(f, j, t, sums, registers, picks, due);
-        let after = turn.judge;
-        let counts = turn.tally;
-        j = after;
-        t = counts;
-        at = put(turn.writes, f, j.given, due, page, at);
-        i += m.count;
+    let mut frame = frame;
+    let mut judge = judge;
+    let mut tally = tally;
+    let mut used = 0;
+    let mut size = 0;
+    // A round takes as many bytes as the frame does, so there is no step for a `for`.
+    while used < bytes.len() && 335 <= page.len() - size {
+        let m = record_fill::advance(frame, bytes, used);
+        frame = m.frame;
+        let turn = settle(frame, judge, tally, sums, registers, picks, due);
+        judge = turn.judge;
+        tally = turn.tally;
+        size = put(turn.writes, frame, judge.given, due, page, size);
+        used += m.count;
     }
     Lent {
-        frame: f,
-        judge: j,
-        tally: t,
-        used: i,
-        size: at,
+        frame,
+        judge,
+        tally,
+        used,
+        size,
     }
 }
 
@@ -169,63 +164,43 @@ fn feed_lent(
 pub fn feed(s: Salvage, bytes: &[u8], page: &mut [u8]) -> Fed
     ensures { Feeds (salvage_at s) bytes.now page.old (salvage_at result.salvage) result.used result.size page.new }
 {
-    let r = s.replay;
-    let frame = r.frame;
-    let judge = r.judge;
-    let tally = s.tally;
-    let mut sums = r.sums;
-    let mut registers = r.registers;
-    let mut picks = r.picks;
-    let mut due = r.due;
-    let f = feed_lent(
+    let mut r = s.replay;
+    let Lent {
         frame,
         judge,
         tally,
+        used,
+        size,
+    } = feed_lent(
+        r.frame,
+        r.judge,
+        s.tally,
         bytes,
-        &mut sums,
-        &mut registers,
-        &mut picks,
-        &mut due,
+        &mut r.sums,
+        &mut r.registers,
+        &mut r.picks,
+        &mut r.due,
         page,
     );
-    let after = f.frame;
-    let found = f.judge;
-    let counts = f.tally;
     Fed {
         salvage: Salvage {
-            replay: Replay {
-                frame: after,
-                judge: found,
-                sums: sums,
-                registers: registers,
-                picks: picks,
-                due: due,
-            },
-            tally: counts,
+            replay: Replay { frame, judge, ..r },
+            tally,
         },
-        used: f.used,
-        size: f.size,
+        used,
+        size,
     }
-}
-
-fn less(a: u64, b: u64) -> u64
-    ensures { result ≡ a - b }
-{
-    if b < a { a - b } else { 0 }
 }
 
 // What was changed, where the input ends after `fed` bytes.
 pub fn end(s: Salvage, fed: u64) -> Changes
     ensures { result ≡ end_of (salvage_at s) fed }
 {
-    let r = s.replay;
-    let due = r.due;
-    let judge = r.judge;
-    let tally = s.tally;
+    let Salvage { replay, tally } = s;
     Changes {
         replaced: tally.replaced,
-        added: record_fill::fed_on(tally.added, record::missed(judge, &due)),
+        added: record_fill::fed_on(tally.added, record::missed(replay.judge, &replay.due)),
         removed: tally.removed,
-        cut: less(fed, tally.kept),
+        cut: fed.saturating_sub(tally.kept),
     }
 }

@@ -12,7 +12,7 @@ ghost use Rattle.salvage_meaning.specs.Salvage.{is_word_role};
 ghost use Rattle.salvage.specs.Taking.{waiting_for, unless_same, moved_on, set_against, minded_of, ran, minded};
 
 use records::Role;
-use replay_judge::{Due, Judge, Verdict};
+use replay_judge::{Judge, Verdict};
 
 // The words changed so far, and how many bytes the records kept have.
 #[derive(Clone, Copy)]
@@ -23,7 +23,8 @@ pub struct Tally {
     pub kept: u64,
 }
 
-// After a record: the judge, the counts, and whether the record is to be written, with the words that belong there.
+// After a record: the judge, the counts, and whether the record is to be written, with the words that belong there. The judge and the counts are
+// there whether it is or not.
 #[derive(Clone, Copy)]
 pub struct Outcome {
     pub judge: Judge,
@@ -35,23 +36,19 @@ pub struct Outcome {
 pub fn missed(j: Judge, due: &[u32]) -> usize
     ensures { result ≡ length (left j.shown j.given due.now) }
 {
-    let shown = j.shown;
-    let end = record_fill::least(j.given, due.len());
-    if shown < end { end - shown } else { 0 }
+    j.given.min(due.len()).saturating_sub(j.shown)
 }
 
 // A judge to which no word is due, before its first record.
 fn waiting(j: Judge) -> Judge
     ensures { result ≡ waiting_for j }
 {
-    let core = j.core;
     Judge {
-        live: j.live,
-        core: core,
         given: 0,
         shown: 0,
         records: 0,
         verdict: Verdict::Agree(0),
+        ..j
     }
 }
 
@@ -59,18 +56,9 @@ fn waiting(j: Judge) -> Judge
 fn moved_on(j: Judge, shown: usize, tally: Tally) -> Outcome
     ensures { result ≡ moved_on j shown tally }
 {
-    let core = j.core;
-    let verdict = j.verdict;
     Outcome {
-        judge: Judge {
-            live: j.live,
-            core: core,
-            given: j.given,
-            shown: shown,
-            records: j.records,
-            verdict: verdict,
-        },
-        tally: tally,
+        judge: Judge { shown, ..j },
+        tally,
         writes: false,
     }
 }
@@ -78,45 +66,35 @@ fn moved_on(j: Judge, shown: usize, tally: Tally) -> Outcome
 fn is_word(role: Role) -> bool
     ensures { result ≡ is_word_role role }
 {
-    match role {
-        Role::Open => false,
-        Role::Symbol => false,
-        Role::Word => true,
-        Role::Finish => false,
-        Role::Unknown => false,
-    }
+    matches!(role, Role::Word)
 }
 
 // One more, unless both words are the same.
 fn unless_same(g: u32, h: u32, n: u64) -> u64
     ensures { result ≡ unless_same g h n }
 {
-    if g == h {
-        return n;
-    }
-    records::counted(n)
+    if g == h { n } else { records::counted(n) }
 }
 
 // The old word g.
+#[tactic(auto, unfolding(replay_judge::specs::Judging::first_due, crate::specs::Taking::set_against))]
 fn take_word(j: Judge, t: Tally, g: u32, due: &[u32]) -> Outcome
     ensures { result ≡ set_against j t g (left j.shown j.given due.now) }
 {
-    let kept = record_fill::fed_on(t.kept, 5);
-    let d = replay_judge::next_due(j, due);
-    let Due::Word(h) = d else {
+    let t = Tally {
+        kept: record_fill::fed_on(t.kept, 5),
+        ..t
+    };
+    let Some(h) = replay_judge::next_due(j, due) else {
         let tally = Tally {
-            replaced: t.replaced,
-            added: t.added,
             removed: records::counted(t.removed),
-            kept: kept,
+            ..t
         };
         return moved_on(j, j.shown, tally);
     };
     let tally = Tally {
         replaced: unless_same(g, h, t.replaced),
-        added: t.added,
-        removed: t.removed,
-        kept: kept,
+        ..t
     };
     moved_on(j, j.shown + 1, tally)
 }
@@ -128,8 +106,7 @@ fn more_kept(kept: u64, k: u8, taken: bool) -> u64
     if !taken {
         return kept;
     }
-    let kind = records::kind_of(k);
-    record_fill::fed_on(kept, 1 + kind.size)
+    record_fill::fed_on(kept, 1 + records::kind_of(k).size)
 }
 
 // The receiver is run on a record that is no word.
@@ -147,22 +124,21 @@ fn run(
         ≡ ran (state_of j sums.old registers.old picks.old due.old) t (entry k body) }
 {
     let added = record_fill::fed_on(t.added, missed(j, due));
-    let next = replay::record::take(waiting(j), k, body, sums, registers, picks, due);
-    let verdict = next.verdict;
-    let is_taken = replay::is_agreed(verdict);
+    let judge = replay::record::take(waiting(j), k, body, sums, registers, picks, due);
+    let writes = replay::is_agreed(judge.verdict);
     Outcome {
-        judge: next,
+        judge,
         tally: Tally {
-            replaced: t.replaced,
-            added: added,
-            removed: t.removed,
-            kept: more_kept(t.kept, k, is_taken),
+            added,
+            kept: more_kept(t.kept, k, writes),
+            ..t
         },
-        writes: is_taken,
+        writes,
     }
 }
 
 // A record of the kind k.
+#[tactic(auto, unfolding(crate::specs::Taking::minded, crate::specs::Taking::set_against))]
 pub fn take(
     j: Judge,
     t: Tally,
@@ -176,17 +152,14 @@ pub fn take(
     ensures { minded_of result sums.new registers.new picks.new due.new
         ≡ minded (state_of j sums.old registers.old picks.old due.old) t (entry k body) }
 {
-    let verdict = j.verdict;
-    if !replay::is_agreed(verdict) {
+    if !replay::is_agreed(j.verdict) {
         return Outcome {
             judge: j,
             tally: t,
             writes: false,
         };
     }
-    let kind = records::kind_of(k);
-    let role = kind.role;
-    if is_word(role) {
+    if is_word(records::kind_of(k).role) {
         let g = records::number(body[0], body[1], body[2], body[3]);
         return take_word(j, t, g, due);
     }

@@ -6,7 +6,7 @@
 // it is, stays as it was. OUT.part is made anew or not at all, so of two salvages to one OUT the second is refused.
 #![tactic(auto)]
 
-ghost use Rattle.std.specs.Prelude.{◌≡◌, true, ◌+◌, ◌≤◌, length};
+ghost use Rattle.std.specs.Prelude.{◌≡◌, ◌+◌, ◌≤◌, IfSome, length};
 ghost use Rattle.salvage.specs.Working.{feedings, salvage_at};
 
 use edge::Streams;
@@ -15,14 +15,12 @@ use std::fs::{Files, OpenFile, OpenOptions};
 use std::io::{Error, ErrorKind, Read, Write};
 use std::{fs, str};
 
-// The salvage so far, how many bytes have come, whether anything was written, whether to read on, and whether all went well.
+// The salvage so far, how many bytes have come, and whether anything was written: a flag, since no value goes with it.
 #[derive(Clone, Copy)]
 struct Progress {
     salvage: Salvage,
     fed: u64,
     some: bool,
-    on: bool,
-    fine: bool,
 }
 
 // What failed with a file, by the name it has.
@@ -31,147 +29,96 @@ fn tell(to: Streams, path: &str, why: Error) {
     edge::tell(to, path.as_bytes(), why);
 }
 
-// Hands the front of the page to `write`.
-fn flush<W: Write>(file: &mut W, to: Streams, page: &[u8], size: usize) -> bool
-    requires { size ≤ length page.now }
-{
-    match file.write_all(&page[..size]) {
+// Whether it went well. Where it did not, that is told.
+fn went(to: Streams, path: &str, done: Result<(), Error>) -> bool {
+    match done {
         Ok(()) => true,
         Err(why) => {
-            edge::tell(to, b"capture: write", why);
+            tell(to, path, why);
             false
         }
     }
 }
 
-// Bytes that were read: page after page of what they give.
-fn hear<W: Write>(file: &mut W, to: Streams, t: Progress, bytes: &[u8], page: &mut [u8]) -> Progress
-    requires { 335 ≤ length page.old }
-    ensures { result.fine ≡ true → salvage_at result.salvage ≡ feedings (salvage_at t.salvage) bytes.now }
-{
-    let mut s = t.salvage;
-    let mut some = t.some;
-    let mut fine = true;
-    let mut i: usize = 0;
-    while (i < bytes.len()) & fine {
-        let f = salvage::feed(s, &bytes[i..], page);
-        let next = f.salvage;
-        s = next;
-        some = some | (0 < f.size);
-        fine = flush(file, to, page, f.size);
-        i += f.used;
-    }
-    Progress {
-        salvage: s,
-        fed: t.fed,
-        some: some,
-        on: fine,
-        fine: fine,
-    }
-}
-
-// There is nothing more to read.
-fn stopped(t: Progress, fine: bool) -> Progress {
-    let s = t.salvage;
-    Progress {
-        salvage: s,
-        fed: t.fed,
-        some: t.some,
-        on: false,
-        fine: fine,
-    }
-}
-
-// So many bytes more have come.
-fn fed_on(t: Progress, n: usize) -> Progress {
-    let s = t.salvage;
-    Progress {
-        salvage: s,
-        fed: record_fill::fed_on(t.fed, n),
-        some: t.some,
-        on: t.on,
-        fine: t.fine,
-    }
-}
-
-// Once nothing more is kept, bytes are counted and not looked at.
-fn is_over(t: Progress) -> bool {
-    let s = t.salvage;
-    let r = s.replay;
-    let frame = r.frame;
-    let judge = r.judge;
-    replay::found(frame, judge)
-}
-
-// One read.
-fn read_once<R: Read, W: Write>(
-    from: &mut R,
+// Bytes that were read: page after page of what they give to `write`. Where that fails there is no more progress.
+fn hear<W: Write>(
     file: &mut W,
     to: Streams,
     t: Progress,
-    chunk: &mut [u8],
+    bytes: &[u8],
     page: &mut [u8],
-) -> Progress
+) -> Option<Progress>
     requires { 335 ≤ length page.old }
+    ensures { IfSome result (λ r. salvage_at r.salvage ≡ feedings (salvage_at t.salvage) bytes.now) }
 {
-    let got = edge::read(from, chunk, to, b"capture: read");
-    if got <= 0 {
-        return stopped(t, got == 0);
+    // What changes in the loop, and no more of it.
+    let mut salvage = t.salvage;
+    let mut some = t.some;
+    let mut i = 0;
+    // A round takes as many bytes as the page had room for, so there is no step for a `for`.
+    while i < bytes.len() {
+        let f = salvage::feed(salvage, &bytes[i..], page);
+        if !went(to, "write", file.write_all(&page[..f.size])) {
+            return None;
+        }
+        salvage = f.salvage;
+        some = some || 0 < f.size;
+        i += f.used;
     }
-    let n = io::count(got, chunk);
-    let now = fed_on(t, n);
-    if is_over(now) {
-        return now;
-    }
-    hear(file, to, now, &chunk[..n], page)
+    Some(Progress { salvage, some, ..t })
 }
 
-// All that the reader has, salvaged to the file. A proved loop has to end, and nothing says that the input does: the passes are
-// counted down from a number that no run uses up.
-fn salvage_all<R: Read, W: Write>(from: &mut R, file: &mut W, to: Streams) -> Progress {
+// Once nothing more is kept, bytes are counted and not looked at.
+fn is_over(s: Salvage) -> bool {
+    replay::found(s.replay.frame, s.replay.judge)
+}
+
+// A chunk more.
+fn grown<W: Write>(
+    file: &mut W,
+    to: Streams,
+    t: Progress,
+    bytes: &[u8],
+    page: &mut [u8],
+) -> Option<Progress>
+    requires { 335 ≤ length page.old }
+{
+    let now = Progress {
+        fed: record_fill::fed_on(t.fed, bytes.len()),
+        ..t
+    };
+    if is_over(now.salvage) {
+        return Some(now);
+    }
+    hear(file, to, now, bytes, page)
+}
+
+// All that the reader has, salvaged to the file, if nothing fails.
+fn salvage_all<R: Read, W: Write>(from: &mut R, file: &mut W, to: Streams) -> Option<Progress> {
     let mut chunk = [0u8; 65536];
     let mut page = [0u8; 65536];
-    let mut now = Progress {
+    let first = Progress {
         salvage: salvage::start(),
         fed: 0,
         some: false,
-        on: true,
-        fine: true,
     };
-    let mut passes = u64::MAX;
-    while passes > 0 && now.on {
-        now = read_once(from, file, to, now, &mut chunk, &mut page);
-        passes -= 1;
-    }
-    now
+    edge::each_chunk(from, &mut chunk, to, b"capture: read", first, |t, bytes| {
+        grown(file, to, t, bytes, &mut page)
+    })
 }
 
 fn say(to: Streams, c: Changes) {
     let line = salvage_text::line_of(c.replaced, c.added, c.removed, c.cut);
-    let text = line.text;
-    let n = line.size;
-    edge::write(to, &text[..n], b"capture: standard output");
+    edge::write(to, line.bytes(), b"capture: standard output");
 }
 
 // What was written is on its device. The file is closed after it; what the closing answers std does not say.
 fn make_safe<F: OpenFile + Drop>(file: F, to: Streams) -> bool {
-    match file.sync_all() {
-        Ok(()) => true,
-        Err(why) => {
-            edge::tell(to, b"capture: write", why);
-            false
-        }
-    }
+    went(to, "write", file.sync_all())
 }
 
 fn remove<F: Files>(files: &F, to: Streams, part: &str) -> bool {
-    match fs::remove_file(files, part) {
-        Ok(()) => true,
-        Err(why) => {
-            tell(to, part, why);
-            false
-        }
-    }
+    went(to, part, fs::remove_file(files, part))
 }
 
 // Whether there is no file of that name. Where there is, or that cannot be known, there is a message. The system is asked of the name alone:
@@ -184,26 +131,7 @@ fn find_free<F: Files>(files: &F, to: Streams, path: &str) -> bool {
             edge::note(to, b": it exists, and is left as it is\n");
             false
         }
-        Err(why) => {
-            let is_free = why.kind() == ErrorKind::NotFound;
-            if !is_free {
-                tell(to, path, why);
-            }
-            is_free
-        }
-    }
-}
-
-// The file beside OUT becomes OUT.
-fn give_name<F: Files>(files: &F, to: Streams, file: F::File, part: &str, path: &str) -> bool {
-    if !make_safe(file, to) {
-        return false;
-    }
-    if !find_free(files, to, path) {
-        return false;
-    }
-    match fs::rename(files, part, path) {
-        Ok(()) => true,
+        Err(why) if why.kind() == ErrorKind::NotFound => true,
         Err(why) => {
             tell(to, path, why);
             false
@@ -211,21 +139,31 @@ fn give_name<F: Files>(files: &F, to: Streams, file: F::File, part: &str, path: 
     }
 }
 
+// The file beside OUT becomes OUT.
+fn give_name<F: Files>(files: &F, to: Streams, file: F::File, part: &str, path: &str) -> bool {
+    make_safe(file, to)
+        && find_free(files, to, path)
+        && went(to, path, fs::rename(files, part, path))
+}
+
+// OUT is not made.
+fn give_up<F: Files>(files: &F, to: Streams, file: F::File, part: &str) -> bool {
+    drop(file);
+    remove(files, to, part)
+}
+
 // Where nothing was written OUT is not made.
 fn finish<F: Files>(files: &F, to: Streams, t: Progress, file: F::File, part: &str, path: &str) {
-    let s = t.salvage;
-    if t.fine & t.some {
-        if give_name(files, to, file, part, path) {
-            say(to, salvage::end(s, t.fed));
-        } else {
-            remove(files, to, part);
+    if !t.some {
+        if give_up(files, to, file, part) {
+            say(to, salvage::end(t.salvage, t.fed));
         }
         return;
     }
-    drop(file);
-    let is_gone = remove(files, to, part);
-    if t.fine & !t.some & is_gone {
-        say(to, salvage::end(s, t.fed));
+    if give_name(files, to, file, part, path) {
+        say(to, salvage::end(t.salvage, t.fed));
+    } else {
+        remove(files, to, part);
     }
 }
 
@@ -234,11 +172,12 @@ fn write_beside<F: Files, R: Read>(files: &F, from: &mut R, to: Streams, part: &
     options.write(true);
     options.create_new(true);
     match options.open(files, part) {
-        Ok(file) => {
-            let mut file = file;
-            let t = salvage_all(from, &mut file, to);
-            finish(files, to, t, file, part, path);
-        }
+        Ok(mut file) => match salvage_all(from, &mut file, to) {
+            Some(t) => finish(files, to, t, file, part, path),
+            None => {
+                give_up(files, to, file, part);
+            }
+        },
         Err(why) => tell(to, part, why),
     }
 }
@@ -269,11 +208,7 @@ fn wants_name(to: Streams) {
 }
 
 pub fn run<F: Files, R: Read>(files: &F, from: &mut R, to: Streams, path: &[u8]) {
-    if path.len() == 0 {
-        wants_name(to);
-        return;
-    }
-    if path.len() > 4090 {
+    if path.is_empty() || path.len() > 4090 {
         wants_name(to);
         return;
     }

@@ -6,10 +6,21 @@ ghost use Rattle.page.specs.Page.{Puts};
 ghost use Rattle.phrases.specs.Phrase.{decimal};
 ghost use Rattle.salvage_text.specs.Says.{changes_line};
 
+// There is no heap, so the text lies in an array, and `bytes` gives as much of it as the line has.
 #[derive(Clone, Copy)]
 pub struct Line {
     pub text: [u8; 111],
     pub size: usize,
+}
+
+impl Line {
+    // The line itself, of the text that it lies in.
+    pub fn bytes(&self) -> &[u8]
+        requires { self.now.size ≤ 111 }
+        ensures { result.now ≡ take self.now.size self.now.text }
+    {
+        &self.text[..self.size]
+    }
 }
 
 // A text and a number.

@@ -5,13 +5,13 @@
 --   done z, refused      its two cases
 --   GivenSample          what is given for a pair: number, both whole numbers, and the place at fault if there is one
 --   both_done x y, refused_at p   its two cases
---   coordinate_given, sample_given   what each case of the answers `Coordinate` and `Pair` gives
-use Rattle.std.specs.Prelude.{ℕ, ℤ, pos}
-use Rattle.std.proofs.Math.Option.{Option, none, some}
-use Rattle.samples.specs.declared.Coordinate.{Coordinate}
-use Rattle.samples.specs.declared.Coordinate.TheVariants as coordinate
-use Rattle.samples.specs.declared.Pair.{Pair}
-use Rattle.samples.specs.declared.Pair.TheVariants as pair
+--   place_of f           the place of the coordinate at fault
+--   coordinate_given, sample_given   what each case of the answers gives
+use Rattle.std.specs.Prelude.{ℕ, ℤ, pos, Option, Some, None, Result, Ok, Err}
+use Rattle.std.proofs.Math.Option as place
+use Rattle.samples.specs.declared.Heard.{Heard}
+use Rattle.samples.specs.declared.Fault.{Fault}
+use Rattle.samples.specs.declared.Fault.TheVariants as fault
 
 pub record GivenCoordinate : Type 0 where
   pub number : ℕ
@@ -27,18 +27,22 @@ pub record GivenSample : Type 0 where
   pub number : ℕ
   pub x : ℤ
   pub y : ℤ
-  pub place : Option ℕ
+  pub place : place.Option ℕ
 
 abbrev pub both_done : ℤ → ℤ → GivenSample
-both_done x y = record { number = 0; x = x; y = y; place = none }
+both_done x y = record { number = 0; x = x; y = y; place = place.none }
 
 abbrev pub refused_at : ℕ → GivenSample
-refused_at p = record { number = 5; x = pos 0; y = pos 0; place = some p }
+refused_at p = record { number = 5; x = pos 0; y = pos 0; place = place.some p }
 
-abbrev pub coordinate_given : Coordinate → GivenCoordinate
-coordinate_given (coordinate.Heard z) = done z
-coordinate_given coordinate.Refused = refused
+abbrev pub place_of : Fault → ℕ
+place_of fault.X = 0
+place_of fault.Y = 1
 
-abbrev pub sample_given : Pair → GivenSample
-sample_given (pair.Heard x y) = both_done x y
-sample_given (pair.Refused p) = refused_at p
+abbrev pub coordinate_given : Option ℤ → GivenCoordinate
+coordinate_given (Some z) = done z
+coordinate_given None = refused
+
+abbrev pub sample_given : Result Heard Fault → GivenSample
+sample_given (Ok h) = both_done h.x h.y
+sample_given (Err f) = refused_at (place_of f)

@@ -3,23 +3,27 @@
 --   followed-live         a reached state follows itself
 --   followed-below, followed-up   what is followed is a state, and is reached where any is
 --   followed-is           the step as the code picks it
---   head-here, head-later the first reached state, searched one by one
+--   head-found            the first reached state, as a search by keys finds it
 use mathlib.Core.Path.{◌≡◌, refl, sym, ap, subst, ◌∙◌}
 use mathlib.Core.Bool.{Bool, true, false, cond}
 use mathlib.Core.List.{List, [], ◌∷◌}
-use mathlib.Core.Logic.{◌⊎◌, inl, inr, ⊎_elim}
-use Prim.Native.Nat.{ℕ, suc, ◌+◌, ◌-◌, ◌≤◌, ◌<◌}
-use native.Mathlib.Numerals.{add-one}
+use mathlib.Core.Logic.{inl, inr, ⊎_elim}
+use Prim.Native.Nat.{ℕ, suc, ◌+◌, ◌/◌, ◌<◌}
 use native.Mathlib.Omega.{arith}
 use lib.Dec.{ltb}
-use lib.ListN.{get_or}
+use lib.ListN.{length, get_or}
 use borrow.Author.Tests.{ltb-true, lt-ltb, le-ltb}
+use native.Mathlib.Decide.{dec_lt}
+use Rattle.std.specs.Prelude.{not, Option, Some, None}
+use Rattle.std.specs.Option.{unwrap_or}
+use Rattle.std.specs.List.{position_or_len}
 use Rattle.trellis.specs.Lists.{In}
 use Rattle.trellis.specs.Search.{range}
 use Rattle.trellis.proofs.Lists.{state-in, state-below}
 use Rattle.sums.specs.Sums.{limit}
 use Rattle.select.specs.Select.{reached_of, live_of, head_of, followed}
-use Rattle.select.specs.Ways.{followed_step}
+use Rattle.select.specs.Ways.{sums_in, followed_step}
+use Rattle.select.proofs.Lists.{sixteen-at}
 
 module _ (sums : List ℕ) where
   abbrev live : ℕ → Bool
@@ -87,18 +91,47 @@ followed-is sums steps s h x e q = q ∙ go (ltb (get_or sums s 0) limit)
     go true = refl
     go false = ap (λ (n : ℕ). get_or steps n 0) e
 
--- the first live state from s on
-module _ (sums : List ℕ) (s : ℕ) (more : s < 16) where
-  from : range s (16 - s) ≡ s ∷ range (s + 1) (16 - (s + 1))
-  unfolding range
-  from =
-      let up : 16 - s ≡ suc (16 - (s + 1)) = omega arith in
-      ap (range s) up ∙ ap (λ (n : ℕ). s ∷ range n (16 - (s + 1))) (sym (add-one s))
+-- ── the first reached state, as a search by keys finds it ──
+abbrev test : ℕ → Bool
+test key = ltb (key / 128) limit
 
-  pub head-here : get_or sums s 0 < limit → head_of (reached_of sums (range s (16 - s))) ≡ s
-  unfolding reached_of
-  head-here h = ap (λ (l : List ℕ). head_of (reached_of sums l)) from ∙ rw (lt-ltb _ _ h)
+one_on : (n p a : ℕ) → cond (ltb p n) (suc a + p) 0 ≡ cond (ltb (1 + p) (suc n)) (a + (1 + p)) 0
+one_on n p a = go (dec_lt p n)
+  where
+    go : Dec (p < n) → cond (ltb p n) (suc a + p) 0 ≡ cond (ltb (1 + p) (suc n)) (a + (1 + p)) 0
+    go (yes h) = rw (lt-ltb p n h, lt-ltb (1 + p) (suc n) (omega arith)) (omega arith)
+    go (no h) = rw (le-ltb p n (omega arith), le-ltb (1 + p) (suc n) (omega arith))
 
-  pub head-later : limit ≤ get_or sums s 0 → head_of (reached_of sums (range s (16 - s))) ≡ head_of (reached_of sums (range (s + 1) (16 - (s + 1))))
-  unfolding reached_of
-  head-later h = ap (λ (l : List ℕ). head_of (reached_of sums l)) from ∙ rw (le-ltb _ _ h)
+-- from a on
+head-from : (sums keys : List ℕ) (a : ℕ) → ((i : ℕ) → i < length keys → get_or sums (a + i) 0 ≡ get_or keys i 0 / 128) →
+    head_of (reached_of sums (range a (length keys))) ≡ cond (ltb (position_or_len test keys) (length keys)) (a + position_or_len test keys) 0
+unfolding range reached_of
+head-from sums [] a h = refl
+head-from sums (k ∷ keys) a h =
+    let here : get_or sums a 0 ≡ k / 128 = ap (λ (i : ℕ). get_or sums i 0) (let e : a ≡ a + 0 = omega arith in e) ∙ h 0 (omega arith) in
+    let rest = head-from sums keys (suc a) (λ i l. ap (λ (j : ℕ). get_or sums j 0) (let e : suc a + i ≡ a + suc i = omega arith in e) ∙ h (suc i) (omega arith)) in
+    rw here (go (test k) (rest ∙ one_on (length keys) (position_or_len test keys) a))
+  where
+    n : ℕ
+    n = length keys
+
+    p : ℕ
+    p = position_or_len test keys
+
+    go : (b : Bool) → head_of (reached_of sums (range (suc a) n)) ≡ cond (ltb (1 + p) (suc n)) (a + (1 + p)) 0 →
+        head_of (cond b (a ∷ reached_of sums (range (suc a) n)) (reached_of sums (range (suc a) n))) ≡ cond (ltb (cond (not b) (1 + p) 0) (suc n)) (a + cond (not b) (1 + p) 0) 0
+    go true r = rw (lt-ltb 0 (suc n) (omega arith)) (omega arith)
+    go false r = r
+
+unwrapped : (b : Bool) (p : ℕ) → unwrap_or (cond b (Some p) None) 0 ≡ cond b (0 + p) 0
+unwrapped true p = omega arith
+unwrapped false p = refl
+
+pub head-found : (keys : List ℕ) (r : Option ℕ) (v : ℕ) → length keys ≡ 16 → r ≡ cond (ltb (position_or_len test keys) (length keys)) (Some (position_or_len test keys)) None →
+    v ≡ unwrap_or r 0 → (v ≡ head_of (live_of (sums_in keys))) × (v < 16)
+unfolding live_of
+head-found keys r v long e q =
+    let from = head-from (sums_in keys) keys 0 (λ i l. ap (λ (j : ℕ). get_or (sums_in keys) j 0) (let z : 0 + i ≡ i = omega arith in z) ∙ sixteen-at (λ j. get_or keys j 0 / 128) i (omega arith)) in
+    let found : v ≡ head_of (live_of (sums_in keys)) = q ∙ ap (λ (o : Option ℕ). unwrap_or o 0) e ∙ unwrapped (ltb (position_or_len test keys) (length keys)) (position_or_len test keys)
+    ∙ sym from ∙ ap (λ (n : ℕ). head_of (reached_of (sums_in keys) (range 0 n))) long in
+    (found, rw found (head-below (sums_in keys)))

@@ -1,6 +1,7 @@
 -- Lists laid out by a function.
 --   range_length, range_at     f at the n numbers from a on: how many, and what stands at a place
 --   sixteen-at, sixteen-same   f at the states; two that are equal there
+--   sixteen-made               what a table of sixteen is
 --   sixteen-most               a bound that also holds past them
 --   same-front                 two lists with the same front and the same rest
 use mathlib.Core.Path.{◌≡◌, refl, sym, ap, ap₂, ◌∙◌}
@@ -10,6 +11,7 @@ use native.Mathlib.Omega.{arith}
 use native.Mathlib.Decide.{dec_lt}
 use lib.ListN.{length, get_or, get_or-eq_default}
 use lib.Seq.{ext_get_or}
+use Rattle.lists.specs.Tabled.{tabled}
 use Rattle.trellis.specs.Search.{range}
 use Rattle.select.specs.Select.{sixteen}
 
@@ -32,6 +34,10 @@ sixteen-at f s h = range_at f 0 16 s 0 h ∙ ap f (let e : 0 + s ≡ s = omega a
 
 pub sixteen-same : (f g : ℕ → ℕ) → ((s : ℕ) → s < 16 → f s ≡ g s) → sixteen f ≡ sixteen g
 sixteen-same f g h = ext_get_or 0 (sixteen f) (sixteen g) refl (λ s k. sixteen-at f s k ∙ h s k ∙ sym (sixteen-at g s k))
+
+pub sixteen-made : (f : ℕ → ℕ) → tabled f 16 ≡ sixteen f
+unfolding tabled
+sixteen-made f = refl
 
 -- 0 past them
 pub sixteen-most : (f : ℕ → ℕ) (m : ℕ) → ((s : ℕ) → f s ≤ m) → (s : ℕ) → get_or (sixteen f) s 0 ≤ m

@@ -6,28 +6,24 @@ ghost use Rattle.sums.specs.Sums.{limit, lowest};
 ghost use Rattle.select.specs.Select.{sixteen, lowered, head_of, live_of};
 ghost use Rattle.select.specs.Ways.{sums_in, steps_in, followed_step};
 
-use sums::LIMIT;
+use std::array;
+use sums::{LIMIT, STEPS};
 
 // The first reached state; 0 where none is reached.
 fn first_live(keys: &[u32; 16]) -> usize
     ensures { (result ≡ head_of (live_of (sums_in keys.now))) × (result < 16) }
 {
-    let mut s: usize = 0;
-    while s < 16 {
-        if keys[s] / 128 < LIMIT {
-            return s;
-        }
-        s += 1;
-    }
-    0
+    keys.iter()
+        .position(|key| *key / STEPS < LIMIT)
+        .unwrap_or(0)
 }
 
 // The step of a reached state, or else the other one.
 fn step_if_reached(key: u32, other: u8) -> u8
     ensures { result ≡ cond (ltb (key / 128) limit) (key % 128) other }
 {
-    if key / 128 < LIMIT {
-        (key % 128) as u8
+    if key / STEPS < LIMIT {
+        (key % STEPS) as u8
     } else {
         other
     }
@@ -38,14 +34,8 @@ pub fn followers(keys: &[u32; 16]) -> [u8; 16]
     ensures { result ≡ sixteen (followed_step (sums_in keys.now) (steps_in keys.now)) }
 {
     let head = first_live(keys);
-    let other = (keys[head] % 128) as u8;
-    let mut all = [0u8; 16];
-    let mut s: usize = 0;
-    while s < 16 {
-        all[s] = step_if_reached(keys[s], other);
-        s += 1;
-    }
-    all
+    let other = (keys[head] % STEPS) as u8;
+    array::from_fn(|s| step_if_reached(keys[s], other))
 }
 
 // The sum of a reached state less the least, or else LIMIT.
@@ -53,8 +43,8 @@ fn sum_if_reached(key: u32, low: u32) -> u32
     requires { low ≤ key / 128 }
     ensures { result ≡ cond (ltb (key / 128) limit) (key / 128 - low) limit }
 {
-    if key / 128 < LIMIT {
-        key / 128 - low
+    if key / STEPS < LIMIT {
+        key / STEPS - low
     } else {
         LIMIT
     }
@@ -65,11 +55,5 @@ pub fn kept(keys: &[u32; 16], low: u32) -> [u32; 16]
     requires { low ≡ lowest (sums_in keys.now) }
     ensures { result ≡ sixteen (lowered (sums_in keys.now)) }
 {
-    let mut all = [0u32; 16];
-    let mut s: usize = 0;
-    while s < 16 {
-        all[s] = sum_if_reached(keys[s], low);
-        s += 1;
-    }
-    all
+    array::from_fn(|s| sum_if_reached(keys[s], low))
 }

@@ -11,6 +11,9 @@ ghost use Rattle.sums.specs.Sums.{lowest};
 ghost use Rattle.select.specs.Select.{sixteen, sum_at, lowered, step_at};
 ghost use Rattle.select.specs.Ways.{Summable, sums_in, steps_in};
 
+use std::array;
+use sums::STEPS;
+
 // What the states keep, and the step into each.
 #[derive(Clone, Copy)]
 pub struct Selected {
@@ -23,26 +26,14 @@ fn sums_less(keys: &[u32; 16], low: u32) -> [u32; 16]
     requires { low ≡ lowest (sums_in keys.now) }
     ensures { result ≡ sixteen (λ s. get_or keys.now s 0 / 128 - low) }
 {
-    let mut all = [0u32; 16];
-    let mut s: usize = 0;
-    while s < 16 {
-        all[s] = keys[s] / 128 - low;
-        s += 1;
-    }
-    all
+    array::from_fn(|s| keys[s] / STEPS - low)
 }
 
 // The steps of all ways.
 fn steps_in(keys: &[u32; 16]) -> [u8; 16]
     ensures { result ≡ steps_in keys.now }
 {
-    let mut all = [0u8; 16];
-    let mut s: usize = 0;
-    while s < 16 {
-        all[s] = (keys[s] % 128) as u8;
-        s += 1;
-    }
-    all
+    array::from_fn(|s| (keys[s] % STEPS) as u8)
 }
 
 // One symbol: the new sums less the least, and the step into each state; into one that nothing reaches, the step into the first reached
@@ -52,7 +43,7 @@ pub fn advance(sums: &[u32; 16], costs: &[u32; 8]) -> Selected
     ensures { result ≡ record { sums = sixteen (lowered (sixteen (sum_at sums.now costs.now))); steps = sixteen (step_at sums.now costs.now) } }
 {
     let keys = ways::select(sums, costs);
-    let low = sums::lowest(&keys) / 128;
+    let low = sums::lowest(&keys) / STEPS;
     if sums::all_reached(&keys) {
         return Selected {
             sums: sums_less(&keys, low),

@@ -20,12 +20,13 @@ use lib.Dec.{eqb, leb}
 use lib.IntN.{ℤ}
 use lib.ListN.{get_or, length, take, drop, length-append, length-drop, take-append-drop, drop_of_length-le}
 use lib.Seq.{length-take-le, take_all, take-append-add, drop-append-add, drop-cons}
+use Rattle.std.specs.Prelude.{Result, Ok, Err, ⊤}
 use Rattle.points.specs.declared.Accord.{Accord}
 use Rattle.sender.specs.declared.Sender.{Sender}
 use Rattle.sender.specs.declared.Sent.{Sent}
 use Rattle.sender.specs.declared.SentList.{SentList}
 use Rattle.sender.specs.declared.Why.{Why}
-use Rattle.sender.specs.declared.Why.TheVariants.{Done, Closed}
+use Rattle.sender.specs.declared.Why.TheVariants.{Closed}
 use Rattle.wei.specs.Word.{is_word}
 use Rattle.sender.specs.Send.{number_of, sound, after, four, symbol_for, Given, sending, End, called}
 use Rattle.sender.specs.SendList.{GivenList, given_list, onward, sending_all, sending_list}
@@ -173,7 +174,7 @@ list-end s ns out z = list-by (λ r. End r.sender) s ns out (all_end s ns out z)
 
 module _ (s : Sender) (ns : List ℕ) (out : List ℤ) where
   -- what the definition says is what the promise says
-  sends-as : (t : Sender) (k : ℕ) (why : Why) (o : List ℤ) → sending_list s ns out ≡ given_list (number_of why) t k o → SendsList s ns out (record { sender = t; sent = k; why = why }) o
+  sends-as : (t : Sender) (k : ℕ) (why : Result ⊤ Why) (o : List ℤ) → sending_list s ns out ≡ given_list (number_of why) t k o → SendsList s ns out (record { sender = t; sent = k; why = why }) o
   sends-as t k why o e =
       let a = ap (λ (g : GivenList). g.sender) (sym e) in
       record {
@@ -188,9 +189,9 @@ module _ (s : Sender) (ns : List ℕ) (out : List ℤ) where
   unfolding sending_list
   list_open e = rw e
 
-  pub list-closed : sound s ≡ false → SendsList s ns out (record { sender = s; sent = 0; why = Closed }) out
+  pub list-closed : sound s ≡ false → SendsList s ns out (record { sender = s; sent = 0; why = Err Closed }) out
   unfolding sending_list
-  list-closed e = sends-as s 0 Closed out (rw e)
+  list-closed e = sends-as s 0 (Err Closed) out (rw e)
 
 -- ---- where the loop stands
 
@@ -201,17 +202,16 @@ sending-sound s n out e = go (eqb (sending s n out).number 0) refl
     go true z = sent-sound s n out (eqb-true (sending s n out).number 0 z)
     go false z = ap sound (refused-keeps s n out (eqb-false (sending s n out).number 0 z)).0 ∙ e
 
-pub record Going (words : List ℕ) (out₀ : List ℤ) (s₀ : Sender) (out : List ℤ) (s : Sender) (sent : ℕ) (why : Why) : Type 0 where
+pub record Going (words : List ℕ) (out₀ : List ℤ) (s₀ : Sender) (out : List ℤ) (s : Sender) (sent : ℕ) : Type 0 where
   pub first : sound s₀ ≡ true
   pub within : sent ≤ length words
   pub room : 4 * sent ≤ length out
   pub long : length out ≡ length out₀
   pub fit : sound s ≡ true
   pub accord : s.accord ≡ s₀.accord
-  pub going : number_of why ≡ 0
   pub same : sending_all s₀ words out₀ ≡ gone sent (take (4 * sent) out) (sending_all s (drop sent words) (drop (4 * sent) out))
 
-pub start : (words : List ℕ) (out : List ℤ) (s : Sender) → sound s ≡ true → Going words out s out s 0 Done
+pub start : (words : List ℕ) (out : List ℤ) (s : Sender) → sound s ≡ true → Going words out s out s 0
 start words out s e =
     let g = sending_all s words out in
     record {
@@ -221,20 +221,20 @@ start words out s e =
       long = refl;
       fit = e;
       accord = refl;
-      going = refl;
       same = ap (λ (k : ℕ). given_list g.number g.sender k g.output) (sym (zero-add g.sent));
     }
 
-pub end : (words : List ℕ) (out₀ : List ℤ) (s₀ : Sender) (out : List ℤ) (s : Sender) (sent : ℕ) (why : Why) → Going words out₀ s₀ out s sent why → length words ≤ sent →
-    SendsList s₀ words out₀ (record { sender = s; sent = sent; why = why }) out
+pub end : (words : List ℕ) (out₀ : List ℤ) (s₀ : Sender) (out : List ℤ) (s : Sender) (sent : ℕ) → Going words out₀ s₀ out s sent → length words ≤ sent →
+    SendsList s₀ words out₀ (record { sender = s; sent = length words; why = Ok tt }) out
 unfolding sending_all
-end words out₀ s₀ out s sent why g past =
-    sends-as s₀ words out₀ s sent why out
+end words out₀ s₀ out s sent g past =
+    let all : sent ≡ length words = omega (arith, g.within) in
+    sends-as s₀ words out₀ s (length words) (Ok tt) out
     (list_open s₀ words out₀ g.first ∙ g.same ∙ ap (λ (l : List ℕ). gone sent (take (4 * sent) out) (sending_all s l (drop (4 * sent) out))) (drop_of_length-le words {i = sent} past)
-    ∙ rw (g.going, add-zero, take-append-drop (4 * sent) out))
+    ∙ rw (add-zero, take-append-drop (4 * sent) out, all))
 
 -- a turn of the loop: the word at `sent` goes into the rest of the output
-module _ (words : List ℕ) (out₀ : List ℤ) (s₀ : Sender) (out : List ℤ) (s : Sender) (sent : ℕ) (why : Why) (g : Going words out₀ s₀ out s sent why) (more : sent < length words)
+module _ (words : List ℕ) (out₀ : List ℤ) (s₀ : Sender) (out : List ℤ) (s : Sender) (sent : ℕ) (g : Going words out₀ s₀ out s sent) (more : sent < length words)
     (r : Sent) (ys : List ℤ) (was : Sends s (get_or words sent 0) (take (length out - 4 * sent) (drop (4 * sent) out)) r ys)
     (kept : length ys ≡ length (take (length out - 4 * sent) (drop (4 * sent) out))) where
   abbrev n : ℕ
@@ -304,7 +304,7 @@ module _ (words : List ℕ) (out₀ : List ℤ) (s₀ : Sender) (out : List ℤ)
     rest_more : drop (4 * (sent + 1)) back ≡ drop 4 ys
     rest_more = rw (back_is, times) (drop-append-add front ys 4)
 
-    pub go_on : Going words out₀ s₀ back r.sender (sent + 1) r.why
+    pub go_on : Going words out₀ s₀ back r.sender (sent + 1)
     go_on =
         let l : length back ≡ 4 * sent + length ys = rw (back_is, length-append front ys, front_long) in
         let later = sending_all r.sender (drop (sent + 1) words) (drop 4 ys) in
@@ -316,7 +316,6 @@ module _ (words : List ℕ) (out₀ : List ℤ) (s₀ : Sender) (out : List ℤ)
           long = back_long;
           fit = ap sound is.sender ∙ sent-sound s n rest taken;
           accord = ap (λ (x : Sender). x.accord) is.sender ∙ sending-accord s n rest ∙ g.accord;
-          going = z;
           same =
               g.same ∙ ap (gone sent front) (once ∙ rw (eq-eqb (number_of r.why) 0 z))
               ∙ ap₂ (given_list later.number later.sender) k (sym (append_assoc front (take 4 ys) later.output))
@@ -466,7 +465,7 @@ pub went-as : (s : Sender) (ns : List ℕ) (out : List ℤ) → sound s ≡ true
 went-as s ns out e r o p = subst (λ (t : Sender). SendsList t ns out r o) (sym (at-is s s.accord e refl)) p
 
 -- the loop began with s, and its sender t is given back as its numbers
-pub went-is : (s : Sender) (a : Accord) (q k : ℕ) → s ≡ sender_at a q k → (ns : List ℕ) (out : List ℤ) (t : Sender) (sent : ℕ) (why : Why) (o : List ℤ) → sound t ≡ true → t.accord ≡ s.accord →
+pub went-is : (s : Sender) (a : Accord) (q k : ℕ) → s ≡ sender_at a q k → (ns : List ℕ) (out : List ℤ) (t : Sender) (sent : ℕ) (why : Result ⊤ Why) (o : List ℤ) → sound t ≡ true → t.accord ≡ s.accord →
     SendsList s ns out (record { sender = t; sent = sent; why = why }) o → SendsList (sender_at a q k) ns out (list_by a (record { turn = t.turn; state = t.state; sent = sent; why = why })) o
 went-is s a q k is ns out t sent why o e f p =
     let b : t.accord ≡ a = f ∙ ap (λ (x : Sender). x.accord) is in

@@ -9,29 +9,30 @@ use Prim.Native.Nat.{ℕ}
 use lib.Dec.{eqb}
 use lib.IntN.{ℤ}
 use lib.ListN.{drop}
+use Rattle.std.specs.Prelude.{Result, Ok, Err, ⊤}
 use Rattle.points.specs.declared.Accord.{Accord}
 use Rattle.sender.specs.declared.Sender.{Sender}
 use Rattle.sender.specs.declared.Sent.{Sent}
 use Rattle.sender.specs.declared.SentList.{SentList}
 use Rattle.sender.specs.declared.Why.{Why}
-use Rattle.sender.specs.declared.Why.TheVariants.{Done, BadWidth, BadWord, NoRoom, Closed}
+use Rattle.sender.specs.declared.Why.TheVariants.{BadWidth, BadWord, NoRoom, Closed}
 use Rattle.sender.specs.Send.{number_of, Given, sending}
 use Rattle.sender.specs.SendList.{sending_all, sending_list}
 use Rattle.sender.proofs.Exactly.{Outcome, closed, bad-word, no_room, taken, outcome}
 use Rattle.sender.proofs.Lists.{onward-by, list-by, list-end}
 use Rattle.sender.specs.Promise.{Opens, Sends, SendsList}
 
-abbrev why_of : ℕ → Why
-why_of n = cond (eqb n 0) Done (cond (eqb n 1) BadWidth (cond (eqb n 4) BadWord (cond (eqb n 8) NoRoom Closed)))
+abbrev why_of : ℕ → Result ⊤ Why
+why_of n = cond (eqb n 0) (Ok tt) (cond (eqb n 1) (Err BadWidth) (cond (eqb n 4) (Err BadWord) (cond (eqb n 8) (Err NoRoom) (Err Closed))))
 
-why-back : (w : Why) → why_of (number_of w) ≡ w
-why-back Done = refl
-why-back BadWidth = refl
-why-back BadWord = refl
-why-back NoRoom = refl
-why-back Closed = refl
+why-back : (w : Result ⊤ Why) → why_of (number_of w) ≡ w
+why-back (Ok x) = refl
+why-back (Err BadWidth) = refl
+why-back (Err BadWord) = refl
+why-back (Err NoRoom) = refl
+why-back (Err Closed) = refl
 
-pub number-tells : (v w : Why) → number_of v ≡ number_of w → v ≡ w
+pub number-tells : (v w : Result ⊤ Why) → number_of v ≡ number_of w → v ≡ w
 number-tells v w e = sym (why-back v) ∙ ap why_of e ∙ why-back w
 
 same_sent : (q r : Sent) → q.sender ≡ r.sender → number_of q.why ≡ number_of r.why → q ≡ r

@@ -1,5 +1,5 @@
 -- What the sender does, from 01, "Sender rules" and "Numbers given back".
---   number_of why        01's number of a reason
+--   number_of why        01's number of what a call says: 0, or that of the reason
 --   sound s             s is open, with a width, a turn and a state in range; anything else is answered like a closed sender
 --   symbol_for s n       the symbol that the word n makes
 --   after s n           the sender after it
@@ -8,7 +8,7 @@
 --   opening k           what the opening gives (it is lent no output)
 --   sending s n out     what sending n into the output `out` gives
 --   End s               s is a state that the opening, or a call after it, gave
-use Rattle.std.specs.Prelude.{ℕ, Bool, true, false, cond, ◌&&◌, List, [], ◌∷◌, ◌++◌, leb, ltb, ℤ, length, drop}
+use Rattle.std.specs.Prelude.{ℕ, Bool, true, false, cond, ◌&&◌, List, [], ◌∷◌, ◌++◌, leb, ltb, ℤ, length, drop, Result, Ok, Err, ⊤}
 use Rattle.points.specs.declared.Accord.{Accord}
 use Rattle.points.specs.Agreed.{is_accord, of_width}
 use Rattle.maps.specs.PointMap.{first_at, second_at}
@@ -17,14 +17,14 @@ use Rattle.wei.specs.State.{next_state}
 use Rattle.wei.specs.Symbol.{Symbol, first_label, symbol_of}
 use Rattle.sender.specs.declared.Sender.{Sender}
 use Rattle.sender.specs.declared.Why.{Why}
-use Rattle.sender.specs.declared.Why.TheVariants.{Done, BadWidth, BadWord, NoRoom, Closed}
+use Rattle.sender.specs.declared.Why.TheVariants.{BadWidth, BadWord, NoRoom, Closed}
 
-abbrev pub number_of : Why → ℕ
-number_of Done = 0
-number_of BadWidth = 1
-number_of BadWord = 4
-number_of NoRoom = 8
-number_of Closed = 9
+abbrev pub number_of : Result ⊤ Why → ℕ
+number_of (Ok x) = 0
+number_of (Err BadWidth) = 1
+number_of (Err BadWord) = 4
+number_of (Err NoRoom) = 8
+number_of (Err Closed) = 9
 
 abbrev pub sound : Sender → Bool
 sound s = s.live && (is_accord s.accord && (ltb s.turn 4 && ltb s.state 16))

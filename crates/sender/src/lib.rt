@@ -6,7 +6,7 @@
 // and the output as they stood. A closed sender, and any record that is out of range, is answered 9.
 #![tactic(auto)]
 
-ghost use Rattle.std.specs.Prelude.{◌≡◌, true};
+ghost use Rattle.std.specs.Prelude.{◌≡◌, true, Err};
 ghost use Rattle.points.specs.Points.{coordinates};
 ghost use Rattle.sender.specs.Send.{number_of, sound, shut};
 ghost use Rattle.sender.specs.Promise.{Opens, Sends, SendsList};
@@ -14,6 +14,7 @@ ghost use Rattle.sender.specs.Loop.{sender_at, list_by};
 
 use points::{Accord, Map};
 
+// A sender. A closed one is a record like any other (`shut`), so `live` is a flag and no Option around the rest.
 #[derive(Clone, Copy)]
 pub struct Sender {
     pub live: bool,
@@ -22,10 +23,11 @@ pub struct Sender {
     pub state: u32,
 }
 
-// Why a call ended.
-#[derive(Clone, Copy)]
+// What a call was refused for. No call of a sender gives another number than these and 0, so this enum is not the receiving end's: the
+// number alone says how a call went (proofs/Settled). A call gives `why` as a `Result<(), Why>`, beside the sender and not around it: a
+// refused call too gives the sender back.
+#[derive(Clone, Copy, PartialEq, Eq)]
 pub enum Why {
-    Done,
     BadWidth,
     BadWord,
     NoRoom,
@@ -35,7 +37,7 @@ pub enum Why {
 #[derive(Clone, Copy)]
 pub struct Sent {
     pub sender: Sender,
-    pub why: Why,
+    pub why: Result<(), Why>,
 }
 
 // How a list went: the sender after it, how many words were sent, and why it stopped.
@@ -43,19 +45,19 @@ pub struct Sent {
 pub struct SentList {
     pub sender: Sender,
     pub sent: usize,
-    pub why: Why,
+    pub why: Result<(), Why>,
 }
 
-// The number of a reason.
-pub fn number(why: Why) -> u32
+// The number of a reason; 0 where nothing was refused.
+pub fn number(why: Result<(), Why>) -> u32
     ensures { result ≡ number_of why }
 {
     match why {
-        Why::Done => 0,
-        Why::BadWidth => 1,
-        Why::BadWord => 4,
-        Why::NoRoom => 8,
-        Why::Closed => 9,
+        Ok(()) => 0,
+        Err(Why::BadWidth) => 1,
+        Err(Why::BadWord) => 4,
+        Err(Why::NoRoom) => 8,
+        Err(Why::Closed) => 9,
     }
 }
 
@@ -74,24 +76,37 @@ pub fn closed_sender() -> Sender
     }
 }
 
+// An open sender.
+fn sender_at(accord: Accord, turn: u32, state: u32) -> Sender
+    ensures { result ≡ sender_at accord turn state }
+{
+    Sender {
+        live: true,
+        accord,
+        turn,
+        state,
+    }
+}
+
+// A refusal gives back the sender that it is given.
+fn refuse(s: Sender, why: Why) -> Sent
+    ensures { result ≡ record { sender = s; why = Err why } }
+{
+    Sent {
+        sender: s,
+        why: Err(why),
+    }
+}
+
 pub fn open_sender(accord: Accord) -> Sent
     ensures { Opens accord result }
 {
-    if points::is_accord(accord) {
-        Sent {
-            sender: Sender {
-                live: true,
-                accord: accord,
-                turn: 0,
-                state: 0,
-            },
-            why: Why::Done,
-        }
-    } else {
-        Sent {
-            sender: closed_sender(),
-            why: Why::BadWidth,
-        }
+    if !points::is_accord(accord) {
+        return refuse(closed_sender(), Why::BadWidth);
+    }
+    Sent {
+        sender: sender_at(accord, 0, 0),
+        why: Ok(()),
     }
 }
 
@@ -99,27 +114,7 @@ pub fn open_sender(accord: Accord) -> Sent
 pub fn is_open(s: Sender) -> bool
     ensures { result ≡ sound s }
 {
-    if !s.live {
-        return false;
-    }
-    let accord = s.accord;
-    if !points::is_accord(accord) {
-        return false;
-    }
-    if s.turn > 3 {
-        return false;
-    }
-    s.state < 16
-}
-
-// A refusal gives the sender back as it was.
-fn refuse(s: Sender, why: Why) -> Sent
-    ensures { result ≡ record { sender = s; why = why } }
-{
-    Sent {
-        sender: s,
-        why: why,
-    }
+    s.live && points::is_accord(s.accord) && s.turn < 4 && s.state < 16
 }
 
 // One word of an open sender. Refused, in this order: a bit at or above 3 + 2u, an output shorter than four places.
@@ -133,17 +128,11 @@ fn send_word(table: &[i8; 512], s: Sender, word: u32, out: &mut [i32]) -> Sent
     if out.len() < 4 {
         return refuse(s, Why::NoRoom);
     }
-    let accord = s.accord;
-    let y = word_symbol::make(table, accord, s.state, s.turn, word);
+    let y = word_symbol::make(table, s.accord, s.state, s.turn, word);
     word_symbol::put(out, y.first, y.second);
     Sent {
-        sender: Sender {
-            live: true,
-            accord: accord,
-            turn: y.turn,
-            state: y.state,
-        },
-        why: Why::Done,
+        sender: sender_at(s.accord, y.turn, y.state),
+        why: Ok(()),
     }
 }
 
@@ -153,18 +142,7 @@ struct Went {
     turn: u32,
     state: u32,
     sent: usize,
-    why: Why,
-}
-
-fn sender_at(accord: Accord, turn: u32, state: u32) -> Sender
-    ensures { result ≡ sender_at accord turn state }
-{
-    Sender {
-        live: true,
-        accord: accord,
-        turn: turn,
-        state: state,
-    }
+    why: Result<(), Why>,
 }
 
 // The words one after another, each into the rest of the output, up to the first that is refused. The table is made once. An open
@@ -175,22 +153,23 @@ fn send_words(accord: Accord, turn: u32, state: u32, words: &[u32], out: &mut [i
 {
     let table = points::table::a_points();
     let mut sender = sender_at(accord, turn, state);
-    let mut sent: usize = 0;
-    let mut why = Why::Done;
-    while sent < words.len() {
-        let r = send_word(&table, sender, words[sent], &mut out[4 * sent..]);
+    for (sent, &word) in words.iter().enumerate() {
+        let r = send_word(&table, sender, word, &mut out[4 * sent..]);
         sender = r.sender;
-        why = r.why;
-        if number(why) != 0 {
-            break;
+        if r.why.is_err() {
+            return Went {
+                turn: sender.turn,
+                state: sender.state,
+                sent,
+                why: r.why,
+            };
         }
-        sent += 1;
     }
     Went {
         turn: sender.turn,
         state: sender.state,
-        sent: sent,
-        why: why,
+        sent: words.len(),
+        why: Ok(()),
     }
 }
 
@@ -202,16 +181,14 @@ pub fn send_list(s: Sender, words: &[u32], out: &mut [i32]) -> SentList
         return SentList {
             sender: s,
             sent: 0,
-            why: Why::Closed,
+            why: Err(Why::Closed),
         };
     }
-    let accord = s.accord;
-    let w = send_words(accord, s.turn, s.state, words, out);
-    let why = w.why;
+    let w = send_words(s.accord, s.turn, s.state, words, out);
     SentList {
-        sender: sender_at(accord, w.turn, w.state),
+        sender: sender_at(s.accord, w.turn, w.state),
         sent: w.sent,
-        why: why,
+        why: w.why,
     }
 }
 
@@ -222,12 +199,9 @@ pub fn send(s: Sender, word: u32, out: &mut [i32]) -> Sent
     if !is_open(s) {
         return refuse(s, Why::Closed);
     }
-    let accord = s.accord;
-    let one = [word];
-    let w = send_words(accord, s.turn, s.state, &one[0..], out);
-    let why = w.why;
+    let w = send_words(s.accord, s.turn, s.state, &[word], out);
     Sent {
-        sender: sender_at(accord, w.turn, w.state),
-        why: why,
+        sender: sender_at(s.accord, w.turn, w.state),
+        why: w.why,
     }
 }

@@ -5,13 +5,11 @@ use edge::Streams;
 use records::Frame;
 use std::io::Read;
 
-// The frame after the bytes so far, how many records there were, whether to read on, and whether there is nothing left to say.
+// The frame after the bytes so far, and how many records there were.
 #[derive(Clone, Copy)]
 struct Progress {
     frame: Frame,
     records: u64,
-    on: bool,
-    said: bool,
 }
 
 fn print_record(to: Streams, frame: Frame, n: u64) -> bool {
@@ -29,89 +27,46 @@ fn print_malformed(to: Streams, at: u64) -> bool {
         && edge::write(to, b" malformed\n", what)
 }
 
-// Nothing more is read or said where writing failed.
-fn written(t: Progress, is_written: bool) -> Progress {
-    if is_written {
-        return t;
+// A byte more. Where writing failed there is no more progress, and nothing more is said.
+fn byte(to: Streams, t: Progress, b: u8) -> Option<Progress> {
+    let frame = records::push(t.frame, b);
+    if !show_text::is_whole(frame.stage) {
+        return Some(Progress { frame, ..t });
     }
-    let frame = t.frame;
-    Progress {
+    if !print_record(to, frame, t.records) {
+        return None;
+    }
+    Some(Progress {
         frame,
-        records: t.records,
-        on: false,
-        said: true,
-    }
+        records: records::counted(t.records),
+    })
 }
 
-fn byte(to: Streams, t: Progress, b: u8) -> Progress {
-    let frame = t.frame;
-    let next = records::push(frame, b);
-    let stage = next.stage;
-    let n = t.records;
-    if show_text::is_whole(stage) {
-        let after = Progress {
-            frame: next,
-            records: records::counted(n),
-            on: t.on,
-            said: t.said,
-        };
-        return written(after, print_record(to, next, n));
-    }
-    Progress {
-        frame: next,
-        records: n,
-        on: t.on,
-        said: t.said,
-    }
-}
-
-fn bytes(to: Streams, t: Progress, chunk: &[u8]) -> Progress {
+fn bytes(to: Streams, t: Progress, chunk: &[u8]) -> Option<Progress> {
     let mut now = t;
-    let mut i: usize = 0;
-    while i < chunk.len() && now.on {
-        now = byte(to, now, chunk[i]);
-        i += 1;
+    for b in chunk {
+        now = byte(to, now, *b)?;
     }
-    now
+    Some(now)
 }
 
-fn read_once<R: Read>(from: &mut R, to: Streams, t: Progress, chunk: &mut [u8]) -> Progress {
-    let frame = t.frame;
-    let got = edge::read(from, chunk, to, b"capture: read");
-    if got <= 0 {
-        return Progress {
-            frame,
-            records: t.records,
-            on: false,
-            said: t.said | (got < 0),
-        };
+// The input has ended: the malformed place, if there is one.
+fn over(to: Streams, frame: Frame) {
+    if !show_text::is_whole(frame.stage) {
+        print_malformed(to, frame.at);
     }
-    let n = io::count(got, chunk);
-    bytes(to, t, &chunk[..n])
-}
-
-// The malformed place, if there is one and it can still be told.
-fn over(to: Streams, t: Progress) {
-    let frame = t.frame;
-    let stage = frame.stage;
-    if t.said | show_text::is_whole(stage) {
-        return;
-    }
-    print_malformed(to, frame.at);
 }
 
 pub fn run<R: Read>(from: &mut R, to: Streams) {
     let mut chunk = [0u8; 65536];
-    let mut now = Progress {
+    let first = Progress {
         frame: records::start(),
         records: 0,
-        on: true,
-        said: false,
     };
-    let mut passes = u64::MAX;
-    while passes > 0 && now.on {
-        now = read_once(from, to, now, &mut chunk);
-        passes -= 1;
+    let last = edge::each_chunk(from, &mut chunk, to, b"capture: read", first, |t, read| {
+        bytes(to, t, read)
+    });
+    if let Some(t) = last {
+        over(to, t.frame);
     }
-    over(to, now);
 }

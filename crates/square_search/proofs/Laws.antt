@@ -18,7 +18,7 @@ use Rattle.maps.proofs.SquareLaws.{low_below, half-below, pairs_of, side-is, squ
 use Rattle.distance.specs.declared.Spot.{Spot}
 use Rattle.distance.specs.Distance.{SpotInRange, distance}
 use Rattle.square_search.specs.declared.Stop.{Stop}
-use Rattle.square_search.specs.declared.Candidate.{Candidate}
+use Rattle.distance.specs.declared.Candidate.{Candidate}
 use Rattle.square_search.specs.Found.{apart, square_distance}
 use Rattle.square_search.specs.Axis.{origin_of, lowest, nearest_place, field_at, far, far_squared, stop_of, SmallStop, joined_of}
 use Rattle.square_search.proofs.Places.{place_of, place-low, place-high, place-field, place-back, place-apart, field_below, spread-le, spread-small, spread-within, spread-step}

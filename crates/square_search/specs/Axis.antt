@@ -17,7 +17,7 @@ use Rattle.std.specs.Prelude.{ℕ, ◌+◌, ◌-◌, ◌*◌, ◌/◌, ◌%◌, 
 use Rattle.maps.specs.SquareBits.{spread}
 use Rattle.square_search.specs.declared.Stop.{Stop}
 use Rattle.square_search.specs.declared.Stops.{Stops}
-use Rattle.square_search.specs.declared.Candidate.{Candidate}
+use Rattle.distance.specs.declared.Candidate.{Candidate}
 
 unfoldable pub origin_of : ℤ → ℕ
 origin_of r = nat_abs (r +ℤ pos 8576)

@@ -13,9 +13,9 @@ ghost use Rattle.maps.specs.SquareMap.{is_width};
 ghost use Rattle.distance.specs.Distance.{SpotInRange};
 ghost use Rattle.distance.specs.Found.{found_by};
 ghost use Rattle.square_search.specs.Found.{square_distance};
-ghost use Rattle.square_search.specs.Axis.{origin_of, between_of, rounded_of, clamped_of, stop_of, stops_of, SmallStop, joined_of};
+ghost use Rattle.square_search.specs.Axis.{origin_of, rounded_of, stop_of, stops_of, SmallStop, joined_of};
 
-use distance::{Found, Spot};
+use distance::{Candidate, Found, Spot};
 
 // The nearest place on an axis: its bits in the number, two places apart, and its squared distance.
 #[derive(Clone, Copy)]
@@ -31,25 +31,12 @@ struct Stops {
     one: Stop,
 }
 
-// A number and its distance.
-#[derive(Clone, Copy)]
-struct Candidate {
-    w: u8,
-    d: u32,
-}
-
 // How far r lies from the place 0 of a label whose bit on this axis is 0.
 fn origin(r: i32) -> u32
     requires { nat_abs r ≤ 8192 }
     ensures { result ≡ origin_of r }
 {
     (r + 8576) as u32
-}
-
-fn between(a: u32, b: u32) -> u32
-    ensures { result ≡ between_of a b }
-{
-    if a < b { b - a } else { a - b }
 }
 
 // The nearest place, where place t stands at 512·t: halves go down, but between 16 and 17 up.
@@ -60,18 +47,6 @@ fn rounded(g: u32) -> u32
     if g == 8448 { 17 } else { (g + 255) >> 9 }
 }
 
-fn clamped(q: u32, lo: u32, hi: u32) -> u32
-    ensures { result ≡ clamped_of q lo hi }
-{
-    if q < lo {
-        lo
-    } else if hi < q {
-        hi
-    } else {
-        q
-    }
-}
-
 // The nearest place of a label with the bit e on this axis, of 2^m places, to what lies g from its place 0.
 fn nearest_stop(m: u32, e: u32, g: u32) -> Stop
     requires { (m < 5) × (e < 2) × (g ≤ 16768) }
@@ -79,10 +54,10 @@ fn nearest_stop(m: u32, e: u32, g: u32) -> Stop
 {
     let side = 1u32 << m;
     let lo = 17 - ((side + e) >> 1);
-    let t = clamped(rounded(g), lo, lo + (side - 1));
+    let t = rounded(g).clamp(lo, lo + (side - 1));
     let s = maps::square::spread_out((t + 15) & (side - 1));
-    let far = between(g, t << 9);
-    Stop { s: s, d: far * far }
+    let far = g.abs_diff(t << 9);
+    Stop { s, d: far * far }
 }
 
 // The nearest places to the received coordinate r.
@@ -91,11 +66,9 @@ fn both_stops(m: u32, r: i32) -> Stops
     ensures { result ≡ stops_of m r }
 {
     let g = origin(r);
-    let zero = nearest_stop(m, 0, g);
-    let one = nearest_stop(m, 1, g - 256);
     Stops {
-        zero: zero,
-        one: one,
+        zero: nearest_stop(m, 0, g),
+        one: nearest_stop(m, 1, g - 256),
     }
 }
 
@@ -118,16 +91,10 @@ pub fn search(u: u32, h: Spot) -> Found
     let m = u >> 1;
     let xs = both_stops(m, h.x);
     let ys = both_stops(m, h.y);
-    let x0 = xs.zero;
-    let x1 = xs.one;
-    let y0 = ys.zero;
-    let y1 = ys.one;
-    let a = joined(x0, y0);
-    let c = joined(x0, y1);
-    let b = joined(x1, y1);
-    let d = joined(x1, y0);
-    Found {
-        w: [a.w, c.w, b.w, d.w],
-        d: [a.d, c.d, b.d, d.d],
-    }
+    Found::of(
+        joined(xs.zero, ys.zero),
+        joined(xs.zero, ys.one),
+        joined(xs.one, ys.one),
+        joined(xs.one, ys.zero),
+    )
 }

@@ -15,11 +15,11 @@
 --   Handed             what a pass has heard, and what it handed to `write`
 --   bytes_of hs, text_of hs   all that some passes heard, and all that they handed on; the newest pass stands first
 --   Follow most c hs   passes one after the other from c on, each adding to the answers what it handed on
---   fine got, over got    a read that answered got did not fail; it found the input's end, which is the answer 0 alone
---   took lab got most  what such a read, into a chunk of `most` bytes, leaves to be heard; where it failed the program does not go on
---   Reads last ..      there is a read only where all that was read before is heard. What it answers no contract can say: got is free
-use Rattle.std.specs.Prelude.{ℕ, zero, suc, ◌-◌, ◌≤◌, ◌<◌, ◌≡◌, Bool, true, false, cond, List, [], ◌∷◌, ◌++◌, eqb, ℤ, pos, negsuc, length, take, drop}
-use Rattle.io.specs.Counts.{clamp_len}
+--   fine got, over got    a read that gave got did not fail, which is None; it found the input's end, which is Some 0 alone
+--   took lab got       what such a read leaves to be heard; where it failed the program does not go on
+--   Reads last ..      there is a read only where all that was read before is heard. What it gives no contract can say: got is free, but no
+--                      more than the chunk has room for
+use Rattle.std.specs.Prelude.{ℕ, ◌-◌, ◌≤◌, ◌<◌, ◌≡◌, Bool, true, false, cond, List, [], ◌∷◌, ◌++◌, eqb, length, take, drop, Option, Some, None, IfSome}
 use Rattle.desk.specs.declared.Desk.{Desk}
 use Rattle.line_reply.specs.declared.Lab.{Lab}
 use Rattle.line_buffer.specs.Part.{Gathered}
@@ -81,25 +81,29 @@ abbrev pub Follow : ℕ → Course → List Handed → Type 0
 Follow most c [] = Unit {0}
 Follow most c (h ∷ hs) = Follow most c hs × ((streaming most (streaming most c (bytes_of hs)) h.bytes).text ≡ (streaming most c (bytes_of hs)).text ++ h.text)
 
-abbrev pub fine : ℤ → Bool
-fine (pos n) = true
-fine (negsuc n) = false
+abbrev pub fine : Option ℕ → Bool
+fine (Some n) = true
+fine None = false
 
-abbrev pub over : ℤ → Bool
-over (pos zero) = true
-over (pos (suc n)) = false
-over (negsuc n) = false
+abbrev pub over : Option ℕ → Bool
+over (Some n) = eqb n 0
+over None = false
 
-abbrev pub took : Lab → ℤ → ℕ → Progress
-took lab got most =
+abbrev pub count : Option ℕ → ℕ
+count (Some n) = n
+count None = 0
+
+abbrev pub took : Lab → Option ℕ → Progress
+took lab got =
     record {
       lab = record { desk = lab.desk; part = lab.part; at = lab.at; on = fine got };
       from = 0;
-      to = clamp_len got most;
+      to = count got;
       ends = over got;
     }
 
 pub record Reads (last : Progress) (chunk : List ℕ) (r : Progress) (chunk' : List ℕ) : Type 0 where
-  pub got : ℤ
-  pub read : last.to ≤ last.from → r ≡ took last.lab got (length chunk)
+  pub got : Option ℕ
+  pub few : IfSome got (λ n. n ≤ length chunk)
+  pub read : last.to ≤ last.from → r ≡ took last.lab got
   pub kept : last.from < last.to → (r ≡ last) × (chunk' ≡ chunk)

@@ -12,7 +12,7 @@ use std::io::Read;
 use text::token;
 
 // What became of the lines so far, the place in the chunk up to which it is heard, how many bytes it holds, and whether the input has
-// ended.
+// ended: a flag, since `Passes` speaks of the lab after the end too.
 #[derive(Clone, Copy)]
 struct Progress {
     lab: Lab,
@@ -34,11 +34,11 @@ fn flush(to: Streams, lab: Lab, page: &[u8]) -> Lab
     requires { lab.at ≤ length page.now }
     ensures { (result.desk ≡ lab.desk) × (result.part ≡ lab.part) × (result.at ≡ lab.at) }
 {
-    let at = lab.at;
-    let is_written = edge::write(to, &page[..at], b"lab: standard output");
-    let mut next = lab;
-    next.on = lab.on && is_written;
-    next
+    let is_written = edge::write(to, &page[..lab.at], b"lab: standard output");
+    Lab {
+        on: lab.on && is_written,
+        ..lab
+    }
 }
 
 // Answers line by line, up to the chunk's end or until a quarter of the page is filled, and keeps what stands after the last newline.
@@ -53,12 +53,11 @@ fn hear_chunk(lab: Lab, chunk: &[u8], line: &mut [u8], page: &mut [u8]) -> Heard
 {
     let mut now = lab;
     let mut from = 0;
+    // no `for` over the lines: the loop ends where the page is filled, and has to say at which byte
     while from < chunk.len() && now.at <= 32768 {
         let n = token::before(&chunk[from..], b'\n');
         let end = from + n;
-        let part = now.part;
-        let grown = line_buffer::gather(part, line, &chunk[from..end]);
-        now.part = grown;
+        now.part = line_buffer::gather(now.part, line, &chunk[from..end]);
         if end == chunk.len() {
             return Heard {
                 lab: now,
@@ -81,8 +80,7 @@ fn hear_end(lab: Lab, line: &[u8], page: &mut [u8]) -> Lab
     ensures at_bound_2 { (result.at ≤ 131072) × (result.part.held ≤ length line.now) }
     ensures moves { Moves (last_line (length line.now)) line.now lab page.old line.now result page.new }
 {
-    let part = lab.part;
-    if part.held == 0 && !part.long {
+    if lab.part.held == 0 && !lab.part.long {
         return lab;
     }
     line_reply::reply(lab, line, page)
@@ -96,42 +94,35 @@ fn answer(to: Streams, last: Progress, chunk: &[u8], line: &mut [u8], page: &mut
     ensures from_lt_from { last.ends ≡ false → last.from < last.to → last.from < result.from }
     ensures passes { Passes last chunk.now line.old result line.new page.new }
 {
-    let mut lab = last.lab;
-    lab.at = 0;
-    let from = last.from;
-    let till = last.to;
+    let lab = Lab { at: 0, ..last.lab };
     if last.ends {
         let ended = hear_end(lab, line, page);
         return Progress {
             lab: flush(to, ended, page),
-            from,
-            to: till,
-            ends: true,
+            ..last
         };
     }
-    let heard = hear_chunk(lab, &chunk[from..till], line, page);
-    let next = heard.lab;
-    let passed = from + heard.count;
+    let heard = hear_chunk(lab, &chunk[last.from..last.to], line, page);
     Progress {
-        lab: flush(to, next, page),
-        from: passed,
-        to: till,
-        ends: false,
+        lab: flush(to, heard.lab, page),
+        from: last.from + heard.count,
+        ..last
     }
 }
 
-// What a read that answered `got` leaves to be heard. Only 0 is the input's end: where a read failed, what was gathered of a line is
-// no line.
-fn took(lab: Lab, got: isize, chunk: &[u8]) -> Progress
-    ensures { result ≡ Stream·took lab got (length chunk.now) }
+// What a read that gave `got` leaves to be heard. Only 0 is the input's end: where a read failed, what was gathered of a line is no
+// line.
+fn took(lab: Lab, got: Option<usize>) -> Progress
+    ensures { result ≡ Stream·took lab got }
 {
-    let mut next = lab;
-    next.on = got >= 0;
     Progress {
-        lab: next,
+        lab: Lab {
+            on: got.is_some(),
+            ..lab
+        },
         from: 0,
-        to: io::count(got, chunk),
-        ends: got == 0,
+        to: got.unwrap_or(0),
+        ends: got == Some(0),
     }
 }
 
@@ -141,17 +132,14 @@ fn refill<R: Read>(input: &mut R, to: Streams, last: Progress, chunk: &mut [u8])
     ensures from_le_to { (result.from ≤ result.to) × (result.to ≤ length chunk.old) × (result.lab.desk ≡ last.lab.desk) × (result.lab.part ≡ last.lab.part) }
     ensures reads { Reads last chunk.old result chunk.new }
 {
-    let from = last.from;
-    if from < last.to {
+    if last.from < last.to {
         return last;
     }
-    let lab = last.lab;
     let got = edge::read(input, chunk, to, b"lab: standard input");
-    took(lab, got, chunk)
+    took(last.lab, got)
 }
 
-// A proved loop has to end, and nothing says that the input does. So the passes are counted down, from 2^64 - 1, a number that no
-// run uses up.
+// A proved loop has to end, and nothing says that the input does: no run uses up so many passes.
 pub fn serve<R: Read>(
     input: &mut R,
     to: Streams,
@@ -173,13 +161,11 @@ pub fn serve<R: Read>(
         to: 0,
         ends: false,
     };
-    let mut passes = u64::MAX;
-    while passes > 0 {
+    for _ in 0..u64::MAX {
         now = refill(input, to, now, chunk);
         now = answer(to, now, chunk, line, page);
         if now.ends || !now.lab.on {
             return;
         }
-        passes -= 1;
     }
 }

@@ -15,7 +15,7 @@ pub struct Nearer {
     pub i3: u8,
 }
 
-// The same for all eight subsets, in the order of their numbers 4·Y0 + 2·I1 + I2'.
+// The same for all eight subsets, in the order of their numbers 4·Y0 + 2·I1 + I2'. Two rows, since select is lent the costs alone.
 #[derive(Clone, Copy)]
 pub struct Choices {
     pub costs: [u32; 8],
@@ -28,9 +28,7 @@ fn type_sum(d1: [u32; 4], d2: [u32; 4], y0: u32, i1: u32, i2: u32, i3: u32) -> u
     ensures { result ≡ sum_of d1 d2 y0 i1 i2 i3 }
 {
     let l = wei::label::labels(2 * i3 + i2, y0, i1);
-    let first = l.first as usize;
-    let second = l.second as usize;
-    d1[first] + d2[second]
+    d1[l.first as usize] + d2[l.second as usize]
 }
 
 // The nearer type of the subset Y0, I1, I2'; of equals that with I3' = 0.
@@ -47,6 +45,8 @@ fn nearer_type(d1: [u32; 4], d2: [u32; 4], y0: u32, i1: u32, i2: u32) -> Nearer
     }
 }
 
+// Eight calls and no loop over the subsets: each one's labels are then constants. A `for` proved, and took 17.3 nanoseconds for 13.7 where
+// its inputs had just been written.
 pub fn nearer_types(d1: [u32; 4], d2: [u32; 4]) -> Choices
     requires { Summable d1 d2 }
     ensures { result ≡ choices_of (λ y0 i1 i2. nearer_of (sum_of d1 d2 y0 i1 i2)) }

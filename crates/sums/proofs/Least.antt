@@ -1,9 +1,10 @@
 -- The place of the least number. One more asked: it is the new place, or the place so far.
---   least-less, least_kept   one number more
+--   least-less, least_kept, least-min   one number more
 --   end_below, lowest-le     where the least of sixteen stands, and that it is the least
 use mathlib.Core.Path.{◌≡◌, sym, ap, ◌∙◌}
-use Prim.Native.Nat.{ℕ, suc, ◌+◌, ◌-◌, ◌≤◌, ◌<◌}
+use Prim.Native.Nat.{ℕ, suc, ◌+◌, ◌-◌, ◌≤◌, ◌<◌, min}
 use native.Mathlib.Omega.{arith}
+use native.Mathlib.Decide.{dec_lt}
 use mathlib.Core.List.{List}
 use lib.Dec.{ltb}
 use lib.ListN.{get_or}
@@ -26,6 +27,14 @@ module _ (f : ℕ → ℕ) (s b : ℕ) (some : 1 ≤ s) (so_far : b ≡ least f 
 
   pub least_kept : f b ≤ f s → b ≡ least f (s + 1 - 1)
   least_kept h = sym (next-least ∙ rw (le-ltb _ _ h))
+
+  -- the less of the two
+  pub least-min : min (f b) (f s) ≡ f (least f (s + 1 - 1))
+  least-min = go (dec_lt (f s) (f b))
+    where
+      go : Dec (f s < f b) → min (f b) (f s) ≡ f (least f (s + 1 - 1))
+      go (yes h) = let e : min (f b) (f s) ≡ f s = omega arith in e ∙ ap f (least-less h)
+      go (no h) = let e : min (f b) (f s) ≡ f b = omega arith in e ∙ ap f (least_kept (omega arith))
 
 pub end_below : (l : List ℕ) → end_of l < 16
 unfolding end_of

@@ -1,6 +1,6 @@
 -- Laws of digits: the worth of each kind of byte, and how `number_of` goes byte by byte.
 use Prim.Native.Nat.{ℕ, suc, ◌+◌, ◌-◌, ◌*◌, ◌≤◌, ◌<◌}
-use mathlib.Core.Path.{◌≡◌, refl, sym, ◌∙◌}
+use mathlib.Core.Path.{◌≡◌, refl, sym, ap, ◌∙◌}
 use mathlib.Core.Bool.{Bool, true, false, cond}
 use mathlib.Core.List.{List, [], ◌∷◌}
 use native.Mathlib.Omega.{arith}
@@ -11,36 +11,35 @@ use lib.Dec.{leb}
 use lib.IntN.{pos, neg_ℤ}
 use lib.ListN.{length, get_or, take, drop, length-drop, drop_of_length-le}
 use lib.Seq.{drop-cons, take_all}
-use Rattle.text.specs.Number.{between, digit_of, only_digits, value, number_of, hex_of, whole_of, signed}
-use Rattle.text.specs.declared.number.Number.TheVariants as number
-use Rattle.text.specs.declared.number.Whole.TheVariants as whole
+use Rattle.std.specs.Prelude.{Option, Some, None, unwrap_or, option_map}
+use Rattle.text.specs.Number.{between, digit_of, only_digits, value, number_of, hex_of, whole_of}
 
-inside : (low high first other : ℕ) {b : ℕ} → low ≤ b → b ≤ high → between low high first b other ≡ b - low + first
+inside : (low high first : ℕ) (other : Option ℕ) {b : ℕ} → low ≤ b → b ≤ high → between low high first b other ≡ Some (b - low + first)
 inside low high first other {b} h k = simp (le-leb low b h, le-leb b high k)
 
-outside : (low high first other : ℕ) {b : ℕ} → (low ≤ b → b ≤ high → ⊥) → between low high first b other ≡ other
+outside : (low high first : ℕ) (other : Option ℕ) {b : ℕ} → (low ≤ b → b ≤ high → ⊥) → between low high first b other ≡ other
 outside low high first other {b} h = by (leb low b) (leb b high) refl refl where
-  by : (x y : Bool) → leb low b ≡ x → leb b high ≡ y → cond x (cond y (b - low + first) other) other ≡ other
+  by : (x y : Bool) → leb low b ≡ x → leb b high ≡ y → cond x (cond y (Some (b - low + first)) other) other ≡ other
   by true true e f = absurd (h (leb-true low b e) (leb-true b high f))
   by true false e f = refl
   by false y e f = refl
 
-above : (low high first other : ℕ) {b : ℕ} → high < b → between low high first b other ≡ other
+above : (low high first : ℕ) (other : Option ℕ) {b : ℕ} → high < b → between low high first b other ≡ other
 above low high first other h = outside low high first other (λ p q. omega arith)
 
-pub figure : (b : ℕ) → 48 ≤ b → b < 58 → b - 48 ≡ digit_of b
+pub figure : (b : ℕ) → 48 ≤ b → b < 58 → Some (b - 48) ≡ digit_of b
 unfolding digit_of
-figure b h k = rw (inside 48 57 0 _ h (omega arith)) (omega arith)
+figure b h k = rw (inside 48 57 0 _ {b = b} h (omega arith)) (ap Some (omega arith))
 
-pub large-letter : (b : ℕ) → 65 ≤ b → b < 71 → b - 65 + 10 ≡ digit_of b
+pub large-letter : (b : ℕ) → 65 ≤ b → b < 71 → Some (b - 65 + 10) ≡ digit_of b
 unfolding digit_of
 large-letter b h k = rw (above 48 57 0 _ {b = b} (omega arith), inside 65 70 10 _ {b = b} h (omega arith))
 
-pub small-letter : (b : ℕ) → 97 ≤ b → b < 103 → b - 97 + 10 ≡ digit_of b
+pub small-letter : (b : ℕ) → 97 ≤ b → b < 103 → Some (b - 97 + 10) ≡ digit_of b
 unfolding digit_of
 small-letter b h k = rw (above 48 57 0 _ {b = b} (omega arith), above 65 70 10 _ {b = b} (omega arith), inside 97 102 10 _ {b = b} h (omega arith))
 
-pub no_digit : (b : ℕ) → (48 ≤ b → b ≤ 57 → ⊥) → (65 ≤ b → b ≤ 70 → ⊥) → (97 ≤ b → b ≤ 102 → ⊥) → 16 ≡ digit_of b
+pub no_digit : (b : ℕ) → (48 ≤ b → b ≤ 57 → ⊥) → (65 ≤ b → b ≤ 70 → ⊥) → (97 ≤ b → b ≤ 102 → ⊥) → None ≡ digit_of b
 unfolding digit_of
 no_digit b h k l = rw (outside 48 57 0 _ h, outside 65 70 10 _ k, outside 97 102 10 _ l)
 
@@ -61,36 +60,39 @@ pub record Reads (base : ℕ) (s : List ℕ) (n i : ℕ) : Type 0 where
 pub started : (base : ℕ) (s : List ℕ) → Reads base s 0 0
 started base s = record { only = refl; value-is = refl }
 
-pub further : {base : ℕ} {s : List ℕ} {n i d : ℕ} → Reads base s n i → i < length s → d ≡ digit_of (get_or s i 0) → d < base → Reads base s (n * base + d) (i + 1)
+pub further : {base : ℕ} {s : List ℕ} {n i d : ℕ} → Reads base s n i → i < length s → Some d ≡ digit_of (get_or s i 0) → d < base → Reads base s (n * base + d) (i + 1)
 further {base} {s} {n} {i} {d} r h is k = record { only = on ∙ r.only; value-is = grown ∙ r.value-is } where
   on : only_digits base (drop (i + 1) s) ≡ only_digits base (drop i s)
-  on = rw (add-one, drop-cons s i 0 h) (simp (lt-ltb (digit_of (get_or s i 0)) base (omega arith)))
+  on = rw (add-one, drop-cons s i 0 h, ← is) (simp (lt-ltb d base k))
 
   grown : value base (n * base + d) (drop (i + 1) s) ≡ value base n (drop i s)
-  grown = rw (add-one, drop-cons s i 0 h, is)
+  grown =
+      rw (add-one, drop-cons s i 0 h)
+      (ap (λ (o : Option ℕ). value base (n * base + unwrap_or o 0) (drop (suc i) s)) is)
 
 value_grows : (base n : ℕ) (s : List ℕ) → 1 ≤ base → n ≤ value base n s
 value_grows base n [] h = omega arith
-value_grows base n (b ∷ s) h = omega (arith, value_grows base (n * base + digit_of b) s h, le-mul_of_pos_right {m = base} n h)
+value_grows base n (b ∷ s) h = omega (arith, value_grows base (n * base + unwrap_or (digit_of b) 0) s h, le-mul_of_pos_right {m = base} n h)
 
-pub bad-bytes : (base most : ℕ) (s : List ℕ) → only_digits base s ≡ false → number.Bad ≡ number_of base most s
+pub bad-bytes : (base most : ℕ) (s : List ℕ) → only_digits base s ≡ false → None ≡ number_of base most s
 unfolding number_of
-bad-bytes base most s h = simp h (both (leb 1 (length s)) number.Bad)
+bad-bytes base most s h = simp h (both (leb 1 (length s)) None)
 
 module _ {base : ℕ} {s : List ℕ} {n i : ℕ} (r : Reads base s n i) (most : ℕ) where
-  pub other_byte : (d : ℕ) → i < length s → d ≡ digit_of (get_or s i 0) → base ≤ d → number.Bad ≡ number_of base most s
-  other_byte d h is k =
-      bad-bytes base most s
-      (sym r.only ∙ rw (drop-cons s i 0 h) (simp (le-ltb (digit_of (get_or s i 0)) base (omega arith))))
+  pub no-digit : i < length s → None ≡ digit_of (get_or s i 0) → None ≡ number_of base most s
+  no-digit h is = bad-bytes base most s (sym r.only ∙ rw (drop-cons s i 0 h, ← is))
 
-  pub too_large : 1 ≤ base → most < n → number.Bad ≡ number_of base most s
+  pub other_byte : (d : ℕ) → i < length s → Some d ≡ digit_of (get_or s i 0) → base ≤ d → None ≡ number_of base most s
+  other_byte d h is k = bad-bytes base most s (sym r.only ∙ rw (drop-cons s i 0 h, ← is) (simp (le-ltb d base k)))
+
+  pub too_large : 1 ≤ base → most < n → None ≡ number_of base most s
   unfolding number_of
   too_large h k =
       let over : most < value base 0 s = omega (arith, r.value-is, value_grows base n (drop i s) h) in
       simp (lt-leb (value base 0 s) most over)
-      (rw (← both (only_digits base s) number.Bad) (both (leb 1 (length s)) number.Bad))
+      (rw (← both {A = Option ℕ} (only_digits base s) None) (both {A = Option ℕ} (leb 1 (length s)) None))
 
-  pub all_read : length s ≤ i → 1 ≤ length s → n ≤ most → number.Got n ≡ number_of base most s
+  pub all_read : length s ≤ i → 1 ≤ length s → n ≤ most → Some n ≡ number_of base most s
   unfolding number_of
   all_read h k l =
       let none : drop i s ≡ [] = drop_of_length-le s h in
@@ -98,15 +100,15 @@ module _ {base : ℕ} {s : List ℕ} {n i : ℕ} (r : Reads base s n i) (most : 
       let is : value base 0 s ≡ n = sym r.value-is ∙ rw none in
       simp (le-leb 1 (length s) k, only, is, le-leb n most l)
 
-pub no_bytes : (base most : ℕ) (s : List ℕ) → length s ≡ 0 → number.Bad ≡ number_of base most s
+pub no_bytes : (base most : ℕ) (s : List ℕ) → length s ≡ 0 → None ≡ number_of base most s
 unfolding number_of
 no_bytes base most s h = simp (lt-leb 1 (length s) (omega arith))
 
-pub got-most : (base most : ℕ) (s : List ℕ) {n : ℕ} → number.Got n ≡ number_of base most s → n ≤ most
+pub got-most : (base most : ℕ) (s : List ℕ) {n : ℕ} → Some n ≡ number_of base most s → n ≤ most
 unfolding number_of
 got-most base most s {n} = by (leb 1 (length s)) (only_digits base s) (leb (value base 0 s) most) refl where
   by : (x y z : Bool) → leb (value base 0 s) most ≡ z
-      → number.Got n ≡ cond x (cond y (cond z (number.Got (value base 0 s)) number.Bad) number.Bad) number.Bad → n ≤ most
+      → Some n ≡ cond x (cond y (cond z (Some (value base 0 s)) None) None) None → n ≤ most
   by true true true e h =
       let same : n ≡ value base 0 s = cc in
       omega (arith, leb-true (value base 0 s) most e)
@@ -118,21 +120,15 @@ pub eight : (s : List ℕ) → length s ≡ 8 → number_of 16 4294967295 s ≡ 
 unfolding hex_of
 eight s h = simp (eq-eqb (length s) 8 h)
 
-pub not_eight : (s : List ℕ) → (length s ≡ 8 → ⊥) → number.Bad ≡ hex_of s
+pub not_eight : (s : List ℕ) → (length s ≡ 8 → ⊥) → None ≡ hex_of s
 unfolding hex_of
 not_eight s h = simp (ne_eqb (length s) 8 h)
 
-pub no_whole : (s : List ℕ) → length s ≡ 0 → whole.Bad ≡ whole_of s
+pub minus-whole : (s t : List ℕ) → s ≡ 45 ∷ t → option_map (λ n. neg_ℤ (pos n)) (number_of 10 2147483648 t) ≡ whole_of s
 unfolding whole_of
-no_whole [] h = refl
-no_whole (b ∷ s) h = absurd (omega arith)
+minus-whole s t e = rw e
 
-pub minus-whole : (s : List ℕ) → (length s ≡ 0 → ⊥) → get_or s 0 0 ≡ 45 → signed (λ n. neg_ℤ (pos n)) (number_of 10 2147483648 (take (length s - 1) (drop 1 s))) ≡ whole_of s
-unfolding whole_of
-minus-whole [] h e = absurd (h refl)
-minus-whole (b ∷ s) h e = rw (to_end 1 (b ∷ s)) (simp (eq-eqb b 45 e))
-
-pub plain-whole : (s : List ℕ) → (length s ≡ 0 → ⊥) → (get_or s 0 0 ≡ 45 → ⊥) → signed pos (number_of 10 2147483647 s) ≡ whole_of s
-unfolding whole_of
-plain-whole [] h e = absurd (h refl)
-plain-whole (b ∷ s) h e = simp (ne_eqb b 45 e)
+pub plain-whole : (s : List ℕ) → ((t : List ℕ) → s ≡ 45 ∷ t → ⊥) → option_map pos (number_of 10 2147483647 s) ≡ whole_of s
+unfolding whole_of number_of
+plain-whole [] h = refl
+plain-whole (b ∷ s) h = simp (ne_eqb b 45 (λ e. h s (ap (λ x. x ∷ s) e)))

@@ -1,16 +1,18 @@
 -- Laws of tokens.
 use Prim.Native.Nat.{ℕ, suc, ◌+◌, ◌-◌, ◌≤◌, ◌<◌}
-use mathlib.Core.Path.{◌≡◌, refl, sym, ap, ◌∙◌}
-use mathlib.Core.Bool.{Bool, true, false, cond}
+use mathlib.Core.Path.{◌≡◌, refl, sym, ap}
+use mathlib.Core.Bool.{Bool, true, false, cond, ◌&&◌}
 use mathlib.Core.List.{List, [], ◌∷◌}
 use native.Mathlib.Omega.{arith}
-use native.Mathlib.Numerals.{add-one}
-use borrow.Author.Tests.{eq-eqb, ne_eqb, eqb-true, ltb-true, ltb-false, le-ltb}
+use borrow.Author.Tests.{eqb-true, ltb-true, ltb-false}
 use lib.Dec.{eqb, ltb}
-use lib.ListN.{length, get_or, take, drop, length-drop, drop_of_length-le}
-use lib.Seq.{drop-cons, take_all, length-take-le}
-use Rattle.text.specs.Number.{digit_of, only_digits, value, number_of, hex_of}
-use Rattle.text.specs.declared.number.Number.TheVariants as number
+use lib.ListN.{length, take, drop, length-drop}
+use lib.Seq.{take_all, length-take-le}
+use Rattle.text.specs.Number.{digit_of, is_below, only_digits, number_of, hex_of}
+use Rattle.std.specs.Prelude.{Some, None, unwrap_or, nat_eq}
+use Rattle.std.specs.List.{position_or_len}
+use Rattle.std.specs.Cmp.Lexicographic.{pointwise}
+use Rattle.std.proofs.lemmas.List.Recursion.{is_position_or_len}
 use Rattle.text.proofs.Digits.{both, to_end, no_digit, bad-bytes}
 use Rattle.text.specs.Token.{in_front, tokens, length_before, Cuts, same_bytes}
 
@@ -21,51 +23,35 @@ at-most-all c (b ∷ s) = by (eqb b c) (at-most-all c s) where
   by true h = omega arith
   by false h = omega arith
 
--- the first i bytes of s are none of them c
-pub record Passed (s : List ℕ) (c i : ℕ) : Type 0 where
-  pub all : i + length_before c (drop i s) ≡ length_before c s
+is-position : (c : ℕ) (s : List ℕ) → length_before c s ≡ position_or_len (λ x. eqb x c) s
+is-position c s = is_position_or_len (length_before c) (λ x. eqb x c) refl (λ x xs. step (eqb x c) (length_before c xs)) s where
+  step : (t : Bool) (n : ℕ) → cond t 0 (suc n) ≡ cond t 0 (1 + n)
+  step true n = refl
+  step false n = omega arith
 
-pub none_yet : (s : List ℕ) (c : ℕ) → Passed s c 0
-none_yet s c = record { all = omega arith }
+-- the place of the first c, or the length where there is none
+pub cuts : (c : ℕ) (s : List ℕ) → Cuts c s (unwrap_or (cond (ltb (position_or_len (λ x. eqb x c) s) (length s)) (Some (position_or_len (λ x. eqb x c) s)) None) (length s))
+cuts c s = rw (← is-position c s) (by (ltb (length_before c s) (length s)) refl) where
+  cut : (r : ℕ) → r ≡ length_before c s → Cuts c s r
+  cut r e = let within : r ≤ length s = omega (arith, e, at-most-all c s) in
+      record { is = e; within = within; count = sym (length-take-le r s within) }
 
-module _ {s : List ℕ} {c i : ℕ} (p : Passed s c i) where
-  cuts : i ≡ length_before c s → i ≤ length s → Cuts c s i
-  cuts e h = record { is = e; within = h; count = sym (length-take-le i s h) }
-
-  pub found : i < length s → get_or s i 0 ≡ c → Cuts c s i
-  found h e =
-      let none : length_before c (drop i s) ≡ 0 = rw (drop-cons s i 0) (simp (eq-eqb (get_or s i 0) c e)) in
-      cuts (omega (arith, p.all)) (omega arith)
-
-  pub passed : i < length s → (get_or s i 0 ≡ c → ⊥) → Passed s c (i + 1)
-  passed h e =
-      let more : length_before c (drop i s) ≡ suc (length_before c (drop (i + 1) s)) = rw (add-one, drop-cons s i 0) (simp (ne_eqb (get_or s i 0) c e)) in
-      record { all = omega (arith, p.all) }
-
-  pub not_there : length s ≤ i → Cuts c s i
-  not_there h =
-      let none : length_before c (drop i s) ≡ 0 = rw (drop_of_length-le s h) in
-      cuts (omega (arith, p.all)) (omega (arith, p.all, at-most-all c s))
+  by : (t : Bool) → ltb (length_before c s) (length s) ≡ t → Cuts c s (unwrap_or (cond t (Some (length_before c s)) None) (length s))
+  by true e = cut _ refl
+  by false e = cut _ (omega (arith, at-most-all c s, ltb-false (length_before c s) (length s) e))
 
 -- what stands at `from` before a byte c ends in s
 pub token_end : (s : List ℕ) (from : ℕ) {c n : ℕ} → from ≤ length s → Cuts c (take (length s - from) (drop from s)) n → from + n ≤ length s
 token_end s from h cut = omega (arith, cut.within, ap length (to_end from s), length-drop from s)
 
-pub other_length : (a b : List ℕ) → (length a ≡ length b → ⊥) → false ≡ same_bytes a b
-other_length [] [] h = absurd (h refl)
-other_length [] (y ∷ b) h = refl
-other_length (x ∷ a) [] h = refl
-other_length (x ∷ a) (y ∷ b) h = rw (← other_length a b (λ e. h (ap suc e))) (both (eqb x y) false)
-
-module _ (a b : List ℕ) (i : ℕ) (long : length a ≡ length b) (in-range : i < length a) where
-  pub differ : (get_or a i 0 ≡ get_or b i 0 → ⊥) → same_bytes (drop i a) (drop i b) ≡ false
-  differ h = rw (drop-cons a i 0 in-range, drop-cons b i 0 (omega arith)) (simp (ne_eqb (get_or a i 0) (get_or b i 0) h))
-
-  pub agree : get_or a i 0 ≡ get_or b i 0 → same_bytes (drop (i + 1) a) (drop (i + 1) b) ≡ same_bytes (drop i a) (drop i b)
-  agree h = rw (add-one, drop-cons a i 0 in-range, drop-cons b i 0 (omega arith)) (simp (eq-eqb (get_or a i 0) (get_or b i 0) h))
-
-pub all-agree : (a b : List ℕ) (i : ℕ) → length a ≡ length b → length a ≤ i → same_bytes (drop i a) (drop i b) ≡ true
-all-agree a b i e h = rw (drop_of_length-le a h, drop_of_length-le b {i = i} (omega arith))
+pub same-pointwise : (a b : List ℕ) → pointwise nat_eq a b ≡ same_bytes a b
+same-pointwise [] [] = refl
+same-pointwise [] (y ∷ b) = refl
+same-pointwise (x ∷ a) [] = refl
+same-pointwise (x ∷ a) (y ∷ b) = rw (same-pointwise a b) (by (eqb x y) (same_bytes a b)) where
+  by : (t u : Bool) → (t && u) ≡ cond t u false
+  by true u = refl
+  by false u = refl
 
 -- where there is no space, all is one token
 pub last-token : (s : List ℕ) → length_before 32 s ≡ length s → tokens s ≡ s ∷ []
@@ -109,16 +95,16 @@ module _ (base : ℕ) (small : base ≤ 16) where
   spaced-digits [] h = absurd (omega arith)
   spaced-digits (b ∷ s) h = by (eqb b 32) refl (spaced-digits s) h where
     by : (t : Bool) → eqb b 32 ≡ t → (length_before 32 s < length s → only_digits base s ≡ false) → cond t 0 (suc (length_before 32 s)) < suc (length s)
-        → cond (ltb (digit_of b) base) (only_digits base s) false ≡ false
+        → cond (is_below base (digit_of b)) (only_digits base s) false ≡ false
     by true e f g =
         let space : b ≡ 32 = eqb-true b 32 e in
         let none = no_digit b (λ p q. omega arith) (λ p q. omega arith) (λ p q. omega arith) in
-        rw (le-ltb (digit_of b) base (omega arith))
-    by false e f g = rw (f (omega arith)) (sym (both (ltb (digit_of b) base) false))
+        rw (← none)
+    by false e f g = rw (f (omega arith)) (sym (both (is_below base (digit_of b)) false))
 
-  pub spaced-number : (most : ℕ) (s : List ℕ) → length_before 32 s < length s → number.Bad ≡ number_of base most s
+  pub spaced-number : (most : ℕ) (s : List ℕ) → length_before 32 s < length s → None ≡ number_of base most s
   spaced-number most s h = bad-bytes base most s (spaced-digits s h)
 
-pub spaced-hex : (s : List ℕ) → length_before 32 s < length s → number.Bad ≡ hex_of s
+pub spaced-hex : (s : List ℕ) → length_before 32 s < length s → None ≡ hex_of s
 unfolding hex_of
-spaced-hex s h = rw (← spaced-number 16 (omega arith) 4294967295 s h) (both (eqb (length s) 8) number.Bad)
+spaced-hex s h = rw (← spaced-number 16 (omega arith) 4294967295 s h) (both (eqb (length s) 8) None)

@@ -3,7 +3,7 @@
 --   length_before c s  how many bytes of s stand before the first c, or all; for a space, the length of the first token
 --   Cuts c s r        r is that length, which is at most the whole and so counts the bytes before
 --   same_bytes a b     whether a and b are the same
-use Rattle.std.specs.Prelude.{ℕ, zero, suc, ◌≤◌, ◌≡◌, Bool, true, false, cond, List, [], ◌∷◌, eqb, length, take}
+use Rattle.std.specs.Prelude.{ℕ, suc, ◌≤◌, ◌≡◌, Bool, true, false, cond, List, [], ◌∷◌, eqb, length, take}
 
 -- b put in front of the first token
 abbrev pub in_front : ℕ → List (List ℕ) → List (List ℕ)

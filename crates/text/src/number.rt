@@ -1,71 +1,71 @@
-// Numbers as a token writes them: digits and nothing else, before a whole number one minus.
+// Numbers as a token writes them: digits and nothing else, before a whole number one minus. A token that writes none gives `None`.
 ghost use Rattle.std.specs.Prelude.{◌≡◌, ◌≤◌, pos, neg_ℤ};
 ghost use Rattle.text.specs.Number.{digit_of, number_of, whole_of, hex_of};
 
-// What a token writes: a number, or none that is wanted.
-#[derive(Clone, Copy)]
-pub enum Number {
-    Got(u32),
-    Bad,
-}
-
-#[derive(Clone, Copy)]
-pub enum Whole {
-    Got(i32),
-    Bad,
-}
-
-// The worth of a digit, 0 to 15, or 16 for any other byte.
-pub fn digit(b: u8) -> u64
+// The worth of a digit, 0 to 15.
+pub fn digit(b: u8) -> Option<u64>
     ensures { result ≡ digit_of b }
 {
     match b {
-        b'0'..=b'9' => (b - b'0') as u64,
-        b'A'..=b'F' => (b - b'A') as u64 + 10,
-        b'a'..=b'f' => (b - b'a') as u64 + 10,
-        _ => 16,
+        b'0'..=b'9' => Some(u64::from(b - b'0')),
+        b'A'..=b'F' => Some(u64::from(b - b'A') + 10),
+        b'a'..=b'f' => Some(u64::from(b - b'a') + 10),
+        _ => None,
     }
 }
 
-// The number that the digits of this base write, at least one and any number of zeros in front. Bad: any other byte, or a
-// number above most.
-fn digits(s: &[u8], base: u64, most: u32) -> Number
+// The number that the digits of this base write, at least one and any number of zeros in front, if there is no other byte and the
+// number is at most `most`.
+fn digits(s: &[u8], base: u64, most: u64) -> Option<u64>
     requires { (1 ≤ base) × (base ≤ 16) }
     ensures { result ≡ number_of base most s.now }
 {
-    if s.len() == 0 {
-        return Number::Bad;
+    if s.is_empty() {
+        return None;
     }
     let mut n: u64 = 0;
-    let mut i = 0;
-    while i < s.len() {
-        let d = digit(s[i]);
+    for &b in s {
+        let d = digit(b)?;
         if base <= d {
-            return Number::Bad;
+            return None;
         }
-        n = n * base + d;
-        if (most as u64) < n {
-            return Number::Bad;
+        n = n.checked_mul(base)?.checked_add(d)?;
+        if most < n {
+            return None;
         }
-        i += 1;
     }
-    Number::Got(n as u32)
+    Some(n)
 }
 
-pub fn decimal(s: &[u8], most: u32) -> Number
+// The same where 32 bits hold it.
+fn short(s: &[u8], base: u64, most: u32) -> Option<u32>
+    requires { (1 ≤ base) × (base ≤ 16) }
+    ensures { result ≡ number_of base most s.now }
+{
+    Some(digits(s, base, u64::from(most))? as u32)
+}
+
+pub fn decimal(s: &[u8], most: u32) -> Option<u32>
     ensures { result ≡ number_of 10 most s.now }
 {
-    digits(s, 10, most)
+    short(s, 10, most)
+}
+
+// Decimal digits of any number that 64 bits hold.
+pub fn wide(s: &[u8]) -> Option<u64>
+    ensures { result ≡ number_of 10 18446744073709551615 s.now }
+{
+    digits(s, 10, u64::MAX)
 }
 
 // Exactly eight digits.
-pub fn hex(s: &[u8]) -> Number
+pub fn hex(s: &[u8]) -> Option<u32>
     ensures { result ≡ hex_of s.now }
 {
     if s.len() != 8 {
-        return Number::Bad;
+        return None;
     }
-    digits(s, 16, 4294967295)
+    short(s, 16, u32::MAX)
 }
 
 // 0 less n.
@@ -73,24 +73,15 @@ fn minus(n: u32) -> i32
     requires { n ≤ 2147483648 }
     ensures { result ≡ neg_ℤ (pos n) }
 {
-    (0 - n as i64) as i32
+    (-i64::from(n)) as i32
 }
 
 // A whole number of 32 bits, with or without a minus; -0 is 0.
-pub fn signed(s: &[u8]) -> Whole
+pub fn signed(s: &[u8]) -> Option<i32>
     ensures { result ≡ whole_of s.now }
 {
-    if s.len() == 0 {
-        return Whole::Bad;
+    match s.strip_prefix(b"-") {
+        Some(size) => Some(minus(decimal(size, 2147483648)?)),
+        None => Some(decimal(s, 2147483647)? as i32),
     }
-    if s[0] == b'-' {
-        let Number::Got(n) = decimal(&s[1..], 2147483648) else {
-            return Whole::Bad;
-        };
-        return Whole::Got(minus(n));
-    }
-    let Number::Got(n) = decimal(s, 2147483647) else {
-        return Whole::Bad;
-    };
-    Whole::Got(n as i32)
 }

@@ -6,29 +6,12 @@ ghost use Rattle.text.specs.Token.{Cuts, same_bytes};
 pub fn before(s: &[u8], b: u8) -> usize
     ensures { Cuts b s.now result }
 {
-    let mut i = 0;
-    while i < s.len() {
-        if s[i] == b {
-            return i;
-        }
-        i += 1;
-    }
-    i
+    s.iter().position(|&x| x == b).unwrap_or(s.len())
 }
 
 // Whether the two are the same bytes.
 pub fn same(a: &[u8], b: &[u8]) -> bool
     ensures { result ≡ same_bytes a.now b.now }
 {
-    if a.len() != b.len() {
-        return false;
-    }
-    let mut i = 0;
-    while i < a.len() {
-        if a[i] != b[i] {
-            return false;
-        }
-        i += 1;
-    }
-    true
+    a == b
 }

@@ -17,7 +17,8 @@ pub fn turn_on(q: u32, i2: u32, i3: u32) -> u32
     (q + 2 * i3 + i2) & 3
 }
 
-// The turn before a line that was joined later: nobody there knows it.
+// The turn before a line that was joined later: nobody there knows it. A number like the others and no None: a state keeps it as a word
+// among its words, and `unknown` of specs/Label, on which theorems rest, is this number.
 pub const UNKNOWN: u32 = 4;
 
 // The 2·I3 + I2 between two turns (IV-5); 0 where the one before is not known.
@@ -43,8 +44,23 @@ pub fn labels(q: u32, y0: u32, i1: u32) -> LabelPair
 }
 
 // The sixteen 4D types in the order of Y0 I1 I2' I3', two labels each.
-const TYPES: [u32; 32] = [
-    0, 0, 2, 2, 1, 1, 3, 3, 0, 2, 2, 0, 1, 3, 3, 1, 0, 1, 2, 3, 1, 2, 3, 0, 0, 3, 2, 1, 1, 0, 3, 2,
+const TYPES: [(u32, u32); 16] = [
+    (0, 0),
+    (2, 2),
+    (1, 1),
+    (3, 3),
+    (0, 2),
+    (2, 0),
+    (1, 3),
+    (3, 1),
+    (0, 1),
+    (2, 3),
+    (1, 2),
+    (3, 0),
+    (0, 3),
+    (2, 1),
+    (1, 0),
+    (3, 2),
 ];
 
 // The labels by the table of types, which the rule modulo 4 must equal.
@@ -53,8 +69,6 @@ pub fn labels_listed(y0: u32, i1: u32, i2: u32, i3: u32) -> LabelPair
     ensures { result ≡ type_of y0 i1 i2 i3 }
 {
     let row = (8 * y0 + 4 * i1 + 2 * i2 + i3) as usize;
-    LabelPair {
-        first: TYPES[row * 2],
-        second: TYPES[row * 2 + 1],
-    }
+    let (first, second) = TYPES[row];
+    LabelPair { first, second }
 }

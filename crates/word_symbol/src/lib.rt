@@ -22,24 +22,20 @@ pub struct Symbol {
     pub second: Point,
 }
 
+#[tactic(auto, using(crate::proofs::Parts::parts_in, wei::proofs::Labels::second_below))]
 pub fn make(table: &[i8; 512], k: Accord, state: u32, turn: u32, word: u32) -> Symbol
     requires { (table.now ≡ coordinates) × (is_accord k ≡ true) × (state < 16) × (turn < 4) }
     ensures { let y = symbol_of k.u state turn word in
         result ≡ record { turn = first_label y; state = next_state state y.i1 y.i2; first = first_at k y; second = second_at k y } }
 {
-    let map = k.map;
-    let u = k.u;
-    let p = wei::word::unpack(u, word);
-    let q = wei::label::turn_on(turn, p.i2, p.i3);
-    let l = wei::label::labels(q, state & 1, p.i1);
-    let first = maps::point_on(table, map, u, l.first, p.w1);
-    let second = maps::point_on(table, map, u, l.second, p.w2);
-    let next = wei::state::next(state, p.i1, q & 1);
+    let p = wei::word::unpack(k.u, word);
+    let turn = wei::label::turn_on(turn, p.i2, p.i3);
+    let l = wei::label::labels(turn, state & 1, p.i1);
     Symbol {
-        turn: q,
-        state: next,
-        first: first,
-        second: second,
+        turn,
+        state: wei::state::next(state, p.i1, turn & 1),
+        first: maps::point_on(table, k.map, k.u, l.first, p.w1),
+        second: maps::point_on(table, k.map, k.u, l.second, p.w2),
     }
 }
 
@@ -48,12 +44,5 @@ pub fn put(out: &mut [i32], p: Point, q: Point)
     requires { 4 ≤ length out.old }
     ensures { out.new ≡ set (set (set (set out.old 0 p.x) 1 p.y) 2 q.x) 3 q.y }
 {
-    let a = p.x;
-    let b = p.y;
-    let c = q.x;
-    let d = q.y;
-    out[0] = a;
-    out[1] = b;
-    out[2] = c;
-    out[3] = d;
+    out[..4].copy_from_slice(&[p.x, p.y, q.x, q.y]);
 }

@@ -15,13 +15,15 @@ fn sent(desk: Desk, words: &[u32], out: &mut [i32], page: &mut [u8], at: usize) 
     ensures { Does (list_gives desk (sending_list desk.sender words.now (lent (length out.old))))
         (44 + wholes_room (length out.old)) page.old at result page.new }
 {
-    let old = desk.sender;
-    let sent = sender::send_list(old, words, out);
-    let why = sent.why;
-    let n = 4 * sent.sent;
-    let p = answers::list(page, at, sent.sent, sender::number(why), &out[..n]);
-    let sender = sent.sender;
-    ends::with_sender(desk, sender, p)
+    let sent = sender::send_list(desk.sender, words, out);
+    let p = answers::list(
+        page,
+        at,
+        sent.sent,
+        sender::number(sent.why),
+        &out[..4 * sent.sent],
+    );
+    ends::with_sender(desk, sent.sender, p)
 }
 
 pub fn list(
@@ -36,6 +38,11 @@ pub fn list(
     requires { (cap ≤ length coordinates.old) × (cap ≤ 4096) × (count ≤ length words.now) × (at + answer_room ≤ length page.old) }
     ensures { Acts desk (Request.List cap count) (named [] words.now []) page.old at result page.new }
 {
-    let n = cap as usize;
-    sent(desk, &words[..count], &mut coordinates[..n], page, at)
+    sent(
+        desk,
+        &words[..count],
+        &mut coordinates[..cap as usize],
+        page,
+        at,
+    )
 }

@@ -3,10 +3,9 @@
 ghost use Rattle.std.specs.Prelude.{[], ◌+◌, ◌≤◌, length};
 ghost use Rattle.receiver_meaning.specs.Piece.{marked_piece};
 ghost use Rattle.receiver.specs.Doors.{hearing};
-ghost use Rattle.phrases.specs.Phrase.{words_room};
 ghost use Rattle.answers.specs.Answer.{answer_room};
 ghost use Rattle.requests.specs.Named.{named};
-ghost use Rattle.desk.specs.Desk.{ran_gives, Does, Acts};
+ghost use Rattle.desk.specs.Desk.{heard_room, ran_gives, Does, Acts};
 
 use crate::verbs::ran;
 use crate::{Desk, Done};
@@ -20,12 +19,11 @@ fn heard(
     page: &mut [u8],
     at: usize,
 ) -> Done
-    requires { at + 92 + words_room (length out.old) ≤ length page.old }
+    requires { at + heard_room (length out.old) ≤ length page.old }
     ensures { Does (ran_gives desk (hearing desk.receiver (marked_piece marks.now piece.now) (length out.old)))
-        (92 + words_room (length out.old)) page.old at result page.new }
+        (heard_room (length out.old)) page.old at result page.new }
 {
-    let old = desk.receiver;
-    let heard = receiver::hear_marked(old, piece, marks, out);
+    let heard = receiver::hear_marked(desk.receiver, piece, marks, out);
     ran::answered(desk, heard, out, page, at)
 }
 
@@ -43,12 +41,11 @@ pub fn hear(
     requires { (cap ≤ length words.old) × (cap ≤ 4096) × (row ≤ length marks.now) × (count ≤ length coordinates.now) × (at + answer_room ≤ length page.old) }
     ensures { Acts desk (Request.Marked cap row count) (named coordinates.now [] marks.now) page.old at result page.new }
 {
-    let n = cap as usize;
     heard(
         desk,
         &coordinates[..count],
         &marks[..row],
-        &mut words[..n],
+        &mut words[..cap as usize],
         page,
         at,
     )

@@ -18,10 +18,8 @@ fn opened(desk: Desk, o: Opened, page: &mut [u8], at: usize) -> Done
     ensures { (g : Opening) → given_of o.why ≡ given_of g.why → o.receiver ≡ g.receiver
         → Does (opening_gives desk g) answer_room page.old at result page.new }
 {
-    let why = o.why;
-    let p = answers::number(page, at, reasons::number(why) as u64);
-    let receiver = o.receiver;
-    ends::with_receiver(desk, receiver, p)
+    let p = answers::number(page, at, u64::from(reasons::number(o.why)));
+    ends::with_receiver(desk, o.receiver, p)
 }
 
 pub fn open_plain(desk: Desk, accord: Accord, page: &mut [u8], at: usize) -> Done

@@ -13,8 +13,6 @@ pub fn open_sender(desk: Desk, accord: Accord, page: &mut [u8], at: usize) -> Do
     ensures { Acts desk (Request.Sender accord) none_named page.old at result page.new }
 {
     let opened = sender::open_sender(accord);
-    let why = opened.why;
-    let p = answers::number(page, at, sender::number(why) as u64);
-    let sender = opened.sender;
-    ends::with_sender(desk, sender, p)
+    let p = answers::number(page, at, u64::from(sender::number(opened.why)));
+    ends::with_sender(desk, opened.sender, p)
 }

@@ -11,8 +11,9 @@ pub fn pending(desk: Desk, page: &mut [u8], at: usize) -> Done
     requires { at + answer_room ≤ length page.old }
     ensures { Acts desk Request.Pending none_named page.old at result page.new }
 {
-    let receiver = desk.receiver;
-    let n = openings::pending(receiver);
-    let p = answers::number(page, at, n as u64);
-    Done { desk, at: p }
+    let n = openings::pending(desk.receiver);
+    Done {
+        desk,
+        at: answers::number(page, at, n as u64),
+    }
 }

@@ -3,22 +3,20 @@
 ghost use Rattle.std.specs.Prelude.{[], ◌+◌, ◌≤◌, length};
 ghost use Rattle.receiver_meaning.specs.Piece.{piece_of};
 ghost use Rattle.receiver.specs.Doors.{hearing};
-ghost use Rattle.phrases.specs.Phrase.{words_room};
 ghost use Rattle.answers.specs.Answer.{answer_room};
 ghost use Rattle.requests.specs.Named.{named};
-ghost use Rattle.desk.specs.Desk.{ran_gives, Does, Acts};
+ghost use Rattle.desk.specs.Desk.{heard_room, ran_gives, Does, Acts};
 
 use crate::verbs::ran;
 use crate::{Desk, Done};
 use requests::Request;
 
 fn heard(desk: Desk, piece: &[i32], out: &mut [u32], page: &mut [u8], at: usize) -> Done
-    requires { at + 92 + words_room (length out.old) ≤ length page.old }
+    requires { at + heard_room (length out.old) ≤ length page.old }
     ensures { Does (ran_gives desk (hearing desk.receiver (piece_of piece.now) (length out.old)))
-        (92 + words_room (length out.old)) page.old at result page.new }
+        (heard_room (length out.old)) page.old at result page.new }
 {
-    let old = desk.receiver;
-    let heard = receiver::hear(old, piece, out);
+    let heard = receiver::hear(desk.receiver, piece, out);
     ran::answered(desk, heard, out, page, at)
 }
 
@@ -34,6 +32,11 @@ pub fn hear(
     requires { (cap ≤ length words.old) × (cap ≤ 4096) × (count ≤ length coordinates.now) × (at + answer_room ≤ length page.old) }
     ensures { Acts desk (Request.Piece cap count) (named coordinates.now [] []) page.old at result page.new }
 {
-    let n = cap as usize;
-    heard(desk, &coordinates[..count], &mut words[..n], page, at)
+    heard(
+        desk,
+        &coordinates[..count],
+        &mut words[..cap as usize],
+        page,
+        at,
+    )
 }

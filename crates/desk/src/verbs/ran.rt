@@ -3,20 +3,16 @@
 ghost use Rattle.std.specs.Prelude.{List, ℕ, ◌+◌, ◌≤◌, length};
 ghost use Rattle.receiver.specs.Doors.{Ran};
 ghost use Rattle.receiver.specs.Promise.{Is};
-ghost use Rattle.phrases.specs.Phrase.{words_room};
-ghost use Rattle.desk.specs.Desk.{ran_gives, Does};
+ghost use Rattle.desk.specs.Desk.{heard_room, ran_gives, Does};
 
 use crate::{Desk, Done, ends};
 use receiver::Answer;
 
 pub fn answered(desk: Desk, a: Answer, out: &[u32], page: &mut [u8], at: usize) -> Done
-    requires { (a.written ≤ length out.now) × (at + 92 + words_room (length out.now) ≤ length page.old) }
+    requires { (a.written ≤ length out.now) × (at + heard_room (length out.now) ≤ length page.old) }
     ensures { (ran : Ran) (before : List ℕ) → Is ran before a out.now
-        → Does (ran_gives desk ran) (92 + words_room (length out.now)) page.old at result page.new }
+        → Does (ran_gives desk ran) (heard_room (length out.now)) page.old at result page.new }
 {
-    let why = a.why;
-    let n = a.written;
-    let p = answers::heard(page, at, a.taken, why, &out[..n]);
-    let receiver = a.receiver;
-    ends::with_receiver(desk, receiver, p)
+    let p = answers::heard(page, at, a.taken, a.why, &out[..a.written]);
+    ends::with_receiver(desk, a.receiver, p)
 }

@@ -9,7 +9,7 @@ ghost use Rattle.desk.specs.Desk.{Acts};
 
 use crate::{Desk, Done};
 use requests::Request;
-use samples::{Marked, Sampled};
+use samples::Sampled;
 
 // The float with these bits. No float is made of the bits of a NaN; what is not a number is refused as what is infinite is, so
 // infinity stands in for it.
@@ -28,11 +28,10 @@ fn answer(s: Sampled, page: &mut [u8], at: usize) -> usize
     requires { at + 44 ≤ length page.old }
     ensures { Puts page.old at (sampled_line (heard_sampled s)) result page.new }
 {
-    let heard = samples::hear_sampled(s);
-    match heard {
-        Marked::Heard { x, y } => answers::pair(page, at, x, y),
-        Marked::Refused { place } => answers::refused(page, at, place),
-        Marked::Missing => answers::missing(page, at),
+    match samples::hear_sampled(s) {
+        Ok(Some(heard)) => answers::pair(page, at, heard.x, heard.y),
+        Ok(None) => answers::missing(page, at),
+        Err(fault) => answers::refused(page, at, fault.place()),
     }
 }
 

@@ -11,12 +11,9 @@ fn sent(desk: Desk, word: u32, out: &mut [i32], page: &mut [u8], at: usize) -> D
     requires { at + answer_room ≤ length page.old }
     ensures { Acts desk (Request.Send word (length out.old)) none_named page.old at result page.new }
 {
-    let old = desk.sender;
-    let sent = sender::send(old, word, out);
-    let why = sent.why;
-    let p = answers::sent(page, at, sender::number(why), out);
-    let sender = sent.sender;
-    ends::with_sender(desk, sender, p)
+    let sent = sender::send(desk.sender, word, out);
+    let p = answers::sent(page, at, sender::number(sent.why), out);
+    ends::with_sender(desk, sent.sender, p)
 }
 
 pub fn send(
@@ -30,6 +27,5 @@ pub fn send(
     requires { (cap ≤ length coordinates.old) × (at + answer_room ≤ length page.old) }
     ensures { Acts desk (Request.Send word cap) none_named page.old at result page.new }
 {
-    let n = cap as usize;
-    sent(desk, word, &mut coordinates[..n], page, at)
+    sent(desk, word, &mut coordinates[..cap as usize], page, at)
 }

@@ -1,11 +1,8 @@
 -- `hear`: each round takes some of the bytes, as `feed` does, and the page keeps its length.
-use Rattle.std.proofs.Common.{◌≡◌, ℕ, ◌+◌, ◌-◌, ◌<◌, ◌≤◌, ◌∙◌, Bool, true, ◌&&◌, List, [], length, take, drop, refl, sym, ap, subst, arith, length-drop}
-use borrow.Author.Tests.{ltb-true}
-use lib.Dec.{ltb}
+use Rattle.std.proofs.Common.{◌≡◌, ℕ, ◌+◌, ◌-◌, ◌<◌, ◌≤◌, ◌∙◌, List, [], length, take, drop, refl, sym, ap, subst, arith, length-drop}
 use lib.Seq.{take-add}
 use Rattle.lists.proofs.Lent.{lent}
-use Rattle.records.proofs.Fits.{both_true}
-use Rattle.salvage.specs.Working.{Held, Feeds, feedings, salvage_at}
+use Rattle.salvage.specs.Working.{Held, Feeds, feedings}
 use Rattle.salvage.proofs.Feeds.{feedings-append, feeds-some}
 use Rattle.salvage_files.proofs.hear.Goals as goal
 
@@ -30,9 +27,6 @@ module _ {h h' : Held} (bs : List ℕ) {page page' : List ℕ} (i : ℕ) {used s
     some : 335 ≤ length page → 0 < used
     some room = feeds-some _ _ _ _ _ _ _ from_there (omega (arith, length-drop i bs)) room
 
-there : (i n : ℕ) (b : Bool) → (ltb i n && b) ≡ true → i < n
-there i n b e = ltb-true i n (both_true _ _ e).0
-
 pub loop-i-init : goal.loop-i-init
 loop-i-init g c = record { within = omega arith; page = refl; so_far = nothing_yet _ }
 
@@ -40,7 +34,7 @@ pub loop-i-smaller : goal.loop-i-smaller
 loop-i-smaller g c =
     let bs : List ℕ = c.args.bytes.now in
     let l = c.loop-i in
-    let h : l.i < length bs = there _ _ _ c.loop-i-test.true in
+    let h : l.i < length bs = c.loop-i-test.true in
     let room : 335 ≤ length l.page = omega (arith, l.invariant.page, c.requires) in
     omega (arith, few bs l.i c.feed-f.ensures h, some bs l.i c.feed-f.ensures h room)
 
@@ -48,7 +42,7 @@ pub loop-i-preserved : goal.loop-i-preserved
 loop-i-preserved g c =
     let bs : List ℕ = c.args.bytes.now in
     let l = c.loop-i in
-    let h : l.i < length bs = there _ _ _ c.loop-i-test.true in
+    let h : l.i < length bs = c.loop-i-test.true in
     record {
       within = few bs l.i c.feed-f.ensures h;
       page = c.feed-f.auto.page ∙ l.invariant.page;

@@ -7,7 +7,7 @@ abbrev pub invariant-loop-i : goal.invariant-loop-i
 invariant-loop-i g l = record {
   within : l.i ≤ length l.bytes;
   page : length l.page ≡ length l.initial.page;
-  so_far : salvage_at l.s ≡ feedings (salvage_at l.initial.s) (take l.i l.bytes);
+  so_far : salvage_at l.salvage ≡ feedings (salvage_at l.initial.salvage) (take l.i l.bytes);
 }
 
 abbrev pub decreases-loop-i : goal.decreases-loop-i

@@ -3,9 +3,9 @@ use Rattle.std.proofs.Common.{◌∙◌, sym, arith}
 use Rattle.stream.proofs.Streams.{served-as, served-on}
 use Rattle.stream.proofs.serve.Goals as goal
 
-pub loop-passes-preserved : goal.loop-passes-preserved
-loop-passes-preserved g c =
-    let l = c.loop-passes.invariant in
+pub loop-preserved : goal.loop-preserved
+loop-preserved g c =
+    let l = c.loop.invariant in
     let r = c.refill-now in
     let a = c.answer-now in
     record {

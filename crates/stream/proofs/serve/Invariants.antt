@@ -4,14 +4,11 @@ use Rattle.std.proofs.Common.{◌≡◌, ◌≤◌, length}
 use Rattle.stream.proofs.Streams.{Served}
 use Rattle.stream.proofs.serve.Given as goal
 
-abbrev pub invariant-loop-passes : goal.invariant-loop-passes
-invariant-loop-passes g l = record {
+abbrev pub invariant-loop : goal.invariant-loop
+invariant-loop g l = record {
   page : length l.page ≡ 131072;
   place : l.now.from ≤ l.now.to;
   end : l.now.to ≤ length l.chunk;
   held : l.now.lab.part.held ≤ length l.line;
   served : Served (length l.line) l.line l.now.lab;
 }
-
-abbrev pub decreases-loop-passes : goal.decreases-loop-passes
-decreases-loop-passes g l = l.passes

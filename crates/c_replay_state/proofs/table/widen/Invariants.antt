@@ -1,0 +1,6 @@
+-- `widen`: a word a round.
+use Rattle.std.proofs.Common.{◌≡◌, ◌++◌, take, drop}
+use Rattle.c_replay_state.proofs.table.widen.Given as goal
+
+abbrev pub invariant-loop-i : goal.invariant-loop-i
+invariant-loop-i l = l.to ≡ take l.i l.from ++ drop l.i l.initial.to

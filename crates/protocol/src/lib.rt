@@ -12,8 +12,9 @@
 // a verb ask for is the crate `requests`.
 #![tactic(auto)]
 
-ghost use Rattle.std.specs.Prelude.{◌≡◌, ◌∷◌, unwrap_or, length};
+ghost use Rattle.std.specs.Prelude.{◌≡◌, ◌∷◌, length};
 ghost use Rattle.text.specs.Token.{tokens};
+ghost use Rattle.requests.specs.Verb.{unless_unread};
 ghost use Rattle.requests.specs.Named.{named};
 ghost use Rattle.protocol.specs.Request.{verb_of, pending_alone, line_fills, word_fills, mark_fills, Reads};
 
@@ -39,7 +40,7 @@ fn asked(
     words: &mut [u32],
     marks: &mut [u8],
 ) -> Option<Request>
-    ensures value { unwrap_or result Request.Unread ≡ verb_of (length coordinates.old) (length words.old) (length marks.old) verb.now (tokens rest.now) }
+    ensures value { result ≡ unless_unread (verb_of (length coordinates.old) (length words.old) (length marks.old) verb.now (tokens rest.now)) }
     ensures coordinates_after { coordinates.new ≡ line_fills (verb.now ∷ tokens rest.now) coordinates.old }
     ensures words_after { words.new ≡ word_fills (verb.now ∷ tokens rest.now) words.old }
     ensures marks_after { marks.new ≡ mark_fills (verb.now ∷ tokens rest.now) marks.old }

@@ -16,11 +16,29 @@ use Rattle.number_lists.specs.Many.{whole_in, number_in, many_of, Lists}
 use Rattle.line_fields.specs.Row.{Row}
 use Rattle.text.proofs.Tokens.{last-token, more-tokens, first-token, not-empty, spaced-number, spaced-hex, at-most-all}
 use Rattle.text.proofs.Cut.{after, alone, cut_off}
-use Rattle.std.specs.Prelude.{Option, Some, None}
+use Rattle.std.specs.Prelude.{Option, Some, None, unwrap_or}
 use Rattle.requests.specs.declared.Request.{Request}
 use Rattle.requests.specs.declared.Request.TheVariants as request
-use Rattle.requests.specs.Verb.{any_number, cap_number, just, both, one, two, coordinate_fills, marked_fills, marks_after, marks_of, list_fills}
+use Rattle.requests.specs.Verb.{unless_unread, any_number, cap_number, just, both, one, two, coordinate_fills, marked_fills, marks_after, marks_of, list_fills}
 use Rattle.requests.specs.Verb.{heard_of, piece_of, marked_by, marked_after, marked_of, sent_of, list_of, sample_of}
+
+-- unread where there is none: the request itself
+pub read_back : (r : Request) → unwrap_or (unless_unread r) request.Unread ≡ r
+read_back request.Nothing = refl
+read_back request.Unread = refl
+read_back (request.Sender a) = refl
+read_back (request.Send w c) = refl
+read_back (request.Plain a) = refl
+read_back (request.Free a w) = refl
+read_back (request.At a w s) = refl
+read_back (request.Piece c n) = refl
+read_back (request.Finish c) = refl
+read_back (request.Sample x y) = refl
+read_back request.Pending = refl
+read_back (request.List c n) = refl
+read_back request.Missing = refl
+read_back (request.Marked c m n) = refl
+read_back (request.Card b) = refl
 
 -- what reads a token, and refuses a text with a space
 pub record Reader (p : List ℕ → Option ℕ) : Type 0 where

@@ -2,6 +2,7 @@
 -- "Tokens are separated by one space" is `tokens` of the crate `text`, and the numbers that tokens write are its `number_of` and `hex_of`
 -- and `many_of` of the crate `number_lists`. "A missing or extra token, a double, leading or trailing space, a tab, a carriage return, more
 -- than 4096 coordinates" are unread: no token of a line with one of these is a number or a word of the grammar.
+--   unless_unread r           the request r, or none where it is unread
 --   any_number, cap_number    "U, W, WINDOW, S and CAP are 0 to 4294967295, a CAP above 4096 is `?`"
 --   just f, both f          the request f with one number or two, unread if one is bad
 --   one g, two g            g of just one token or two, unread for any other count of them
@@ -31,6 +32,24 @@ use Rattle.line_fields.specs.declared.map_names.Numbered.{Numbered}
 use Rattle.line_fields.specs.Names.{map_named, numbered_of}
 use Rattle.requests.specs.declared.Request.{Request}
 use Rattle.requests.specs.declared.Request.TheVariants as request
+
+-- what is asked for, and nothing where the tokens are unread
+abbrev pub unless_unread : Request → Option Request
+unless_unread request.Unread = None
+unless_unread request.Nothing = Some request.Nothing
+unless_unread (request.Sender a) = Some (request.Sender a)
+unless_unread (request.Send w c) = Some (request.Send w c)
+unless_unread (request.Plain a) = Some (request.Plain a)
+unless_unread (request.Free a w) = Some (request.Free a w)
+unless_unread (request.At a w s) = Some (request.At a w s)
+unless_unread (request.Piece c n) = Some (request.Piece c n)
+unless_unread (request.Finish c) = Some (request.Finish c)
+unless_unread (request.Sample x y) = Some (request.Sample x y)
+unless_unread request.Pending = Some request.Pending
+unless_unread (request.List c n) = Some (request.List c n)
+unless_unread request.Missing = Some request.Missing
+unless_unread (request.Marked c m n) = Some (request.Marked c m n)
+unless_unread (request.Card b) = Some (request.Card b)
 
 abbrev pub any_number : List ℕ → Option ℕ
 any_number t = number_of 10 4294967295 t

@@ -3,10 +3,11 @@
 //
 // The lists are looked at while the line is read and are kept nowhere, so the request holds the verdict of the check alone (crate `card`).
 // The lists are read by `line_fields`; specs/Asked.antt says which lines there are. The file is not named after the verb alone, since `card` is a crate.
-ghost use Rattle.std.specs.Prelude.{◌≡◌, ◌≤◌, unwrap_or, length};
+ghost use Rattle.std.specs.Prelude.{◌≡◌, ◌≤◌, length};
 ghost use Rattle.text.specs.Token.{tokens};
 ghost use Rattle.line_fields.specs.Fields.{tokens_at};
 ghost use Rattle.requests.specs.Asked.{map_of, sizes, card_in, verdict_on, checked_of, asked_of};
+ghost use Rattle.requests.specs.Verb.{unless_unread};
 
 use crate::Request;
 use points::{Accord, Map};
@@ -34,8 +35,8 @@ fn verdict(
     symbols: &mut [u32],
     numbers: &mut [u64],
 ) -> Option<Request>
-    ensures { unwrap_or result Request.Unread ≡ verdict_on k (card_in (sizes (length coordinates.old) (length states.old) (length symbols.old) (length numbers.old))
-        (tokens_at s.now at)) }
+    ensures { result ≡ unless_unread (verdict_on k (card_in (sizes (length coordinates.old) (length states.old) (length symbols.old) (length numbers.old))
+        (tokens_at s.now at))) }
 {
     let a = line_fields::numbers(s, at, coordinates)?;
     let b = line_fields::numbers(s, a, states)?;
@@ -52,7 +53,7 @@ fn verdict(
 // The check of a card of n symbols, whose lists stand from the place `at` on.
 fn checked(s: &[u8], at: usize, k: Accord, n: usize) -> Option<Request>
     requires { n ≤ 64 }
-    ensures { unwrap_or result Request.Unread ≡ checked_of k n (tokens_at s.now at) }
+    ensures { result ≡ unless_unread (checked_of k n (tokens_at s.now at)) }
 {
     let mut coordinates = [0i32; 256];
     let mut states = [0u32; 65];
@@ -70,7 +71,7 @@ fn checked(s: &[u8], at: usize, k: Accord, n: usize) -> Option<Request>
 }
 
 pub fn read(rest: &[u8]) -> Option<Request>
-    ensures { unwrap_or result Request.Unread ≡ asked_of (tokens rest.now) }
+    ensures { result ≡ unless_unread (asked_of (tokens rest.now)) }
 {
     let n = token::before(rest, b' ');
     let map = map_of(&rest[..n])?;

@@ -1,13 +1,13 @@
 // `list CAP W W ..`: the number of an output, and then nothing or words, which go to the start of the list that is lent.
-ghost use Rattle.std.specs.Prelude.{◌≡◌, unwrap_or, length};
+ghost use Rattle.std.specs.Prelude.{◌≡◌, length};
 ghost use Rattle.text.specs.Token.{tokens};
-ghost use Rattle.requests.specs.Verb.{list_of, list_fills};
+ghost use Rattle.requests.specs.Verb.{unless_unread, list_of, list_fills};
 
 use crate::Request;
 use text::token;
 
 pub fn read(rest: &[u8], words: &mut [u32]) -> Option<Request>
-    ensures value { unwrap_or result Request.Unread ≡ list_of (length words.old) (tokens rest.now) }
+    ensures value { result ≡ unless_unread (list_of (length words.old) (tokens rest.now)) }
     ensures words_after { words.new ≡ list_fills (tokens rest.now) words.old }
 {
     let n = token::before(rest, b' ');

@@ -1,8 +1,8 @@
 // `marked CAP MARKS C C C C ..`: the number of an output, the marks of the symbols, and then coordinates as of a piece. The marks are read
 // by `line_fields::marks`; they and the coordinates go to the start of the lists that are lent.
-ghost use Rattle.std.specs.Prelude.{◌≡◌, unwrap_or, length, drop};
+ghost use Rattle.std.specs.Prelude.{◌≡◌, length, drop};
 ghost use Rattle.text.specs.Token.{tokens};
-ghost use Rattle.requests.specs.Verb.{marked_after, coordinate_fills, marks_after, marked_of, marked_fills, marks_of};
+ghost use Rattle.requests.specs.Verb.{unless_unread, marked_after, coordinate_fills, marks_after, marked_of, marked_fills, marks_of};
 
 use crate::Request;
 use line_fields::marks;
@@ -15,7 +15,7 @@ fn after_cap(
     coordinates: &mut [i32],
     marks: &mut [u8],
 ) -> Option<Request>
-    ensures value { unwrap_or result Request.Unread ≡ marked_after (length coordinates.old) (length marks.old) cap (tokens rest.now) }
+    ensures value { result ≡ unless_unread (marked_after (length coordinates.old) (length marks.old) cap (tokens rest.now)) }
     ensures coordinates_after { coordinates.new ≡ coordinate_fills (drop 1 (tokens rest.now)) coordinates.old }
     ensures marks_after { marks.new ≡ marks_after (tokens rest.now) marks.old }
 {
@@ -29,7 +29,7 @@ fn after_cap(
 }
 
 pub fn read(rest: &[u8], coordinates: &mut [i32], marks: &mut [u8]) -> Option<Request>
-    ensures value { unwrap_or result Request.Unread ≡ marked_of (length coordinates.old) (length marks.old) (tokens rest.now) }
+    ensures value { result ≡ unless_unread (marked_of (length coordinates.old) (length marks.old) (tokens rest.now)) }
     ensures coordinates_after { coordinates.new ≡ marked_fills (tokens rest.now) coordinates.old }
     ensures marks_after { marks.new ≡ marks_of (tokens rest.now) marks.old }
 {

@@ -1,13 +1,13 @@
 // `sample HEX HEX`: the bits of two floats; `sample missing`: none. The digits are read by `text`.
-ghost use Rattle.std.specs.Prelude.{◌≡◌, unwrap_or};
+ghost use Rattle.std.specs.Prelude.{◌≡◌};
 ghost use Rattle.text.specs.Token.{tokens};
-ghost use Rattle.requests.specs.Verb.{sample_of};
+ghost use Rattle.requests.specs.Verb.{unless_unread, sample_of};
 
 use crate::Request;
 use text::{number, token};
 
 pub fn read(rest: &[u8]) -> Option<Request>
-    ensures { unwrap_or result Request.Unread ≡ sample_of (tokens rest.now) }
+    ensures { result ≡ unless_unread (sample_of (tokens rest.now)) }
 {
     let n = token::before(rest, b' ');
     if n == rest.len() {

@@ -1,13 +1,13 @@
 // `send W CAP`: a word, and the length of an output. The word is any number; the sender says which words there are.
-ghost use Rattle.std.specs.Prelude.{◌≡◌, unwrap_or};
+ghost use Rattle.std.specs.Prelude.{◌≡◌};
 ghost use Rattle.text.specs.Token.{tokens};
-ghost use Rattle.requests.specs.Verb.{send_of};
+ghost use Rattle.requests.specs.Verb.{unless_unread, send_of};
 
 use crate::Request;
 use text::token;
 
 pub fn read(rest: &[u8]) -> Option<Request>
-    ensures { unwrap_or result Request.Unread ≡ send_of (tokens rest.now) }
+    ensures { result ≡ unless_unread (send_of (tokens rest.now)) }
 {
     let n = token::before(rest, b' ');
     if n == rest.len() {

@@ -68,11 +68,11 @@ further {base} {s} {n} {i} {d} r h is k = record { only = on ∙ r.only; value-i
   grown : value base (n * base + d) (drop (i + 1) s) ≡ value base n (drop i s)
   grown =
       rw (add-one, drop-cons s i 0 h)
-      (ap (λ (o : Option ℕ). value base (n * base + unwrap_or o 0) (drop (suc i) s)) is)
+      (ap (λ (o : Option ℕ). value base (n * base + unwrap_or o 16) (drop (suc i) s)) is)
 
 value_grows : (base n : ℕ) (s : List ℕ) → 1 ≤ base → n ≤ value base n s
 value_grows base n [] h = omega arith
-value_grows base n (b ∷ s) h = omega (arith, value_grows base (n * base + unwrap_or (digit_of b) 0) s h, le-mul_of_pos_right {m = base} n h)
+value_grows base n (b ∷ s) h = omega (arith, value_grows base (n * base + unwrap_or (digit_of b) 16) s h, le-mul_of_pos_right {m = base} n h)
 
 pub bad-bytes : (base most : ℕ) (s : List ℕ) → only_digits base s ≡ false → None ≡ number_of base most s
 unfolding number_of

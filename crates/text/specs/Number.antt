@@ -26,7 +26,7 @@ only_digits base (b ∷ s) = cond (is_below base (digit_of b)) (only_digits base
 
 abbrev pub value : ℕ → ℕ → List ℕ → ℕ
 value base n [] = n
-value base n (b ∷ s) = value base (n * base + unwrap_or (digit_of b) 0) s
+value base n (b ∷ s) = value base (n * base + unwrap_or (digit_of b) 16) s
 
 unfoldable pub number_of : ℕ → ℕ → List ℕ → Option ℕ
 number_of base most s =

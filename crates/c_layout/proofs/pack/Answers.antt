@@ -1,3 +1,4 @@
+-- `pack`: eight words, each made of two numbers.
 use Rattle.std.proofs.Common.{◌≡◌, refl, arith, add-one}
 use Rattle.lists.specs.Tabled.{tabled}
 use Rattle.lists.proofs.Filled.{tabled-more}

@@ -1,3 +1,4 @@
+-- `unpack`: sixteen numbers, two from each word.
 use Rattle.std.proofs.Common.{◌≡◌, refl, arith}
 use Rattle.lists.specs.Tabled.{tabled}
 use Rattle.c_layout.specs.Halves.{unpacked}

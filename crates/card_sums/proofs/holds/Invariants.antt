@@ -1,3 +1,4 @@
+-- `holds`: what is found of the ways so far.
 use Rattle.std.proofs.Common.{◌≡◌, ◌/◌, ◌%◌}
 use Rattle.card_sums.specs.Every.{every_below}
 use Rattle.card_sums.specs.Rows.{way_holds}

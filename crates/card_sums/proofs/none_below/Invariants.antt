@@ -1,3 +1,4 @@
+-- `none_below`: what is found of the numbers so far.
 use Rattle.std.proofs.Common.{◌≡◌, leb}
 use Rattle.card_sums.specs.Every.{every_below}
 use Rattle.card_sums.specs.Rows.{number_at}

@@ -1,3 +1,4 @@
+-- `starts_at_zero`: what is found of the numbers so far.
 use Rattle.std.proofs.Common.{◌≡◌, eqb, get_or}
 use Rattle.card_sums.specs.Every.{every_below}
 use Rattle.card_sums.proofs.starts_at_zero.Given as goal

@@ -1,3 +1,4 @@
+-- `write_words`: the words so far, and the turn after them.
 use Rattle.std.proofs.Common.{ℕ, ◌-◌, refl, ap, ◌∙◌, arith}
 use Rattle.trellis.specs.Speak.{speak, after}
 use Rattle.picks.specs.Picks.{symbol_in, said_of}

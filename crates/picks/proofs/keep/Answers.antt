@@ -1,3 +1,4 @@
+-- `keep`: the registers that have the new bit, and the numbers in their slot.
 use Rattle.std.proofs.Common.{◌≡◌, ℕ, ◌+◌, ◌%◌, List, ◌++◌, get_or, set, drop, ap, ◌∙◌, refl, add-one, arith}
 use Rattle.lists.specs.Tabled.{tabled}
 use Rattle.lists.proofs.Filled.{tabled-more, fill-next}

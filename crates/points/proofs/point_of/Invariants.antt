@@ -1,3 +1,4 @@
+-- `point_of`: the point after so many turns.
 use Rattle.std.proofs.Common.{◌≡◌}
 use Rattle.points.specs.Points.{a_point}
 use Rattle.points.specs.Turn.{turns}

@@ -1,3 +1,4 @@
+-- `apart`: the bits in which the words so far differ.
 use Rattle.std.proofs.Common.{◌≡◌, ℕ, ◌+◌, ◌<◌, List, length, get_or, drop, sym, ap, ◌∙◌, add-one, arith}
 use lib.Bits.{bit_or, bit_xor}
 use lib.ListN.{drop_of_length-le}

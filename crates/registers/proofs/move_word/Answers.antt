@@ -1,3 +1,4 @@
+-- `move_word`: the states that are moved so far.
 use Rattle.std.proofs.Common.{◌≡◌, ℕ, ◌+◌, ◌*◌, ◌/◌, ◌%◌, ◌^◌, List, get_or, set, ap, ◌∙◌, arith}
 use Rattle.registers.specs.Registers.{longer}
 use Rattle.registers.proofs.Places.{put-none, put-more}

@@ -1,3 +1,4 @@
+-- `outer`: the least key of the columns so far.
 use Rattle.round_columns.specs.Cells.{Rimmed}
 use Rattle.round_columns.proofs.outer.Given as goal
 

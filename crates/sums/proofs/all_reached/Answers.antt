@@ -1,3 +1,4 @@
+-- `all_reached`: the bits of the keys so far.
 use Rattle.std.proofs.Common.{sym, ◌∙◌, arith}
 use Rattle.sums.proofs.Together.{together, together-ends}
 use Rattle.sums.proofs.all_reached.Goals as goal

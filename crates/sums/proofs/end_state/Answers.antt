@@ -1,3 +1,4 @@
+-- `end_state`: the best of the states so far.
 use Rattle.std.proofs.Common.{◌≡◌, ℕ, ◌-◌, get_or, refl, ap, ◌∙◌, arith}
 use Rattle.trellis.specs.Pick.{least}
 use Rattle.sums.specs.Sums.{end_of}

@@ -1,3 +1,4 @@
+-- `lowest`: the least of the numbers so far.
 use Rattle.std.proofs.Common.{◌≡◌, ℕ, ◌-◌, min, get_or, refl, ap, ◌∙◌, arith}
 use Rattle.trellis.specs.Pick.{least}
 use Rattle.sums.specs.Sums.{end_of, lowest}

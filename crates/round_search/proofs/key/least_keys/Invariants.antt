@@ -1,3 +1,4 @@
+-- `least_keys`: the least keys of the numbers so far.
 use Rattle.std.proofs.Common.{◌≡◌}
 use Rattle.round_search.specs.Key.{least_keys}
 use Rattle.round_search.proofs.key.least_keys.Given as goal

@@ -3,15 +3,15 @@
 --   start, go_on    how it begins, and one sample more
 --   stop-fault, stop-room, end      the three ways it ends
 use mathlib.Core.Path.{◌≡◌, refl, sym, ap, ◌∙◌}
-use mathlib.Core.List.{List, [], ◌∷◌, ◌++◌, append_assoc}
+use mathlib.Core.List.{List, [], ◌∷◌, ◌++◌}
 use Prim.Native.Nat.{ℕ, suc, ◌+◌, ◌/◌, ◌%◌, ◌≤◌, ◌<◌}
 use native.Mathlib.Numerals.{add-one}
 use native.Mathlib.Omega.{arith}
 use borrow.Author.Tests.{le-leb, lt-leb}
 use lib.Ieee.{Float, nan}
 use lib.IntN.{ℤ}
-use lib.ListN.{get_or, length, take, drop, length-drop, length-append, take-append-drop}
-use lib.Seq.{drop-cons, drop-drop, get_or-drop, length-take-le, take_at, drop_at}
+use lib.ListN.{get_or, length, set, take, drop, length-drop, length-append, take-append-drop}
+use lib.Seq.{drop-cons, drop-drop, get_or-drop, length-take-le, take_at, drop_at, sets-eq}
 use Rattle.samples.specs.declared.Sampled.{Sampled}
 use Rattle.samples.specs.Given.{both_done, refused_at}
 use Rattle.samples.specs.Sampled.{heard_sampled}
@@ -82,12 +82,11 @@ module _ (fs : List Float) (ms : List ℕ) (out₀ out : List ℤ) (i : ℕ) (is
       unfolding converting
       stop-room k = let n = is.long in stops 8 0 (same_at ∙ rw (sym hears, written, lt-leb (i + 2) (length out₀) (omega arith)))
 
-      pub go_on : i + 2 ≤ length out → Going fs ms out₀ (take i out ++ ((x ∷ y ∷ []) ++ drop 2 (drop i out))) (i + 2)
+      pub go_on : (o : List ℤ) → o ≡ set (set out i x) (i + 1) y → i + 2 ≤ length out → Going fs ms out₀ o (i + 2)
       unfolding converting
-      go_on k =
+      go_on o e k =
           let n = is.long in
-          let o : List ℤ = take i out ++ ((x ∷ y ∷ []) ++ drop 2 (drop i out)) in
-          let front : o ≡ (take i out ++ (x ∷ y ∷ [])) ++ drop (i + 2) out = ap (λ (l : List ℤ). take i out ++ (x ∷ y ∷ l)) (drop-drop 2 i out) ∙ sym (append_assoc (take i out) (x ∷ y ∷ []) (drop (i + 2) out)) in
+          let front : o ≡ (take i out ++ (x ∷ y ∷ [])) ++ drop (i + 2) out = e ∙ rw (add-one i) (sets-eq (x ∷ y ∷ []) out i k) in
           let size : length (take i out ++ (x ∷ y ∷ [])) ≡ i + 2 = length-append (take i out) (x ∷ y ∷ []) ∙ rw written in
           let now-written = ap (λ l. take (i + 2) l) front ∙ take_at (take i out ++ (x ∷ y ∷ [])) (drop (i + 2) out) (i + 2) size in
           let after : drop (i + 2) out ≡ drop (i + 2) out₀ = sym (drop-drop 2 i out) ∙ ap (λ l. drop 2 l) is.rest ∙ drop-drop 2 i out₀ in

@@ -292,7 +292,7 @@ fn read_on<R: Read>(
     })
 }
 
-// One turn of the second reading.
+// One turn of the second reading: a line further, and more bytes where they are wanted. The first turn finds none, and wants some.
 fn turn<R: Read>(
     first_file: &mut R,
     second_file: &mut R,
@@ -309,13 +309,20 @@ fn turn<R: Read>(
     ensures from_le_to_4 { (result.second.from ≤ result.second.to) × (result.second.to ≤ length two.old) }
     ensures at_in_bounds_2 { result.out.at + 40 ≤ length page.old }
 {
-    match read_on(first_file, second_file, b, one, two) {
-        Ok(next) => look_on(to, next, one, two, page),
+    let told = look_on(to, b, one, two, page);
+    if !told.out.waits {
+        return told;
+    }
+    match read_on(first_file, second_file, told, one, two) {
+        Ok(next) => next,
         Err(why) => {
             edge::tell(to, b"capture: read", why);
             Both {
-                out: Out { on: false, ..b.out },
-                ..b
+                out: Out {
+                    on: false,
+                    ..told.out
+                },
+                ..told
             }
         }
     }

@@ -2,7 +2,10 @@
 // the bytes are that a read gives, and what becomes of those that are written, no contract can say. Nothing here allocates.
 #![tactic(auto)]
 
-ghost use Rattle.std.specs.Prelude.{◌≤◌, length, Some, IfSome};
+ghost use Rattle.std.specs.Prelude.{◌≡◌, ◌<◌, ◌≤◌, List, length, take, Some, IfSome};
+ghost use Rattle.std.specs.List.{FoldsTo};
+ghost use Rattle.std.specs.Io.KnownBytes.{Consumes, IsAtEnd};
+ghost use Rattle.edge.specs.Chunks.{joined};
 
 use std::env::{Env, FillError};
 use std::fmt::InlineText;
@@ -35,7 +38,9 @@ pub fn tell(to: Streams, what: &[u8], why: Error) {
 
 // Reads once, and answers how many bytes it gave, 0 at the input's end. A read that failed is told, and gives none.
 pub fn read<R: Read>(from: &mut R, chunk: &mut [u8], to: Streams, what: &[u8]) -> Option<usize>
-    ensures { IfSome result (λ n. n ≤ length chunk.new) }
+    ensures within { IfSome result (λ n. n ≤ length chunk.new) }
+    ensures bytes { IfSome result (λ n. Consumes (R.remaining from.old) (R.remaining from.new) (take n chunk.new)) }
+    ensures ends { IfSome result (λ n. n ≡ 0 → 0 < length chunk.new → IsAtEnd (R.remaining from.new)) }
 {
     match from.read(chunk) {
         Ok(n) => Some(n),
@@ -46,9 +51,9 @@ pub fn read<R: Read>(from: &mut R, chunk: &mut [u8], to: Streams, what: &[u8]) -
     }
 }
 
-// All that the reader has, chunk after chunk: each goes to the step with what the chunks before it left. Gives what the last one left, or
-// none where a read failed, which is told, or where the step left nothing. A proved loop has to end, and nothing says that the input does: no
-// run uses up so many reads.
+// All that the reader has, chunk after chunk: each goes to the step with what the chunks before it left. Gives what the last one left, once the
+// reader has come to its end, or none where a read failed, which is told, or where the step left nothing. A proved loop has to end, and nothing
+// says that the input does: after 2^64 - 1 reads it gives none, and no run uses up so many.
 pub fn each_chunk<R: Read, T: Copy, F: FnMut(T, &[u8]) -> Option<T>>(
     from: &mut R,
     chunk: &mut [u8],
@@ -59,17 +64,20 @@ pub fn each_chunk<R: Read, T: Copy, F: FnMut(T, &[u8]) -> Option<T>>(
 ) -> Option<T>
     requires first_taken { (b : _) → F.pre step first b }
     requires next_taken { (f : F) (x : T) (b : _) (y : T) (g : F) → F.pre f x b → F.step f x b (Some y) g → (c : _) → F.pre g y c }
-    ensures { IfSome result (λ last. (f : F) × ((b : _) → F.pre f last b)) }
+    ensures last_taken { IfSome result (λ last. (f : F) × ((b : _) → F.pre f last b)) }
+    ensures handed { IfSome result (λ last. (f : F) × (bs : List _) × FoldsTo {P = F × T} (λ p b q. F.step p.0 p.1 b (Some q.1) q.0) (step, first) bs (f, last)
+        × Consumes (R.remaining from.old) (R.remaining from.new) (joined bs)) }
+    ensures ends { IfSome result (λ last. 0 < length chunk.new → IsAtEnd (R.remaining from.new)) }
 {
     let mut now = first;
     for _ in 0..u64::MAX {
         let n = read(from, chunk, to, what)?;
         if n == 0 {
-            break;
+            return Some(now);
         }
         now = step(now, &chunk[..n])?;
     }
-    Some(now)
+    None
 }
 
 // Writes all of it to standard output. Where that fails it is told, and the answer is false: a bool, since the error is used up here.

@@ -51,7 +51,7 @@ module _ (r c : ℤ) (g : nat_abs r ≤ 8192) (h : nat_abs c ≤ 39) where
   m-is : m ≡ pos 128 *ℤ c
   m-is = ap (λ (z : ℤ). pos 128 *ℤ z) (cast-reads w32 w16 c (omega arith) (omega arith))
 
-  scaled_fits : SFits w16 m
+  pub scaled_fits : SFits w16 m
   scaled_fits = subst (SFits w16) (sym m-is) (fits w16 (pos 128 *ℤ c) (omega (arith, nat_abs-* (pos 128) c)))
 
   -- r - 128 c
@@ -61,13 +61,13 @@ module _ (r c : ℤ) (g : nat_abs r ≤ 8192) (h : nat_abs c ≤ 39) where
   d-is : d ≡ difference r c
   d-is = ap₂ (λ (y z : ℤ). y -ℤ z) (cast-reads w32 w16 r (omega arith) (omega arith)) (to_z-of_z scaled_fits ∙ m-is)
 
-  difference-fits : SFits w16 d
+  pub difference-fits : SFits w16 d
   difference-fits = subst (SFits w16) (sym d-is) (fits w16 (difference r c) (omega (arith, difference-le r c g h)))
 
   d-reads : to_z w16 (of_z w16 d) ≡ difference r c
   d-reads = to_z-of_z difference-fits ∙ d-is
 
-  cast-difference : SFits w32 (to_z w16 (of_z w16 d))
+  pub cast-difference : SFits w32 (to_z w16 (of_z w16 d))
   cast-difference = subst (SFits w32) (sym d-reads) (fits w32 (difference r c) (omega (arith, difference-le r c g h)))
 
   -- its square, where z is the difference taken to 32 bits

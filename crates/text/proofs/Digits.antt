@@ -79,8 +79,8 @@ unfolding number_of
 bad-bytes base most s h = simp h (both (leb 1 (length s)) None)
 
 module _ {base : ℕ} {s : List ℕ} {n i : ℕ} (r : Reads base s n i) (most : ℕ) where
-  pub no-digit : i < length s → None ≡ digit_of (get_or s i 0) → None ≡ number_of base most s
-  no-digit h is = bad-bytes base most s (sym r.only ∙ rw (drop-cons s i 0 h, ← is))
+  pub no-digit : base ≤ 16 → i < length s → None ≡ digit_of (get_or s i 0) → None ≡ number_of base most s
+  no-digit small h is = bad-bytes base most s (sym r.only ∙ rw (drop-cons s i 0 h, ← is) (simp (le-ltb 16 base small)))
 
   pub other_byte : (d : ℕ) → i < length s → Some d ≡ digit_of (get_or s i 0) → base ≤ d → None ≡ number_of base most s
   other_byte d h is k = bad-bytes base most s (sym r.only ∙ rw (drop-cons s i 0 h, ← is) (simp (le-ltb d base k)))

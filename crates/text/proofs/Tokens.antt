@@ -4,7 +4,7 @@ use mathlib.Core.Path.{◌≡◌, refl, sym, ap}
 use mathlib.Core.Bool.{Bool, true, false, cond, ◌&&◌}
 use mathlib.Core.List.{List, [], ◌∷◌}
 use native.Mathlib.Omega.{arith}
-use borrow.Author.Tests.{eqb-true, ltb-true, ltb-false}
+use borrow.Author.Tests.{eqb-true, ltb-true, ltb-false, le-ltb}
 use lib.Dec.{eqb, ltb}
 use lib.ListN.{length, take, drop, length-drop}
 use lib.Seq.{take_all, length-take-le}
@@ -99,7 +99,7 @@ module _ (base : ℕ) (small : base ≤ 16) where
     by true e f g =
         let space : b ≡ 32 = eqb-true b 32 e in
         let none = no_digit b (λ p q. omega arith) (λ p q. omega arith) (λ p q. omega arith) in
-        rw (← none)
+        rw (← none, le-ltb 16 base small)
     by false e f g = rw (f (omega arith)) (sym (both (is_below base (digit_of b)) false))
 
   pub spaced-number : (most : ℕ) (s : List ℕ) → length_before 32 s < length s → None ≡ number_of base most s

@@ -1,6 +1,6 @@
 -- The numbers that a token writes. Definitions only; they speak of unbounded numbers, and say where a token is refused.
 --   digit_of b            the worth of a byte as a digit, 0 to 15, small and large letters alike, if it is one
---   is_below base d       whether there is a digit d, and it is one of this base
+--   is_below base d       whether d is a digit of this base; a byte that is no digit counts as 16, above those of any base in use
 --   only_digits base s    whether every byte of s is a digit of this base
 --   value base n s       the number written by n and then the digits s
 --   number_of base most s the number that s writes, if s is digits only, one or more, and the number is at most most
@@ -18,7 +18,7 @@ digit_of b = between 48 57 0 b (between 65 70 10 b (between 97 102 10 b None))
 
 abbrev pub is_below : ℕ → Option ℕ → Bool
 is_below base (Some d) = ltb d base
-is_below base None = false
+is_below base None = ltb 16 base
 
 abbrev pub only_digits : ℕ → List ℕ → Bool
 only_digits base [] = true

@@ -4,5 +4,5 @@ use Rattle.record_files.proofs.run.Goals as goal
 
 pub at_end-requires : goal.at_end-requires
 at_end-requires g c =
-    let h : c.in-Some.t.part.held ≤ 65536 = c.in-Some.ensures.1 (record { ref_ptr = (0, 0); now = [] }) in
+    let h : c.in-Some.t.part.held ≤ 65536 = c.in-Some.ensures.last_taken.1 (record { ref_ptr = (0, 0); now = [] }) in
     search rules

@@ -7,7 +7,7 @@ pub returns-then-is_empty : goal.returns-then-is_empty
 returns-then-is_empty c = no_bytes _ _ _ (search rules)
 
 pub returns-in_err-d : goal.returns-in_err-d
-returns-in_err-d c = c.from_residual.ensures ∙ no-digit c.loop-b.invariant.1 _ (search rules) c.in_err-d.ensures
+returns-in_err-d c = c.from_residual.ensures ∙ no-digit c.loop-b.invariant.1 _ c.requires.1 (search rules) c.in_err-d.ensures
 
 pub returns-then-base-d : goal.returns-then-base-d
 returns-then-base-d c = other_byte c.loop-b.invariant.1 _ _ (search rules) c.in_ok-d.ensures c.if-base-d.true

@@ -111,7 +111,7 @@ fn convert(floats: &[f32], missing: &[u8], out: &mut [i32]) -> Converted
                 outcome: Err(Stop::Full),
             };
         }
-        // Each by itself: a pair that is copied as a slice is written and read back first, which takes half as long again.
+        // Each by itself: a pair that is copied as a slice is written and read back first, which takes about twice as long.
         out[i] = x;
         out[i + 1] = y;
     }

@@ -6,7 +6,7 @@
 --   waiting s chunk   the bytes of a side that wait
 --   Kept s before r after   the side s is read on, or not, and is r: what waited waits still
 --   LineSaid, Heeded  a line is put on the page, at its place; what is put where two lumps told so
---   SideTurn b one two r    one turn of the second reading, after the reads
+--   SideTurn b one two r    what one turn of the second reading tells of the bytes that wait, before it reads on
 --   only_line a b      the only line, where a file is malformed, the first checked first; `Same` where both are to be read side by side
 use Rattle.std.specs.Prelude.{ℕ, ◌+◌, ◌-◌, ◌≤◌, ◌≡◌, ◌⊎◌, Option, Some, None, List, take, drop}
 use Rattle.record_front.specs.declared.Sign.{Sign}

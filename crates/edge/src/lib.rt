@@ -36,7 +36,7 @@ pub fn tell(to: Streams, what: &[u8], why: Error) {
     note(to, b"\n");
 }
 
-// Reads once, and answers how many bytes it gave, 0 at the input's end. A read that failed is told, and gives none.
+// Reads once, and answers how many bytes it gave, 0 at the input's end or where the chunk is empty. A read that failed is told, and gives none.
 pub fn read<R: Read>(from: &mut R, chunk: &mut [u8], to: Streams, what: &[u8]) -> Option<usize>
     ensures within { IfSome result (λ n. n ≤ length chunk.new) }
     ensures bytes { IfSome result (λ n. Consumes (R.remaining from.old) (R.remaining from.new) (take n chunk.new)) }
@@ -51,8 +51,8 @@ pub fn read<R: Read>(from: &mut R, chunk: &mut [u8], to: Streams, what: &[u8]) -
     }
 }
 
-// All that the reader has, chunk after chunk: each goes to the step with what the chunks before it left. Gives what the last one left, once the
-// reader has come to its end, or none where a read failed, which is told, or where the step left nothing. A proved loop has to end, and nothing
+// All that the reader has, chunk after chunk: each goes to the step with what the chunks before it left. Gives what the last one left, once a
+// read gave nothing, which is the reader's end where the chunk has room, or none where a read failed, which is told, or where the step left nothing. A proved loop has to end, and nothing
 // says that the input does: after 2^64 - 1 reads it gives none, and no run uses up so many.
 pub fn each_chunk<R: Read, T: Copy, F: FnMut(T, &[u8]) -> Option<T>>(
     from: &mut R,

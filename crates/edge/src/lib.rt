@@ -1,5 +1,6 @@
-// The edge of the programs: one read, one write, whether a word was given, and the line that tells why a read or a write failed. What
-// the bytes are that a read gives, and what becomes of those that are written, no contract can say. Nothing here allocates.
+// The edge of the programs: one read, one loop over all chunks, one write, whether a word was given, and the line that tells why a read or a
+// write failed. What a file or a pipe holds, and what becomes of bytes that are written, no contract can say; of a reader whose bytes are
+// known, `read` and `each_chunk` say which were had. Nothing here allocates.
 #![tactic(auto)]
 
 ghost use Rattle.std.specs.Prelude.{◌≡◌, ◌<◌, ◌≤◌, List, length, take, Some, IfSome};

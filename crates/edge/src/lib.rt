@@ -53,8 +53,8 @@ pub fn read<R: Read>(from: &mut R, chunk: &mut [u8], to: Streams, what: &[u8]) -
 }
 
 // All that the reader has, chunk after chunk: each goes to the step with what the chunks before it left. Gives what the last one left, once a
-// read gave nothing, which is the reader's end where the chunk has room, or none where a read failed, which is told, or where the step left nothing. A proved loop has to end, and nothing
-// says that the input does: after 2^64 - 1 reads it gives none, and no run uses up so many.
+// read gave nothing, which is the reader's end where the chunk has room. Gives none where a read failed, which is told, or where the step left
+// nothing. A proved loop has to end, and nothing says that the input does: after 2^64 - 1 reads it gives none too, and no run uses up so many.
 pub fn each_chunk<R: Read, T: Copy, F: FnMut(T, &[u8]) -> Option<T>>(
     from: &mut R,
     chunk: &mut [u8],

@@ -1,6 +1,6 @@
 -- The numbers that a token writes. Definitions only; they speak of unbounded numbers, and say where a token is refused.
 --   digit_of b            the worth of a byte as a digit, 0 to 15, small and large letters alike, if it is one
---   is_below base d       whether d is a digit of this base; a byte that is no digit counts as 16, above those of any base in use
+--   is_below base d       whether d is a digit of this base; a byte that is no digit counts as 16, which no base in use has
 --   only_digits base s    whether every byte of s is a digit of this base
 --   value base n s       the number written by n and then the digits s
 --   number_of base most s the number that s writes, if s is digits only, one or more, and the number is at most most
